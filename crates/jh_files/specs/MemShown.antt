@@ -1,0 +1,61 @@
+use Rattle.std.specs.Prelude.{ℕ, ◌≡◌, ◌==◌, ◌+◌, ◌-◌, ◌^◌, ◌||◌, true, min, List, [], length, Option, Some, Bool, false, is_none, Result, Ok, Err, String, Vec}
+use Rattle.std.specs.List.{list_any}
+use Rattle.std.specs.declared.alloc.Global.{Global}
+use Rattle.jh_files.specs.Held.{bytes_of, found}
+use Rattle.jh_files.specs.declared.fault.FileFault.{FileFault}
+use Rattle.jh_files.specs.declared.fault.FileFault.TheVariants.{Failed, TooLong, Memory}
+use Rattle.jh_files.specs.declared.mem.MemFiles.{MemFiles}
+use Rattle.jh_files.specs.declared.mem.MemSink.{MemSink}
+
+-- the number of the call after so many calls, which stays at the greatest number that it can be
+abbrev pub next_call : ℕ → ℕ
+next_call calls = min (calls + 1) (2 ^ 64 - 1)
+
+-- what files in memory hold under a name
+abbrev pub mem_holds : MemFiles → List ℕ → Option (List ℕ)
+mem_holds files name = Some (bytes_of files.held.items name)
+
+abbrev pub mem_faults : MemFiles → ℕ
+mem_faults files = files.failed
+
+-- the next call is to fail: its number is listed, or nothing is held under the name
+abbrev pub fails_get : MemFiles → List ℕ → Bool
+fails_get files name = list_any (λ n. n == next_call files.calls) files.failing.items || is_none (found files.held.items name)
+
+-- the answer says that the call failed
+abbrev pub is_failed : {X : Type 0} → Result X FileFault → Bool
+is_failed (Ok bytes) = false
+is_failed (Err Failed) = true
+is_failed (Err (TooLong seen)) = false
+is_failed (Err Memory) = false
+
+-- files as they are made
+pub record FilesStart (files : MemFiles) (entries : List (String Global × Vec ℕ Global)) (numbers : List ℕ) : Type 0 where
+  pub held : files.held.items ≡ entries
+  pub failing : files.failing.items ≡ numbers
+  pub calls : files.calls ≡ 0
+  pub failed : files.failed ≡ 0
+
+-- what a sink in memory has taken
+abbrev pub mem_written : MemSink → Option (List ℕ)
+mem_written sink = Some sink.written.items
+
+abbrev pub sink_faults : MemSink → ℕ
+sink_faults sink = sink.failed
+
+-- the next put is to fail: its number is listed, or the room is full
+abbrev pub fails_put : MemSink → Bool
+fails_put sink = list_any (λ n. n == next_call sink.calls) sink.failing.items || (sink.room - length sink.written.items) == 0
+
+-- how much a put that doesn't fail takes of a piece of so many bytes
+abbrev pub piece_len : MemSink → ℕ → ℕ
+piece_len sink len = min (min len sink.each) (sink.room - length sink.written.items)
+
+-- a sink as it is made
+pub record SinkStarts (most piece : ℕ) (numbers : List ℕ) (sink : MemSink) : Type 0 where
+  pub written : mem_written sink ≡ Some []
+  pub room : sink.room ≡ most
+  pub each : sink.each ≡ piece
+  pub failing : sink.failing.items ≡ numbers
+  pub calls : sink.calls ≡ 0
+  pub failed : sink.failed ≡ 0
