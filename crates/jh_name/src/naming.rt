@@ -12,6 +12,8 @@ pub struct Name {
 }
 
 impl Name {
+    ghost use Rattle.jh_name.specs.Names.{same_name};
+
     /// The text, without the turn.
     pub fn text(&self) -> &str
         ensures { result.now ≡ self.now.text }
@@ -28,7 +30,8 @@ impl Name {
 
     /// Whether two names are one: where their texts and turns are.
     pub fn same(&self, other: &Name) -> bool
-        ensures { IsTrue result ↔ (self.now ≡ other.now) }
+        ensures equal { IsTrue result ↔ (self.now ≡ other.now) }
+        ensures test { result ≡ same_name self.now other.now }
     {
         self.turn == other.turn && self.text.text() == other.text.text()
     }
