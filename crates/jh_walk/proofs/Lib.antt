@@ -1,0 +1,6 @@
+pub mod MapSteps
+pub mod SizeSteps
+pub mod Identity
+pub mod Meanings
+pub mod PartLemmas
+pub mod Rows

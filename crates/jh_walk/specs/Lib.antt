@@ -1,0 +1,4 @@
+pub mod Mapped
+pub mod Sizes
+pub mod Parts
+pub mod Kept
