@@ -1,0 +1,819 @@
+#!/usr/bin/env python3
+"""Writes the comparison of two trees: the relation, the test, and their proofs."""
+import sys
+sys.path.insert(0, __file__.rsplit('/', 1)[0])
+from forms import TYPES, ORDER, TREES, core, is_part, boxed, names, apply, call, tree_type, tree_of, fn_of, LETTER
+
+WRAP = {'T': 'of_object', 'I': 'of_number', 'S': 'of_set', 'F': 'of_field', 'P': 'of_truth'}
+EQUAL = {'u': 'nat_eq', 'n': 'name_equal', 'z': 'int_eq', 'k': 'mark_equal'}
+REL = {'T': 'TermsRelated', 'I': 'IntsRelated', 'S': 'SetsRelated', 'F': 'FieldsRelated', 'V': 'ValuesRelated', 'P': 'FormulasRelated', 'L': 'ListsRelated'}
+
+
+def others(ns):
+    return [n + "'" for n in ns]
+
+
+def related_specs():
+    out = [f"""-- One tree with some parts exchanged for others.
+use Rattle.std.specs.Prelude.{{ℕ, ℤ}}
+use Rattle.jh_name.specs.declared.naming.Name.{{Name}}
+use Rattle.jh_tree.specs.declared.mark.Mark.{{Mark}}
+use Rattle.jh_tree.specs.Tree.{{{TREES}}}
+use Rattle.jh_tree.specs.Tree as t
+
+-- The second tree is the first with some parts exchanged: a part for one that X allows in its place.
+-- Labels are compared.
+mutual"""]
+    for code in ORDER:
+        rust, tree, fn, variants = TYPES[code]
+        out.append(f"  pub data {REL[code]} (X : ValueTree → ValueTree → Type 0) : {tree} → {tree} → Type 0 where")
+        if code != 'V':
+            out.append(f"    {fn}_here : (a b : {tree}) → X (t.{WRAP[code]} a) (t.{WRAP[code]} b) → {REL[code]} X a b")
+        for variant, ctor, kinds in variants:
+            ns = names(kinds)
+            ms = [n + "'" if is_part(k) else n for k, n in zip(kinds, ns)]
+            sig = ''.join(f"({n}{' ' + m if m != n else ''} : {tree_of(k)}) " for k, n, m in zip(kinds, ns, ms))
+            prem = ''.join(f"{REL[core(k)]} X {n} {m} → " for k, n, m in zip(kinds, ns, ms) if is_part(k))
+            out.append(f"    {ctor} : {sig + '→ ' if sig else ''}{prem}{REL[code]} X {apply('t.' + ctor, ns)} {apply('t.' + ctor, ms)}")
+        out.append('')
+    out.append(f"""  pub data ListsRelated (X : ValueTree → ValueTree → Type 0) : FieldTrees → FieldTrees → Type 0 where
+    none : ListsRelated X t.none t.none
+    more : (f f' : FieldTree) (fs fs' : FieldTrees) → FieldsRelated X f f' → ListsRelated X fs fs' → ListsRelated X (t.more f fs) (t.more f' fs')
+""")
+    return '\n'.join(out)
+
+
+def with_sig(kinds):
+    return ' → '.join([tree_of(k) for k in kinds] + ['Bool'])
+
+
+def all_ctors():
+    for code in ORDER:
+        for variant, ctor, kinds in TYPES[code][3]:
+            yield code, variant, ctor, kinds, names(kinds)
+    yield 'L', None, 'none', [], []
+    yield 'L', None, 'more', ['F.', 'L'], ['f', 'fs']
+
+
+def part_test(kinds, ns):
+    ms = others(ns)
+    tests = [f"related_{fn_of(core(k))} {n} p {m}" if is_part(k) else f"{EQUAL[core(k)]} {n} {m}" for k, n, m in zip(kinds, ns, ms)]
+    return tests, ms
+
+
+def test_case(code, ctor, kinds, ns):
+    tests, ms = part_test(kinds, ns)
+    if not kinds:
+        rest = f"{ctor}_with s"
+    else:
+        rest = f"{ctor}_with (λ {' '.join(ms)}. {' && '.join(tests)}) s"
+    if code in ('V', 'L'):
+        return rest
+    return f"p (t.{WRAP[code]} {apply('t.' + ctor, ns)}) (t.{WRAP[code]} s) || {rest}"
+
+
+def tests_specs():
+    out = [f"""-- The test of whether a tree is another with some parts exchanged, as the code asks it.
+use Rattle.std.specs.Prelude.{{ℕ, ℤ, Bool, true, false, ◌&&◌, ◌||◌, nat_eq}}
+use Rattle.std.specs.Ordering.{{int_eq}}
+use Rattle.jh_name.specs.declared.naming.Name.{{Name}}
+use Rattle.jh_tree.specs.declared.mark.Mark.{{Mark}}
+use Rattle.jh_tree.specs.Tree.{{{TREES}}}
+use Rattle.jh_tree.specs.Tree as t
+use Rattle.jh_tree.specs.Passing.{{name_equal}}
+use Rattle.jh_form.specs.Marks.{{mark_equal}}
+
+-- a test of the parts of a tree of one form; a tree of another form doesn't pass"""]
+    for code, variant, ctor, kinds, ns in all_ctors():
+        f = f"{ctor}_with"
+        if kinds:
+            out.append(f"unfoldable pub {f} : ({with_sig(kinds)}) → {tree_type(code)} → Bool")
+            out.append(f"{f} q {apply('t.' + ctor, ns)} = {call('q', ns)}")
+            if len(TYPES[code][3] if code != 'L' else [1, 2]) > 1:
+                out.append(f"{f} q _ = false")
+        else:
+            out.append(f"unfoldable pub {f} : {tree_type(code)} → Bool")
+            out.append(f"{f} t.{ctor} = true")
+            out.append(f"{f} _ = false")
+        out.append('')
+    out.append("unfoldable mutual")
+    for code in ORDER + 'L':
+        f = f"related_{fn_of(code)}"
+        out.append(f"  pub {f} : {tree_type(code)} → (ValueTree → ValueTree → Bool) → {tree_type(code)} → Bool")
+        for c, variant, ctor, kinds, ns in all_ctors():
+            if c == code:
+                out.append(f"  {f} {apply('t.' + ctor, ns)} p s = {test_case(code, ctor, kinds, ns)}")
+        out.append('')
+    return '\n'.join(out)
+
+
+HEAD = f"""use Rattle.std.specs.Ordering.{{int_eq}}
+use Rattle.jh_name.specs.declared.naming.Name.{{Name}}
+use Rattle.jh_tree.specs.declared.mark.Mark.{{Mark}}
+use Rattle.jh_tree.specs.Tree.{{{TREES}}}
+use Rattle.jh_tree.specs.Tree as t
+use Rattle.jh_tree.specs.Passing.{{name_equal}}
+use Rattle.jh_form.specs.Marks.{{mark_equal}}
+"""
+
+
+def with_names():
+    return ', '.join(f"{ctor}_with" for _, _, ctor, _, _ in all_ctors())
+
+
+def related_names():
+    return ', '.join(f"related_{fn_of(c)}" for c in ORDER + 'L')
+
+
+def steps_file():
+    """Equations of the test at each constructor and of each `with` at its own form and at others of the program."""
+    out = [f"""-- The test at each constructor, and a form's test at the program's values.
+use Rattle.std.proofs.Common.{{◌≡◌, refl, sym, ap, ◌∙◌, ℕ, ℤ, Bool, true, false, ◌&&◌, ◌||◌, nat_eq, List}}
+{HEAD}{chr(10).join(f"use Rattle.jh_tree.specs.declared.form.{TYPES[c][0]}.{{{TYPES[c][0]}}}" for c in ORDER)}
+{chr(10).join(f"use Rattle.jh_tree.specs.declared.form.{TYPES[c][0]}.TheVariants as {LETTER[c]}" for c in ORDER)}
+use Rattle.jh_tree.specs.declared.form.Formula.{{roll-out-Formula, roll-Formula}}
+use Rattle.jh_tree.specs.declared.form.FieldTerm.TheViews.{{outs-Reach', rolls-Reach, outs-Tree', rolls-Tree}}
+use Rattle.jh_tree.specs.declared.form.FieldTerm.TheBlock.{{shown-the_row-FieldTerm-0}}
+use Rattle.std.specs.declared.boxed.Box.{{Box}}
+use Rattle.std.specs.declared.alloc.Global.{{Global}}
+use Rattle.jh_tree.specs.Bare.{{{', '.join(TYPES[c][2] + '_tree' for c in ORDER)}}}
+use Rattle.jh_form.specs.Compared.{{{with_names()}, {related_names()}}}
+"""]
+    rules = []
+    for code, variant, ctor, kinds, ns in all_ctors():
+        f = f"related_{fn_of(code)}"
+        lemma = f"{f}-{ctor}"
+        rules.append(lemma)
+        sig = ''.join(f"({n} : {tree_of(k)}) " for k, n in zip(kinds, ns))
+        out.append(f"pub {lemma} : {sig}(p : ValueTree → ValueTree → Bool) (s : {tree_type(code)}) → {f} {apply('t.' + ctor, ns)} p s ≡ ({test_case(code, ctor, kinds, ns)})")
+        out.append(f"unfolding {f}")
+        out.append(f"{call(lemma, ns)} p s = refl\n")
+        lemma = f"{ctor}_with-here"
+        rules.append(lemma)
+        q = f"(q : {with_sig(kinds)}) " if kinds else ''
+        arrow = (q + sig).strip()
+        out.append(f"pub {lemma} : {arrow + ' → ' if arrow else ''}{ctor}_with {'q ' if kinds else ''}{apply('t.' + ctor, ns)} ≡ {call('q', ns) if kinds else 'true'}")
+        out.append(f"unfolding {ctor}_with")
+        out.append(f"{call(lemma, (['q'] if kinds else []) + ns)} = refl\n")
+    out.append(f"pub ruleset here_steps = ({', '.join(r for r in rules if '_with-here' in r)})\n\npub ruleset compare_steps = ({', '.join(r for r in rules if '_with-here' not in r)})\n")
+    # other forms of the program's values
+    rules = []
+    for code, variant, ctor, kinds, ns in all_ctors():
+        if code == 'L' or len(TYPES[code][3]) == 1:
+            continue
+        rust, tree, fn, variants = TYPES[code]
+        lemma = f"{ctor}_with-else"
+        rules.append(lemma)
+        types, args = [], []
+        for k, n in zip(kinds, ns):
+            c = core(k)
+            if c == 'L':
+                types.append(f"({n} : List FieldTerm)")
+            elif boxed(k):
+                types.append(f"({n} : Box {TYPES[c][0]} Global)")
+            elif is_part(k):
+                types.append(f"({n} : {TYPES[c][0]})")
+            else:
+                types.append(f"({n} : {tree_of(k)})")
+        arrow = (' '.join(types) + ' → ') if types else ''
+        q = f"(q : {with_sig(kinds)}) " if kinds else ''
+        out.append(f"pub {lemma} : {q}(r : {rust}) → ({arrow}r ≡ {apply(LETTER[code] + '.' + variant, ns)} → ⊥) → {ctor}_with {'q ' if kinds else ''}({fn}_tree r) ≡ false")
+        out.append(f"unfolding {ctor}_with {fn}_tree")
+        for v2, c2, k2 in variants:
+            primed = any(boxed(k) or core(k) == 'L' for k in k2)
+            words, pointers, rebuilt = [], iter('ijl'), []
+            for k, n in zip(k2, names(k2)):
+                c = core(k)
+                if c == 'L':
+                    words += ['shape', n]
+                elif boxed(k):
+                    ptr = next(pointers)
+                    words += [ptr, n]
+                    rebuilt.append(f"record {{ ptr = {ptr}.ptr; alloc = {ptr}.alloc; value = {n} }}")
+                else:
+                    words.append(n)
+                    rebuilt.append(n)
+            pat = apply(f"{LETTER[code]}.{v2}" + ("'" if primed else ''), words)
+            if v2 == variant:
+                if any(core(k) == 'L' for k in k2):
+                    rest = [n for k, n in zip(k2, names(k2)) if core(k) != 'L']
+                    row = '(shown-the_row-FieldTerm-0 shape fs)'
+                    whole = call(f"{LETTER[code]}.{v2}'", ['shape', 'fs'] + rest)
+                    out.append(f"{lemma} {'q ' if kinds else ''}{pat} n = absurd (n {' '.join([row] + rest)} (sym (roll-out-Formula ({whole})) ∙ ap roll-Formula (outs-{v2}' {' '.join(['shape', 'fs'] + rest)}) ∙ rolls-{v2} {' '.join([row] + rest)}))")
+                else:
+                    out.append(f"{lemma} {'q ' if kinds else ''}{pat} n = absurd (n {' '.join('(' + r + ')' if ' ' in r else r for r in rebuilt)} refl)" if rebuilt else f"{lemma} {'q ' if kinds else ''}{pat} n = absurd (n refl)")
+            else:
+                out.append(f"{lemma} {'q ' if kinds else ''}{pat} n = refl")
+        out.append('')
+    out.append(f"pub ruleset other_steps = ({', '.join(rules)})")
+    return '\n'.join(out) + '\n'
+
+
+def decides_file():
+    """The test decides the relation where its rule decides what may be exchanged."""
+    out = [f"""-- The test decides the relation.
+use Rattle.std.proofs.Common.{{◌≡◌, refl, sym, ap, ◌∙◌, subst, ℕ, ℤ, Bool, true, false, ◌&&◌, ◌||◌, nat_eq}}
+use Rattle.std.proofs.lemmas.Bool.{{true≢false, eqb-true, eq-eqb}}
+use Rattle.jh_tree.proofs.ClosedLemmas.{{both-left, both-right}}
+use Rattle.jh_tree.proofs.Names.{{name_equal-same, name_equal-true}}
+use Rattle.jh_form.proofs.MarkLemmas.{{mark_equal-same, mark_equal-true, int_eq-same, int_eq-true}}
+{HEAD}use Rattle.jh_form.specs.Compared.{{{with_names()}, {related_names()}}}
+use Rattle.jh_form.specs.Related.{{{', '.join(REL[c] for c in ORDER + 'L')}}}
+use Rattle.jh_form.specs.Related as r
+
+-- a passed test is of a tree of that form"""]
+    for code, variant, ctor, kinds, ns in all_ctors():
+        tree = tree_type(code)
+        lone = code != 'L' and len(TYPES[code][3]) == 1
+        if kinds:
+            sig = ' '.join(f"({n} : {tree_of(k)})" for k, n in zip(kinds, ns))
+            out.append(f"pub {ctor}_with-inv : (q : {with_sig(kinds)}) (P : {tree} → Type 0) → ({sig} → {call('q', ns)} ≡ true → P {apply('t.' + ctor, ns)}) → (s : {tree}) → {ctor}_with q s ≡ true → P s")
+            out.append(f"unfolding {ctor}_with")
+            out.append(f"{ctor}_with-inv q P go {apply('t.' + ctor, ns)} h = go {' '.join(ns)} h")
+            if not lone:
+                out.append(f"{ctor}_with-inv q P go _ h = absurd (true≢false (sym h))")
+        else:
+            out.append(f"pub {ctor}_with-inv : (P : {tree} → Type 0) → P t.{ctor} → (s : {tree}) → {ctor}_with s ≡ true → P s")
+            out.append(f"unfolding {ctor}_with")
+            out.append(f"{ctor}_with-inv P go t.{ctor} h = go")
+            out.append(f"{ctor}_with-inv P go _ h = absurd (true≢false (sym h))")
+        out.append('')
+    out.append("""either : (a b : Bool) (P : Type 0) → (a ≡ true → P) → (b ≡ true → P) → (a || b) ≡ true → P
+either true b P f g h = f refl
+either false b P f g h = g h
+
+pub or-left : (a b : Bool) → a ≡ true → (a || b) ≡ true
+or-left a b h = ap (λ c. c || b) h
+
+pub or-right : (a b : Bool) → b ≡ true → (a || b) ≡ true
+or-right true b h = refl
+or-right false b h = h
+
+pub both : (a b : Bool) → a ≡ true → b ≡ true → (a && b) ≡ true
+both true b h k = k
+both false b h k = h
+
+module _ (p : ValueTree → ValueTree → Bool) (X : ValueTree → ValueTree → Type 0) (sound : (u v : ValueTree) → p u v ≡ true → X u v) where
+  mutual
+    unfolding """ + related_names().replace(',', ''))
+    for code in ORDER + 'L':
+        f = f"{fn_of(code)}-related"
+        out.append(f"    pub {f} : (a s : {tree_type(code)}) → related_{fn_of(code)} a p s ≡ true → {REL[code]} X a s")
+        for c, variant, ctor, kinds, ns in all_ctors():
+            if c != code:
+                continue
+            tests, ms = part_test(kinds, ns)
+            whole = apply('t.' + ctor, ns)
+            # the hypotheses on the parts from one on their conjunction
+            hyps, hyp, left = [], 'e', list(tests)
+            while len(left) > 1:
+                last = left.pop()
+                joined = ' && '.join(left)
+                hyps.insert(0, f"(both-right ({joined}) ({last}) {hyp})")
+                hyp = f"(both-left ({joined}) ({last}) {hyp})"
+            hyps.insert(0, hyp)
+            if not kinds:
+                inner = f"{ctor}_with-inv (λ s. {REL[code]} X {whole} s) r.{ctor} s h2"
+            else:
+                prems, eqs = [], []
+                for k, n, m, hy in zip(kinds, ns, ms, hyps):
+                    if is_part(k):
+                        prems.append(f"({fn_of(core(k))}-related {n} {m} {hy})")
+                    else:
+                        eqs.append((k, n, m, hy))
+                rarg = []
+                for k, n, m in zip(kinds, ns, ms):
+                    rarg += [n, m] if is_part(k) else [n]
+                ctor_term = call(f"r.{ctor}", rarg + prems)
+                if eqs:
+                    k, n, m, hy = eqs[0]
+                    fact = {'u': f"eqb-true {n} {m} {hy}", 'n': f"name_equal-true {n} {m} {hy}", 'z': f"int_eq-true {n} {m} {hy}", 'k': f"mark_equal-true {n} {m} {hy}"}[core(k)]
+                    target = apply('t.' + ctor, ['z0' if not is_part(kk) else mm for kk, mm in zip(kinds, ms)])
+                    ctor_term = f"subst (λ (z0 : {tree_of(k)}). {REL[code]} X {whole} {target}) ({fact}) ({ctor_term})"
+                inner = f"{ctor}_with-inv (λ {' '.join(ms)}. {' && '.join(tests)}) (λ s. {REL[code]} X {whole} s) (λ {' '.join(ms)} e. {ctor_term}) s h2"
+            if code in ('V', 'L'):
+                out.append(f"    {f} {whole} s h2 = {inner}")
+            else:
+                rest = f"{ctor}_with s" if not kinds else f"{ctor}_with (λ {' '.join(ms)}. {' && '.join(tests)}) s"
+                out.append(f"    {f} {whole} s h = either (p (t.{WRAP[code]} {whole}) (t.{WRAP[code]} s)) ({rest}) ({REL[code]} X {whole} s) (λ e. r.{fn_of(code)}_here {whole} s (sound (t.{WRAP[code]} {whole}) (t.{WRAP[code]} s) e)) (λ h2. {inner}) h")
+        out.append('')
+    out.append("""module _ (p : ValueTree → ValueTree → Bool) (X : ValueTree → ValueTree → Type 0) (complete : (u v : ValueTree) → X u v → p u v ≡ true) where
+  here_lemma : (u v : ValueTree) (b : Bool) → X u v → (p u v || b) ≡ true
+  here_lemma u v b x = or-left (p u v) b (complete u v x)
+""")
+    # a node that is exchanged passes whatever it is: by cases, since the test computes at a constructor alone
+    for code in ORDER:
+        if code == 'V':
+            continue
+        fn = fn_of(code)
+        out.append(f"  pub {fn}_here-passes : (a s : {tree_type(code)}) → X (t.{WRAP[code]} a) (t.{WRAP[code]} s) → related_{fn} a p s ≡ true")
+        out.append(f"  unfolding related_{fn}")
+        for c, variant, ctor, kinds, ns in all_ctors():
+            if c != code:
+                continue
+            tests, ms = part_test(kinds, ns)
+            rest = f"{ctor}_with s" if not kinds else f"{ctor}_with (λ {' '.join(ms)}. {' && '.join(tests)}) s"
+            whole = apply('t.' + ctor, ns)
+            out.append(f"  {fn}_here-passes {whole} s here = here_lemma (t.{WRAP[code]} {whole}) (t.{WRAP[code]} s) ({rest}) here")
+        out.append('')
+    out.append("  mutual\n    unfolding " + related_names().replace(',', '') + ' ' + ' '.join(f"{ctor}_with" for _, _, ctor, _, _ in all_ctors()))
+    for code in ORDER + 'L':
+        f = f"{fn_of(code)}-passes"
+        out.append(f"    pub {f} : (a s : {tree_type(code)}) → {REL[code]} X a s → related_{fn_of(code)} a p s ≡ true")
+        if code not in ('V', 'L'):
+            out.append(f"    {f} _ _ (r.{fn_of(code)}_here a s x) = {fn_of(code)}_here-passes a s x")
+        for c, variant, ctor, kinds, ns in all_ctors():
+            if c != code:
+                continue
+            ms = [n + "'" if is_part(k) else n for k, n in zip(kinds, ns)]
+            args, prems, facts, tests = [], [], [], []
+            for idx, (k, n, m) in enumerate(zip(kinds, ns, ms)):
+                if is_part(k):
+                    args += [n, m]
+                    prems.append(f"h{idx}")
+                    facts.append(f"({fn_of(core(k))}-passes {n} {m} h{idx})")
+                    tests.append(f"related_{fn_of(core(k))} {n} p {m}")
+                else:
+                    args.append(n)
+                    facts.append({'u': f"(eq-eqb {n} {n} refl)", 'n': f"(name_equal-same {n} {n} refl)", 'z': f"(int_eq-same {n})", 'k': f"(mark_equal-same {n} {n} refl)"}[core(k)])
+                    tests.append(f"{EQUAL[core(k)]} {n} {n}")
+            if not kinds:
+                proof = 'refl'
+                rest = 'true'
+            else:
+                proof, joined = facts[0], tests[0]
+                for fa, te in zip(facts[1:], tests[1:]):
+                    proof = f"(both ({joined}) ({te}) {proof} {fa})"
+                    joined = f"{joined} && {te}"
+                rest = joined
+            pat = apply(f"r.{ctor}", args + prems)
+            if code in ('V', 'L'):
+                out.append(f"    {f} _ _ {pat} = {proof}")
+            else:
+                one = f"t.{WRAP[code]} {apply('t.' + ctor, ns)}"
+                two = f"t.{WRAP[code]} {apply('t.' + ctor, ms)}"
+                out.append(f"    {f} _ _ {pat} = or-right (p ({one}) ({two})) ({rest}) {proof}")
+        out.append('')
+    # equality
+    out.append("-- nothing may be exchanged\nabbrev pub never : ValueTree → ValueTree → Type 0\nnever u v = ⊥\n\nmutual")
+    for code in ORDER + 'L':
+        f = f"{fn_of(code)}-equal"
+        out.append(f"  pub {f} : (a s : {tree_type(code)}) → {REL[code]} never a s → a ≡ s")
+        if code not in ('V', 'L'):
+            out.append(f"  {f} _ _ (r.{fn_of(code)}_here a s x) = absurd x")
+        for c, variant, ctor, kinds, ns in all_ctors():
+            if c != code:
+                continue
+            ms = [n + "'" if is_part(k) else n for k, n in zip(kinds, ns)]
+            args, prems, words = [], [], []
+            for idx, (k, n, m) in enumerate(zip(kinds, ns, ms)):
+                if is_part(k):
+                    args += [n, m]
+                    prems.append(f"h{idx}")
+                    words.append(f"({fn_of(core(k))}-equal {n} {m} h{idx} i)")
+                else:
+                    args.append(n)
+                    words.append(n)
+            pat = apply(f"r.{ctor}", args + prems)
+            out.append(f"  {f} _ _ {pat} = " + (f"λ i. {call('t.' + ctor, words)}" if prems else 'refl'))
+        out.append('')
+    out.append("module _ (X : ValueTree → ValueTree → Type 0) where\n  mutual")
+    for code in ORDER + 'L':
+        f = f"{fn_of(code)}-itself"
+        out.append(f"    pub {f} : (a : {tree_type(code)}) → {REL[code]} X a a")
+        for c, variant, ctor, kinds, ns in all_ctors():
+            if c != code:
+                continue
+            args, prems = [], []
+            for k, n in zip(kinds, ns):
+                if is_part(k):
+                    args += [n, n]
+                    prems.append(f"({fn_of(core(k))}-itself {n})")
+                else:
+                    args.append(n)
+            out.append(f"    {f} {apply('t.' + ctor, ns)} = {call('r.' + ctor, args + prems)}")
+        out.append('')
+    return '\n'.join(out)
+
+
+PARAM = {'T': 'term', 'I': 'int', 'S': 'set', 'F': 'field', 'V': 'value', 'P': 'formula', 'L': 'fields'}
+ASK = {'T': 'terms', 'I': 'ints', 'S': 'sets', 'F': 'fields', 'P': 'formulas'}
+RUSTEQ = {'u': '*{} == *{}', 'n': 'names_are_one({}, {})', 'z': 'numbers_are_one({}, {})', 'k': 'marks_are_one({}, {})'}
+
+
+def compare_arm(code, variant, ctor, kinds):
+    rust = TYPES[code][0]
+    nice = {'x': 'name', 'z': 'number', 'fs': 'fields'}
+    ns = []
+    for k, n in zip(kinds, names(kinds)):
+        ns.append('number' if core(k) == 'u' else 'mark' if core(k) == 'k' else nice.get(n, n))
+    ms = ['other_' + n for n in ns]
+    pat = f"{rust}::{variant}" + (f"({', '.join(ns)})" if ns else '')
+    opat = f"{rust}::{variant}" + (f"({', '.join(ms)})" if ms else '')
+    tests = []
+    for k, n, m in zip(kinds, ns, ms):
+        c = core(k)
+        if c == 'L':
+            tests.append(f"related_fields({n}.items(), {m}.items(), exchange)")
+        elif is_part(k):
+            tests.append(f"related_{fn_of(c)}({n}, {m}, exchange)")
+        else:
+            tests.append(RUSTEQ[c].format(n, m))
+    good = ' && '.join(tests) if tests else 'true'
+    return f"        {pat} => match right {{\n            {opat} => {good},\n            _ => false,\n        }},\n"
+
+
+def comparing():
+    out = ["""#![tactic(auto, using(jh_tree::proofs::Steps::tree_steps, crate::proofs::CompareSteps::here_steps, crate::proofs::CompareSteps::compare_steps, crate::proofs::CompareSteps::other_steps))]
+
+ghost use Rattle.std.specs.Prelude.{◌≡◌};
+ghost use Rattle.jh_tree.specs.Bare.{term_tree, int_tree, set_tree, field_tree, value_tree, formula_tree, list_tree};
+ghost use Rattle.jh_form.specs.Compared.{related_term, related_int, related_set, related_field, related_value, related_formula, related_fields};
+
+use crate::exchange::Exchange;
+use crate::marks::marks_are_one;
+use crate::sorts::{names_are_one, numbers_are_one};
+use jh_tree::{FieldTerm, Formula, IntTerm, SetTerm, Term, Value};
+"""]
+    for code in ORDER:
+        rust, tree, fn, variants = TYPES[code]
+        first = '' if code == 'V' else f"    if exchange.{ASK[code]}(left, right) {{\n        return true;\n    }}\n"
+        out.append(f"""
+#[cycle(related)]
+pub fn related_{fn}<E: Exchange>(left: &{rust}, right: &{rust}, exchange: &E) -> bool
+    ensures {{ result ≡ related_{fn} ({fn}_tree left.now) (E.pairs exchange.now) ({fn}_tree right.now) }}
+{{
+{first}    match left {{
+""" + ''.join(compare_arm(code, v, ctor, kinds) for v, ctor, kinds in variants) + "    }\n}\n")
+    out.append("""
+#[cycle(related)]
+pub fn related_fields<E: Exchange>(left: &[FieldTerm], right: &[FieldTerm], exchange: &E) -> bool
+    ensures { result ≡ related_fields (list_tree left.now) (E.pairs exchange.now) (list_tree right.now) }
+{
+    if left.len() != right.len() {
+        return false;
+    }
+    for place in 0..left.len() {
+        if !related_field(&left[place], &right[place], exchange) {
+            return false;
+        }
+    }
+    true
+}
+""")
+    return ''.join(out)
+
+
+UNM = {'L': 'fields'}
+
+
+def unm(c):
+    return f"unmarked_{fn_of(c)}"
+
+
+def same_of(c):
+    return 'same_past' if c == 'P' else f"same_{fn_of(c)}"
+
+
+def same_at(c, n, m):
+    """The test of a part: labels around a formula on the right are passed first."""
+    return f"same_past {n} (past {m})" if c == 'P' else f"{same_of(c)} {n} {m}"
+
+
+def unmarked_file():
+    out = [f"""-- Trees without labels.
+use Rattle.jh_tree.specs.Tree.{{{TREES}}}
+use Rattle.jh_tree.specs.Tree as t
+
+-- the tree with the label of each part taken off
+unfoldable mutual"""]
+    for code in ORDER + 'L':
+        f = unm(code)
+        out.append(f"  pub {f} : {tree_type(code)} → {tree_type(code)}")
+        for c, variant, ctor, kinds, ns in all_ctors():
+            if c != code:
+                continue
+            if ctor == 'mark':
+                out.append(f"  {f} (t.mark k a) = {f} a")
+            else:
+                out.append(f"  {f} {apply('t.' + ctor, ns)} = {call('t.' + ctor, [f'({unm(core(k))} {n})' if is_part(k) else n for k, n in zip(kinds, ns)])}")
+        out.append('')
+    return '\n'.join(out)
+
+
+def same_case(code, ctor, kinds, ns):
+    if ctor == 'mark':
+        return 'same_past a s'
+    ms = others(ns)
+    tests = [same_at(core(k), n, m) if is_part(k) else f"{EQUAL[core(k)]} {n} {m}" for k, n, m in zip(kinds, ns, ms)]
+    target = 's'
+    if not kinds:
+        return f"{ctor}_with {target}"
+    return f"{ctor}_with (λ {' '.join(ms)}. {' && '.join(tests)}) {target}"
+
+
+def same_specs():
+    out = [f"""-- The test of whether two trees are the same without their labels, as the code asks it.
+use Rattle.std.specs.Prelude.{{Bool, ◌&&◌, nat_eq}}
+use Rattle.std.specs.Ordering.{{int_eq}}
+use Rattle.jh_tree.specs.Tree.{{{TREES}}}
+use Rattle.jh_tree.specs.Tree as t
+use Rattle.jh_tree.specs.Passing.{{name_equal}}
+use Rattle.jh_form.specs.Compared.{{{', '.join(f"{ctor}_with" for _, _, ctor, _, _ in all_ctors() if ctor != 'mark')}}}
+
+-- the formula under the labels that stand around it
+unfoldable pub past : FormulaTree → FormulaTree
+past (t.mark k a) = past a
+past a = a
+
+-- where both are formulas, no label stands around the second
+unfoldable mutual"""]
+    for code in ORDER + 'L':
+        f = same_of(code)
+        out.append(f"  pub {f} : {tree_type(code)} → {tree_type(code)} → Bool")
+        for c, variant, ctor, kinds, ns in all_ctors():
+            if c == code:
+                out.append(f"  {f} {apply('t.' + ctor, ns)} s = {same_case(code, ctor, kinds, ns)}")
+        out.append('')
+    return '\n'.join(out)
+
+
+def same_steps():
+    out = [f"""-- The test without labels at each constructor, and what it decides.
+use Rattle.std.proofs.Common.{{◌≡◌, refl, sym, ap, ◌∙◌, ℕ, ℤ, Bool, true, false, ◌&&◌, nat_eq}}
+{HEAD}use Rattle.jh_tree.specs.declared.form.Formula.{{Formula}}
+use Rattle.jh_tree.specs.declared.form.Formula.TheVariants as formula
+use Rattle.std.specs.declared.boxed.Box.{{Box}}
+use Rattle.std.specs.declared.alloc.Global.{{Global}}
+use Rattle.jh_tree.specs.Bare.{{formula_tree}}
+use Rattle.jh_form.specs.Compared.{{{with_names()}, {related_names()}}}
+use Rattle.jh_form.specs.Exchanged.{{nothing}}
+use Rattle.jh_form.specs.Unmarked.{{{', '.join(unm(c) for c in ORDER + 'L')}}}
+use Rattle.jh_form.specs.Sameness.{{past, {', '.join(same_of(c) for c in ORDER + 'L')}}}
+"""]
+    rules = []
+    for code, variant, ctor, kinds, ns in all_ctors():
+        f = same_of(code)
+        lemma = f"{f}-{ctor}"
+        rules.append(lemma)
+        sig = ''.join(f"({n} : {tree_of(k)}) " for k, n in zip(kinds, ns))
+        out.append(f"pub {lemma} : {sig}(s : {tree_type(code)}) → {f} {apply('t.' + ctor, ns)} s ≡ {same_case(code, ctor, kinds, ns)}")
+        out.append(f"unfolding {f}")
+        out.append(f"{call(lemma, ns)} s = refl\n")
+    out.append("""pub past-mark : (k : Mark) (a : FormulaTree) → past (t.mark k a) ≡ past a
+unfolding past
+past-mark k a = refl
+
+pub past-else : (r : Formula) → ((k : Mark) (a : Box Formula Global) → r ≡ formula.Mark k a → ⊥) → past (formula_tree r) ≡ formula_tree r
+unfolding past formula_tree""")
+    for v2, c2, k2 in TYPES['P'][3]:
+        primed = any(boxed(k) or core(k) == 'L' for k in k2)
+        words, pointers = [], iter('ijl')
+        for k, n in zip(k2, names(k2)):
+            if core(k) == 'L':
+                words += ['shape', n]
+            elif boxed(k):
+                words += [next(pointers), n]
+            else:
+                words.append(n)
+        pat = apply(f"formula.{v2}" + ("'" if primed else ''), words)
+        if c2 == 'mark':
+            out.append(f"past-else {pat} n = absurd (n k (record {{ ptr = i.ptr; alloc = i.alloc; value = a }}) refl)")
+        else:
+            out.append(f"past-else {pat} n = refl")
+    out.append(f"\npub ruleset same_steps = ({', '.join(rules)}, past-mark, past-else)\n")
+    # with at the unmarked tree
+    for code, variant, ctor, kinds, ns in all_ctors():
+        if ctor == 'mark':
+            continue
+        lone = code != 'L' and len(TYPES[code][3]) == 1
+        target = '(past s)' if code == 'P' else 's'
+        un = unm(code)
+        f = f"{ctor}_with"
+        lemma = f"{f}-unmarked"
+        if kinds:
+            sig = ' '.join(f"({n} : {tree_of(k)})" for k, n in zip(kinds, ns))
+            right = call("r", [f"({unm(core(k))} {n})" if is_part(k) else n for k, n in zip(kinds, ns)])
+            out.append(f"{lemma} : (q r : {with_sig(kinds)}) → ({sig} → {call('q', ns)} ≡ {right}) → (s : {tree_type(code)}) → {f} q {target} ≡ {f} r ({un} s)")
+            out.append(f"unfolding {f} {un} past")
+            if code == 'P':
+                out.append(f"{lemma} q r h (t.mark k s) = {lemma} q r h s")
+            out.append(f"{lemma} q r h {apply('t.' + ctor, ns)} = h {' '.join(ns)}")
+            for c2, v2, ct2, k2, n2 in all_ctors():
+                if c2 == code and ct2 not in (ctor, 'mark'):
+                    out.append(f"{lemma} q r h {apply('t.' + ct2, n2)} = refl")
+        else:
+            out.append(f"{lemma} : (s : {tree_type(code)}) → {f} {target} ≡ {f} ({un} s)")
+            out.append(f"unfolding {f} {un} past")
+            if code == 'P':
+                out.append(f"{lemma} (t.mark k s) = {lemma} s")
+            for c2, v2, ct2, k2, n2 in all_ctors():
+                if c2 == code and ct2 != 'mark':
+                    out.append(f"{lemma} {apply('t.' + ct2, n2)} = refl")
+        out.append('')
+    out.append("mutual\n  unfolding " + ' '.join([same_of(c) for c in ORDER + 'L'] + [f"related_{fn_of(c)}" for c in ORDER + 'L'] + [unm(c) for c in ORDER + 'L']))
+    for code in ORDER + 'L':
+        f = f"{same_of(code)}-related"
+        out.append(f"  pub {f} : (a s : {tree_type(code)}) → {same_at(code, 'a', 's')} ≡ related_{fn_of(code)} ({unm(code)} a) nothing ({unm(code)} s)")
+        for c, variant, ctor, kinds, ns in all_ctors():
+            if c != code:
+                continue
+            if ctor == 'mark':
+                out.append(f"  {f} (t.mark k a) s = {f} a s")
+                continue
+            ms = others(ns)
+            one = [same_at(core(k), n, m) if is_part(k) else f"{EQUAL[core(k)]} {n} {m}" for k, n, m in zip(kinds, ns, ms)]
+            two = [f"related_{fn_of(core(k))} ({unm(core(k))} {n}) nothing {m}" if is_part(k) else f"{EQUAL[core(k)]} {n} {m}" for k, n, m in zip(kinds, ns, ms)]
+            go = [f"{same_of(core(k))}-related {n} {m} i" if is_part(k) else f"{EQUAL[core(k)]} {n} {m}" for k, n, m in zip(kinds, ns, ms)]
+            lam = ' '.join(ms)
+            if kinds:
+                out.append(f"  {f} {apply('t.' + ctor, ns)} s = {ctor}_with-unmarked (λ {lam}. {' && '.join(one)}) (λ {lam}. {' && '.join(two)}) (λ {lam}. λ i. {' && '.join(go)}) s")
+            else:
+                out.append(f"  {f} t.{ctor} s = {ctor}_with-unmarked s")
+        out.append('')
+    return '\n'.join(out)
+
+
+def same_arm(code, variant, ctor, kinds):
+    rust = TYPES[code][0]
+    if ctor == 'mark':
+        return f"        {rust}::Mark(_, inner) => same_past(inner, right),\n"
+    nice = {'x': 'name', 'fs': 'fields'}
+    ns = ['number' if core(k) in 'uz' else nice.get(n, n) for k, n in zip(kinds, names(kinds))]
+    ms = ['other_' + n for n in ns]
+    pat = f"{rust}::{variant}" + (f"({', '.join(ns)})" if ns else '')
+    opat = f"{rust}::{variant}" + (f"({', '.join(ms)})" if ms else '')
+    tests = []
+    for k, n, m in zip(kinds, ns, ms):
+        c = core(k)
+        if c == 'L':
+            tests.append(f"same_fields({n}.items(), {m}.items())")
+        elif is_part(k):
+            tests.append(f"same_{fn_of(c)}({n}, {m})")
+        else:
+            tests.append(RUSTEQ[c].format(n, m))
+    good = ' && '.join(tests) if tests else 'true'
+    seen = 'right'
+    return f"        {pat} => match {seen} {{\n            {opat} => {good},\n            _ => false,\n        }},\n"
+
+
+def sameness():
+    out = ["""#![tactic(auto, using(jh_tree::proofs::Steps::tree_steps, crate::proofs::CompareSteps::here_steps, crate::proofs::CompareSteps::other_steps, crate::proofs::SameSteps::same_steps))]
+
+ghost use Rattle.std.specs.Prelude.{◌≡◌};
+ghost use Rattle.jh_tree.specs.Bare.{term_tree, int_tree, set_tree, field_tree, value_tree, formula_tree, list_tree};
+ghost use Rattle.jh_form.specs.Sameness.{past, same_term, same_int, same_set, same_field, same_value, same_past, same_fields};
+
+use crate::sorts::{names_are_one, numbers_are_one};
+use jh_tree::{FieldTerm, Formula, IntTerm, SetTerm, Term, Value};
+
+/// The formula under the labels that stand around it.
+fn past_marks(formula: &Formula) -> &Formula
+    ensures { formula_tree result.now ≡ past (formula_tree formula.now) }
+{
+    match formula {
+        Formula::Mark(_, inner) => past_marks(inner),
+        _ => formula,
+    }
+}
+"""]
+    for code in ORDER:
+        rust, tree, fn, variants = TYPES[code]
+        if code == 'P':
+            out.append("""
+/// Whether two formulas are the same without their labels.
+#[cycle(same)]
+pub fn same_formula(left: &Formula, right: &Formula) -> bool
+    ensures { result ≡ same_past (formula_tree left.now) (past (formula_tree right.now)) }
+{
+    same_past(left, past_marks(right))
+}
+""")
+        out.append(f"""
+#[cycle(same)]
+{'' if code == 'P' else 'pub '}fn {same_of(code)}(left: &{rust}, right: &{rust}) -> bool
+    ensures {{ result ≡ {same_of(code)} ({fn}_tree left.now) ({fn}_tree right.now) }}
+{{
+    match left {{
+""" + ''.join(same_arm(code, v, ctor, kinds) for v, ctor, kinds in variants) + "    }\n}\n")
+    out.append("""
+#[cycle(same)]
+pub fn same_fields(left: &[FieldTerm], right: &[FieldTerm]) -> bool
+    ensures { result ≡ same_fields (list_tree left.now) (list_tree right.now) }
+{
+    if left.len() != right.len() {
+        return false;
+    }
+    for place in 0..left.len() {
+        if !same_field(&left[place], &right[place]) {
+            return false;
+        }
+    }
+    true
+}
+""")
+    return ''.join(out)
+
+
+
+
+def exchange_meanings():
+    from forms import MEANING, VALUE, MEANING_USES
+    out = [f"""-- Exchanging parts for others of the same meaning keeps the meaning.
+use Rattle.std.proofs.Common.{{◌≡◌, refl, ap, ◌∙◌, ℕ, suc, ◌==◌, Bool, true, false, not, ◌&&◌, ◌||◌, List, [], ◌∷◌, ℤ, pos, ◌+ℤ◌, ◌-ℤ◌, ◌*ℤ◌, neg_ℤ, int_lt, int_le}}
+{HEAD.replace("use Rattle.jh_tree.specs.Passing.{name_equal}" + chr(10) + "use Rattle.jh_form.specs.Marks.{mark_equal}" + chr(10), "")}use Rattle.jh_tree.specs.Meaning.{{{MEANING_USES}}}
+use Rattle.jh_form.specs.Related.{{{', '.join(REL[c] for c in ORDER + 'L')}}}
+use Rattle.jh_form.specs.Related as r
+
+-- the value inside, where it is of that sort
+no_fields : Fields
+no_fields = record {{ objects = λ x. 0; numbers = λ x. pos 0; truths = λ x. false; sets = λ x y. false }}
+
+abbrev object_in : Datum → ℕ
+object_in (an_object v) = v
+object_in (a_number v) = 0
+object_in (a_truth v) = 0
+object_in (a_set v) = 0
+object_in (a_field v) = 0
+
+abbrev number_in : Datum → ℤ
+number_in (an_object v) = pos 0
+number_in (a_number v) = v
+number_in (a_truth v) = pos 0
+number_in (a_set v) = pos 0
+number_in (a_field v) = pos 0
+
+abbrev truth_in : Datum → Bool
+truth_in (an_object v) = false
+truth_in (a_number v) = false
+truth_in (a_truth v) = v
+truth_in (a_set v) = false
+truth_in (a_field v) = false
+
+abbrev set_in : Datum → ℕ → Bool
+set_in (an_object v) = λ x. false
+set_in (a_number v) = λ x. false
+set_in (a_truth v) = λ x. false
+set_in (a_set v) = v
+set_in (a_field v) = λ x. false
+
+abbrev field_in : Datum → Fields
+field_in (an_object v) = no_fields
+field_in (a_number v) = no_fields
+field_in (a_truth v) = no_fields
+field_in (a_set v) = no_fields
+field_in (a_field v) = v
+
+module _ (X : ValueTree → ValueTree → Type 0) (m : Interp) (keeps : (u v : ValueTree) → X u v → (e : List ℕ) → datum u m e ≡ datum v m e) where
+  mutual"""]
+    inside = {'T': 'object_in', 'I': 'number_in', 'S': 'set_in', 'F': 'field_in', 'P': 'truth_in'}
+    for code in ORDER + 'L':
+        f = f"{VALUE[code]}-related"
+        out.append(f"    pub {f} : (a b : {tree_type(code)}) → {REL[code]} X a b → (e : List ℕ) → {VALUE[code]} a m e ≡ {VALUE[code]} b m e")
+        if code not in ('V', 'L'):
+            out.append(f"    {f} _ _ (r.{fn_of(code)}_here a b x) e = ap {inside[code]} (keeps (t.{WRAP[code]} a) (t.{WRAP[code]} b) x e)")
+        for c, variant, ctor, kinds, ns in all_ctors():
+            if c != code:
+                continue
+            ms = [n + "'" if is_part(k) else n for k, n in zip(kinds, ns)]
+            args, prems, hyp = [], [], {}
+            for idx, (k, n, q) in enumerate(zip(kinds, ns, ms)):
+                if is_part(k):
+                    args += [n, q]
+                    hyp[n] = f"h{idx}"
+                    prems.append(f"h{idx}")
+                else:
+                    args.append(n)
+            pat = apply(f"r.{ctor}", args + prems)
+            if code == 'L':
+                text = None if ctor == 'none' else '{f} ∷ {fs}'
+            else:
+                text = MEANING.get(ctor)
+            if text is None or not prems:
+                out.append(f"    {f} _ _ {pat} e = refl")
+                continue
+            for k, n, q in zip(kinds, ns, ms):
+                if not is_part(k):
+                    continue
+                kk = core(k)
+                text = text.replace('{' + n + '+}', f"{VALUE[kk]}-related {n} {q} {hyp[n]} (x ∷ e) i")
+                text = text.replace('{' + n + '}', f"{VALUE[kk]}-related {n} {q} {hyp[n]} e i")
+            text = text.replace('{last}', 'm.last')
+            out.append(f"    {f} _ _ {pat} e = λ i. {text}")
+        out.append('')
+    return '\n'.join(out)
+
+
+if __name__ == '__main__':
+    root = sys.argv[1]
+    base = f'{root}/crates/jh_form'
+    open(f'{base}/specs/Related.antt', 'w').write(related_specs())
+    open(f'{base}/specs/Compared.antt', 'w').write(tests_specs())
+    open(f'{base}/proofs/CompareSteps.antt', 'w').write(steps_file())
+    open(f'{base}/proofs/Decisions.antt', 'w').write(decides_file())
+    open(f'{base}/src/comparing.rt', 'w').write(comparing())
+    open(f'{base}/specs/Unmarked.antt', 'w').write(unmarked_file())
+    open(f'{base}/specs/Sameness.antt', 'w').write(same_specs())
+    open(f'{base}/proofs/SameSteps.antt', 'w').write(same_steps())
+    open(f'{base}/src/sameness.rt', 'w').write(sameness())
+    open(f'{base}/proofs/ExchangeMeanings.antt', 'w').write(exchange_meanings())
