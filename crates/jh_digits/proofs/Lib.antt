@@ -1,0 +1,16 @@
+pub mod Saturation
+pub mod Sums
+pub mod Layers
+pub mod Widths
+pub mod Radix
+pub mod Coordinates
+pub mod Counts
+pub mod Walks
+pub mod Cells
+pub mod Paths
+pub mod Marks
+pub mod Found
+pub mod Leading
+pub mod Completing
+pub mod Passing
+pub mod Sweeps

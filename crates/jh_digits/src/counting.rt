@@ -1,0 +1,157 @@
+ghost use Rattle.std.specs.Prelude.{◌≡◌, ◌<◌, ◌≤◌, ◌*◌, ◌+◌, ◌^◌, length, min};
+ghost use Rattle.jh_digits.specs.Solution.{entry_of, right_of, IsWellFormed};
+ghost use Rattle.jh_digits.specs.Nodes.{plus, minus, positive, negative, width, width_of, node_count, count_max};
+ghost use Rattle.jh_digits.specs.Cells.{row_depth};
+
+use crate::System;
+
+/// The factor of a column in a row.
+fn entry(system: &System, row: usize, column: usize) -> i64
+    requires formed { IsWellFormed system.now }
+    requires row { row < system.now.rows }
+    requires column { column < system.now.columns }
+    ensures { result ≡ entry_of system.now row column }
+{
+    system.entries.items()[row * system.columns as usize + column]
+}
+
+/// The right side of a row.
+fn right(system: &System, row: usize) -> i64
+    requires formed { IsWellFormed system.now }
+    requires row { row < system.now.rows }
+    ensures { result ≡ right_of system.now row }
+{
+    system.right.items()[row]
+}
+
+/// A number where it is positive, and else 0.
+fn plus_part(number: i64) -> u64
+    ensures value { result ≡ plus number }
+    ensures bound { result < 2 ^ 63 }
+{
+    if number > 0 { number as u64 } else { 0 }
+}
+
+/// The negated number where it is negative, and else 0.
+fn minus_part(number: i64) -> u64
+    ensures value { result ≡ minus number }
+    ensures bound { result ≤ 2 ^ 63 }
+{
+    if number < 0 { number.unsigned_abs() } else { 0 }
+}
+
+/// The positive part of a factor.
+pub(crate) fn plus_entry(system: &System, row: usize, column: usize) -> u64
+    requires formed { IsWellFormed system.now }
+    requires row { row < system.now.rows }
+    requires column { column < system.now.columns }
+    ensures value { result ≡ plus (entry_of system.now row column) }
+    ensures bound { result ≤ 2 ^ 63 }
+{
+    plus_part(entry(system, row, column))
+}
+
+/// The negated negative part of a factor.
+pub(crate) fn minus_entry(system: &System, row: usize, column: usize) -> u64
+    requires formed { IsWellFormed system.now }
+    requires row { row < system.now.rows }
+    requires column { column < system.now.columns }
+    ensures value { result ≡ minus (entry_of system.now row column) }
+    ensures bound { result ≤ 2 ^ 63 }
+{
+    minus_part(entry(system, row, column))
+}
+
+/// The positive part of a right side.
+pub(crate) fn plus_right(system: &System, row: usize) -> u64
+    requires formed { IsWellFormed system.now }
+    requires row { row < system.now.rows }
+    ensures value { result ≡ plus (right_of system.now row) }
+    ensures bound { result ≤ 2 ^ 63 }
+{
+    plus_part(right(system, row))
+}
+
+/// The negated negative part of a right side.
+pub(crate) fn minus_right(system: &System, row: usize) -> u64
+    requires formed { IsWellFormed system.now }
+    requires row { row < system.now.rows }
+    ensures value { result ≡ minus (right_of system.now row) }
+    ensures bound { result ≤ 2 ^ 63 }
+{
+    minus_part(right(system, row))
+}
+
+/// The sum of a row's positive factors.
+fn positive_sum(system: &System, row: usize) -> u128
+    requires formed { IsWellFormed system.now }
+    requires row { row < system.now.rows }
+    ensures value { result ≡ positive (entry_of system.now row) system.now.columns }
+    ensures bound { result ≤ 2 ^ 95 }
+{
+    let mut sum = 0u128;
+    for column in 0..system.columns as usize {
+        sum += plus_entry(system, row, column) as u128;
+    }
+    sum
+}
+
+/// The sum of a row's negated negative factors.
+fn negative_sum(system: &System, row: usize) -> u128
+    requires formed { IsWellFormed system.now }
+    requires row { row < system.now.rows }
+    ensures value { result ≡ negative (entry_of system.now row) system.now.columns }
+    ensures bound { result ≤ 2 ^ 95 }
+{
+    let mut sum = 0u128;
+    for column in 0..system.columns as usize {
+        sum += minus_entry(system, row, column) as u128;
+    }
+    sum
+}
+
+/// How many remainders of a row are within its bounds.
+pub(crate) fn row_width(system: &System, row: usize) -> u128
+    requires formed { IsWellFormed system.now }
+    requires row { row < system.now.rows }
+    ensures { result ≡ width_of system.now row }
+{
+    let positive = positive_sum(system, row);
+    let negative = negative_sum(system, row);
+    let above = (plus_right(system, row) as u128).max(negative);
+    let below = (minus_right(system, row) as u128).max(positive);
+    above + below + 1 + positive + negative
+}
+
+/// How far the remainders of a row may lie below 0.
+pub(crate) fn row_depth(system: &System, row: usize) -> u128
+    requires formed { IsWellFormed system.now }
+    requires row { row < system.now.rows }
+    ensures { result ≡ row_depth system.now row }
+{
+    let positive = positive_sum(system, row);
+    (minus_right(system, row) as u128).max(positive) + positive
+}
+
+/// The columns at work times the sets of needs.
+fn bare_nodes(system: &System) -> u128
+    ensures value { result ≡ min ((system.now.columns + 1) * 2 ^ length system.now.needs) count_max }
+{
+    let mut count = system.columns as u128 + 1;
+    for _ in 0..system.needs.items().len() {
+        count = count.saturating_mul(2);
+    }
+    count
+}
+
+/// How many nodes a system has, or the greatest `u128` where there are more.
+pub fn nodes(system: &System) -> u128
+    requires { IsWellFormed system.now }
+    ensures { result ≡ min (node_count system.now) count_max }
+{
+    let mut count = bare_nodes(system);
+    for row in 0..system.rows as usize {
+        count = count.saturating_mul(row_width(system, row));
+    }
+    count
+}
