@@ -1,0 +1,25 @@
+ghost use Rattle.std.specs.Prelude.{◌≤◌, ◌<◌, ◌^◌, length, IfOk};
+ghost use Rattle.jh_digits.specs.Solution.{IsWellFormed};
+
+use jh_digits::System;
+use jh_name::Row;
+use std::alloc::{AllocError, AllocFailed, Global};
+
+/// One row with these factors and this right side, and a need on each of the first columns.
+pub fn one_row(alloc: Global, entries: &[i64], right: i64, needs: u32) -> Result<System, AllocError>
+    requires short { length entries.now < 2 ^ 32 }
+    requires needs { needs ≤ length entries.now }
+    ensures { IfOk result (λ made. IsWellFormed made) }
+{
+    let mut rows = Vec::new(alloc);
+    for column in 0..needs {
+        rows.push(Row::of(vec![in alloc; column]?))?;
+    }
+    Ok(System {
+        rows: 1,
+        columns: entries.len() as u32,
+        entries: Row::of(entries.to_vec(alloc)?),
+        right: Row::of(vec![in alloc; right]?),
+        needs: Row::of(rows),
+    })
+}
