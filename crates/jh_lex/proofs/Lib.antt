@@ -1,0 +1,10 @@
+pub mod Behind
+pub mod Counts
+pub mod Digits
+pub mod Fronts
+pub mod Longest
+pub mod Reading
+pub mod Shaped
+pub mod Signs
+pub mod Sources
+pub mod Unique

@@ -1,0 +1,10 @@
+pub mod Characters
+pub mod Ends
+pub mod Lexemes
+pub mod Lexes
+pub mod Lengths
+pub mod Places
+pub mod Reports
+pub mod Shapes
+pub mod Symbols
+pub mod Texts

@@ -1,0 +1,26 @@
+//! The tokens of a source: code, and in it specifications, and in these formulas.
+#![tactic(auto)]
+
+mod character;
+mod code;
+mod cursor;
+mod ends;
+mod error;
+mod formula;
+mod kind;
+mod lexeme;
+mod lexing;
+mod mode;
+mod specification;
+mod symbol;
+mod tables;
+mod token;
+
+pub use error::LexError;
+pub use lexing::{at_most_one_fault, at_most_one_list, shape_of_tokens, tokens};
+pub use mode::Mode;
+pub use symbol::Symbol;
+pub use token::{Token, TokenKind};
+
+#[cfg(test)]
+mod tests;
