@@ -1,0 +1,17 @@
+pub mod Cutting
+pub mod Cuts
+pub mod Refusals
+pub mod Readings
+pub mod Commands
+pub mod Splitting
+pub mod Exactness
+pub mod Running
+pub mod Soundness
+pub mod Plain
+pub mod Sights
+pub mod Unmarkings
+pub mod Closings
+pub mod Among
+pub mod Rights
+pub mod Verifying
+pub mod Lines

@@ -1,0 +1,17 @@
+use Rattle.std.proofs.Common.{◌≡◌, ◌≤◌, ◌<◌, ◌+◌, ◌-◌, length, ℕ}
+use Rattle.jahob.specs.declared.token.Symbol.TheVariants as symbol
+use Rattle.jahob.specs.Reading as read
+use Rattle.jahob.specs.Reading.{many, with_front}
+use Rattle.jahob.proofs.grammar.words.Given as goal
+
+-- what is made, with what is read from here on, is all that is read
+abbrev pub invariant-more : goal.invariant-more
+invariant-more l = record {
+  whole : with_front l.words.items (many (λ (j : ℕ). read.is_symbol_at l.tokens j symbol.Comma) (λ (j : ℕ). read.word_at l.tokens (j + 1)) (length l.tokens + 1 - length l.words.items) l.at) ≡ read.words_at l.tokens l.fn.from;
+  count : length l.words.items ≤ l.at;
+  inside : l.at ≤ length l.tokens;
+  behind : l.fn.from < l.at;
+}
+
+abbrev pub decreases-more : goal.decreases-more
+decreases-more l = length l.tokens - l.at

@@ -1,0 +1,15 @@
+pub mod Lexing
+pub mod Reads
+pub mod First
+pub mod Reading
+pub mod Checked
+pub mod Words
+pub mod Command
+pub mod Wp
+pub mod Sequents
+pub mod State
+pub mod Execution
+pub mod Sound
+pub mod Obligations
+pub mod Report
+pub mod Verify

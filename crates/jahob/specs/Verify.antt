@@ -1,0 +1,100 @@
+-- What `verify` answers.
+use Rattle.std.specs.List.{list_all}
+use Rattle.std.specs.Prelude.{not, ℕ, ◌≡◌, Bool, true, List, ◌⊎◌, if◌then◌else◌, Option, None, Some, IfSome, string_bytes}
+use Rattle.jh_files.specs.Contents.{Appends}
+use Rattle.jahob.specs.declared.prove.Answer.{Answer}
+use Rattle.jahob.specs.declared.token.Token.{Token}
+use Rattle.jahob.specs.declared.tree.Program.{Program}
+use Rattle.jahob.specs.declared.top.Reply.{Reply}
+use Rattle.jahob.specs.declared.top.Reply.TheVariants as reply
+use Rattle.jahob.specs.Lexing.{Lexes}
+use Rattle.jahob.specs.Reading.{program_of}
+use Rattle.jahob.specs.Checked.{is_sound}
+use Rattle.jahob.specs.Words.{verify_file}
+use Rattle.jahob.specs.Sequents.{AllRight}
+use Rattle.jahob.specs.Obligations.{sequents_of}
+use Rattle.jahob.specs.Report.{report_of, is_unproved}
+use Rattle.jahob.specs.Sound.{Sound}
+
+-- Bytes spell a program: they are cut into tokens that spell it, and it is well named.
+pub record Spells (bytes : List ℕ) (p : Program) : Type 0 where
+  pub tokens : List Token
+  pub cut : Lexes bytes tokens
+  pub spelled : program_of tokens ≡ Some p
+  pub named : is_sound p ≡ true
+
+-- the bytes that were handed over for a name are those that it holds, where the files tell
+abbrev pub Tells : Option (List ℕ) → List ℕ → Type 0
+Tells held bytes = IfSome held (λ told. bytes ≡ told)
+
+-- the status of answers: 0 where none is Unproved
+abbrev pub all_proved : List Answer → Bool
+all_proved answers = list_all (λ a. not (is_unproved a)) answers
+
+-- a text is the report on a program, with right answers for its sequents
+pub record IsReport (p : Program) (text : List ℕ) (accepted : Bool) : Type 0 where
+  pub answers : List Answer
+  pub right : AllRight (sequents_of p) answers
+  pub text_is : text ≡ report_of p (sequents_of p) answers
+  pub accepted_is : accepted ≡ all_proved answers
+
+-- The words ask for a file, whose bytes spell one program.
+pub record IsRead (words : List (List ℕ)) (holds : List ℕ → Option (List ℕ)) (p : Program) : Type 0 where
+  pub file : List ℕ
+  pub bytes : List ℕ
+  pub asked : verify_file words ≡ Some file
+  pub told : Tells (holds file) bytes
+  pub spelled : Spells bytes p
+  pub only : (q : Program) → Spells bytes q → q ≡ p
+
+-- The words ask for a file, whose bytes spell no program.
+pub record IsRefused (words : List (List ℕ)) (holds : List ℕ → Option (List ℕ)) : Type 0 where
+  pub file : List ℕ
+  pub bytes : List ℕ
+  pub asked : verify_file words ≡ Some file
+  pub told : Tells (holds file) bytes
+  pub none_spelled : (p : Program) → Spells bytes p → ⊥
+
+-- a fault of a file, or want of memory
+abbrev pub IsFault : Reply → Type 0
+IsFault (reply.Report text accepted) = ⊥
+IsFault reply.Usage = ⊥
+IsFault reply.Refused = ⊥
+IsFault (reply.Fault text) = Unit {0}
+IsFault reply.NoMemory = Unit {0}
+
+-- A reply is the right one for the bytes of a source.
+abbrev pub FitsBytes : List ℕ → Reply → Type 0
+FitsBytes bytes (reply.Report text accepted) = (p : Program) × Spells bytes p × IsReport p (string_bytes text) accepted
+FitsBytes bytes reply.Usage = ⊥
+FitsBytes bytes reply.Refused = (p : Program) → Spells bytes p → ⊥
+FitsBytes bytes (reply.Fault text) = ⊥
+FitsBytes bytes reply.NoMemory = Unit {0}
+
+-- A reply is the right one for what a file holds, where the files tell.
+abbrev pub FitsFile : Option (List ℕ) → Reply → Type 0
+FitsFile held answer = IsFault answer ⊎ ((bytes : List ℕ) × Tells held bytes × FitsBytes bytes answer)
+
+-- A reply is the right one for the words and what the files hold.
+abbrev pub Fits : List (List ℕ) → (List ℕ → Option (List ℕ)) → Reply → Type 0
+Fits words holds (reply.Report text accepted) = (p : Program) × IsRead words holds p × IsReport p (string_bytes text) accepted
+Fits words holds reply.Usage = verify_file words ≡ None
+Fits words holds reply.Refused = IsRefused words holds
+Fits words holds (reply.Fault text) = Unit {0}
+Fits words holds reply.NoMemory = Unit {0}
+
+-- The headline: the words ask for a file whose bytes spell one program, and that program is sound.
+pub record Verifies (words : List (List ℕ)) (holds : List ℕ → Option (List ℕ)) : Type 0 where
+  pub program : Program
+  pub read : IsRead words holds program
+  pub sound : Sound program
+
+-- The words ask for a file whose bytes spell one program, and the report on it was written, with right
+-- answers for its sequents; the status is 0 where none is Unproved, and else 1.
+pub record Reports (words : List (List ℕ)) (holds : List ℕ → Option (List ℕ)) (before after : Option (List ℕ)) (status : ℕ) : Type 0 where
+  pub program : Program
+  pub read : IsRead words holds program
+  pub answers : List Answer
+  pub right : AllRight (sequents_of program) answers
+  pub written : Appends before (report_of program (sequents_of program) answers) after
+  pub status_is : status ≡ (if all_proved answers then 0 else 1)

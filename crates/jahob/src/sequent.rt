@@ -1,0 +1,18 @@
+use jh_form::{Formula, Mark};
+use jh_name::{MethodId, Name, Row};
+
+/// A hypothesis, with the name under which it is known.
+#[derive(Debug, Drop)]
+pub struct Hyp {
+    pub name: Option<Name>,
+    pub fact: Formula,
+}
+
+/// A proof obligation of a method: where the hypotheses are true, the goal is to be true.
+#[derive(Debug, Drop)]
+pub struct Sequent {
+    pub method: MethodId,
+    pub mark: Mark,
+    pub hyps: Row<Hyp>,
+    pub goal: Formula,
+}

@@ -1,0 +1,244 @@
+//! The top call: from the words of a command line to a report.
+#![tactic(auto)]
+
+ghost use Rattle.std.specs.Prelude.{◌≡◌, ◌≢◌, ◌+◌, ◌<◌, ◌^◌, ◌-◌, ◌⊎◌, ◌++◌, map, length, string_bytes, if◌then◌else◌, IfOk, OnOk};
+ghost use Rattle.jh_files.specs.Contents.{Appends};
+ghost use Rattle.jh_tree.specs.Bare.{formula_tree};
+ghost use Rattle.jahob.specs.declared.tree.Program.{Program as ProgramTree};
+ghost use Rattle.jahob.specs.Obligations.{obligation_of, member_sequents, method_id, number_after, sequents_of};
+ghost use Rattle.jahob.specs.Sequents.{sequent_tree, split_of};
+ghost use Rattle.jahob.specs.Verify.{Spells, IsReport, IsFault, Fits, FitsBytes, FitsFile, Verifies, Reports};
+
+use crate::check::is_sound;
+use crate::command::of_method;
+use crate::grammar::program;
+use crate::lexing::tokens;
+use crate::prove::prove_all;
+use crate::report::{all_proved, report};
+use crate::sequent::Sequent;
+use crate::split::split;
+use crate::token::ReadError;
+use crate::tree::{Member, Method, Program};
+use crate::words::file_of;
+use crate::wp::wp;
+use jh_files::{FileFault, Files, Sink, put_all};
+use jh_form::Formula;
+use jh_name::{MethodId, NoMemory};
+use std::alloc::Global;
+
+/// The most bytes that a source may have.
+const SOURCE_LIMIT: u64 = 1_048_576;
+
+pub(crate) const USAGE: &str = "usage: jahob verify FILE\n";
+
+/// A report on a program, and whether every sequent is proved.
+#[derive(Debug, Drop)]
+pub struct Verified {
+    pub text: String,
+    pub accepted: bool,
+}
+
+/// What a call comes to, before anything is written.
+#[derive(Debug, Drop)]
+pub enum Reply {
+    /// The report, and whether every sequent is proved.
+    Report(String, bool),
+    Usage,
+    Refused,
+    /// The file can't be read.
+    Fault(String),
+    NoMemory,
+}
+
+/// The program that a source spells.
+fn read(alloc: Global, bytes: &[u8]) -> Result<Program, ReadError>
+    requires { length bytes.now < 2 ^ 32 - 1 }
+    ensures sound { IfOk result (Spells bytes.now) }
+    ensures refused { result ≡ Err ReadError.Refused → (p : ProgramTree) → Spells bytes.now p → ⊥ }
+{
+    let tokens = match tokens(alloc, bytes) {
+        Ok(tokens) => tokens,
+        Err(error) => return Err(error),
+    };
+    let program = match program(alloc, tokens.as_slice()) {
+        Ok(program) => program,
+        Err(error) => return Err(error),
+    };
+    if is_sound(&program) {
+        Ok(program)
+    } else {
+        Err(ReadError::Refused)
+    }
+}
+
+/// The formula that has to be valid for a method to be right.
+fn obligation(alloc: Global, program: &Program, method: &Method) -> Result<Formula, NoMemory>
+    ensures { IfOk result (λ made. formula_tree made ≡ obligation_of program.now method.now) }
+{
+    let command = of_method(alloc, program, method)?;
+    wp(
+        alloc,
+        command.body.items(),
+        &command.returned,
+        &command.returned,
+    )
+}
+
+/// The sequents of a method with a number.
+fn method_sequents(
+    alloc: Global,
+    program: &Program,
+    method: &Method,
+    number: u32,
+) -> Result<Vec<Sequent>, NoMemory>
+    ensures { IfOk result (λ made. map sequent_tree made.items ≡ split_of (method_id number) (obligation_of program.now method.now)) }
+{
+    let formula = obligation(alloc, program, method)?;
+    let id = MethodId {
+        class: 0,
+        method: number,
+    };
+    split(alloc, id, &formula)
+}
+
+/// Adds the sequents of a member, where the next method has a number, and answers the number after it.
+fn add_sequents(
+    alloc: Global,
+    program: &Program,
+    member: &Member,
+    number: u32,
+    made: &mut Vec<Sequent>,
+) -> Result<u32, NoMemory>
+    ensures number { IfOk result (λ next. next ≡ number_after number member.now) }
+    ensures made { OnOk result (map sequent_tree made.new.items ≡ map sequent_tree made.old.items ++ member_sequents program.now number member.now) }
+{
+    match member {
+        Member::Static(_) => Ok(number),
+        Member::Method(method) => {
+            let next = next_number(number)?;
+            let mut more = method_sequents(alloc, program, method, number)?;
+            made.append(&mut more)?;
+            Ok(next)
+        }
+    }
+}
+
+fn next_number(number: u32) -> Result<u32, NoMemory>
+    ensures { IfOk result (λ next. next ≡ number + 1) }
+{
+    match number.checked_add(1) {
+        Some(next) => Ok(next),
+        None => Err(NoMemory),
+    }
+}
+
+/// The sequents of a program, method by method.
+fn sequents(alloc: Global, program: &Program) -> Result<Vec<Sequent>, NoMemory>
+    ensures { IfOk result (λ made. map sequent_tree made.items ≡ sequents_of program.now) }
+{
+    let mut made = Vec::new(alloc);
+    let mut number = 0;
+    let members = program.members.items();
+    for member in members {
+        number = add_sequents(alloc, program, member, number, &mut made)?;
+    }
+    Ok(made)
+}
+
+/// The report on a program, and whether every sequent is proved.
+fn verify(alloc: Global, program: &Program) -> Result<Verified, NoMemory>
+    ensures { IfOk result (λ verified. IsReport program.now (string_bytes verified.text) verified.accepted) }
+{
+    let sequents = sequents(alloc, program)?;
+    let answers = prove_all(alloc, sequents.as_slice())?;
+    let text = report(alloc, program, sequents.as_slice(), answers.as_slice())?;
+    let accepted = all_proved(answers.as_slice());
+    Ok(Verified { text, accepted })
+}
+
+fn reply_to_bytes(alloc: Global, bytes: &[u8]) -> Reply
+    requires { length bytes.now < 2 ^ 32 - 1 }
+    ensures { FitsBytes bytes.now result }
+{
+    match read(alloc, bytes) {
+        Ok(program) => match verify(alloc, &program) {
+            Ok(verified) => Reply::Report(verified.text, verified.accepted),
+            Err(NoMemory) => Reply::NoMemory,
+        },
+        Err(ReadError::Refused) => Reply::Refused,
+        Err(ReadError::Memory) => Reply::NoMemory,
+    }
+}
+
+fn fault(alloc: Global, kind: &str, file: &str) -> Reply
+    ensures { IsFault result }
+{
+    match format!(in alloc; "file {kind} {file}\n") {
+        Ok(text) => Reply::Fault(text),
+        Err(_) => Reply::NoMemory,
+    }
+}
+
+fn reply_to_file<F: Files>(alloc: Global, file: &str, files: &mut F) -> Reply
+    ensures { FitsFile (F.holds files.old file.now) result }
+{
+    match files.get(alloc, file, SOURCE_LIMIT) {
+        Ok(bytes) => reply_to_bytes(alloc, bytes.as_slice()),
+        Err(FileFault::Failed) => fault(alloc, "failed", file),
+        Err(FileFault::TooLong { .. }) => fault(alloc, "too long", file),
+        Err(FileFault::Memory) => Reply::NoMemory,
+    }
+}
+
+fn reply_to<F: Files>(alloc: Global, words: &[String], files: &mut F) -> Reply
+    ensures { Fits (map (λ word. string_bytes word) words.now) (F.holds files.old) result }
+{
+    match file_of(words) {
+        Some(file) => reply_to_file(alloc, file, files),
+        None => Reply::Usage,
+    }
+}
+
+/// Writes a text, and answers the status, or 5 where the sink fails.
+fn written<S: Sink>(sink: &mut S, text: &str, status: u8) -> u8
+    requires { status ≢ 5 }
+    ensures all { result ≢ 5 → Appends (S.written sink.old) text.now (S.written sink.new) }
+    ensures status { result ≢ 5 → result ≡ status }
+{
+    match put_all(sink, text.as_bytes()) {
+        Ok(()) => status,
+        Err(_) => 5,
+    }
+}
+
+fn status_of(accepted: bool) -> u8
+    ensures { result ≡ (if accepted then 0 else 1) }
+{
+    if accepted { 0 } else { 1 }
+}
+
+/// Does what the words of a command line say, and answers the exit status: 0 accepted, 1 rejected, 2
+/// usage, 3 the source is refused, 4 the file can't be read, 5 a sink failed, 6 memory ran out.
+///
+/// Nothing is written before it is known what the answer is, and no memory is taken from then on.
+pub fn jahob<F: Files, O: Sink, E: Sink>(
+    alloc: Global,
+    words: &[String],
+    files: &mut F,
+    out: &mut O,
+    err: &mut E,
+) -> u8
+    // The headline: where the status is 0, the bytes read spell one program, and it is sound.
+    ensures headline { result ≡ 0 → Verifies (map (λ word. string_bytes word) words.now) (F.holds files.old) }
+
+    // Where the status is 0 or 1, the whole report was written, and no answer is Unproved just where it is 0.
+    ensures report { (result ≡ 0) ⊎ (result ≡ 1) → Reports (map (λ word. string_bytes word) words.now) (F.holds files.old) (O.written out.old) (O.written out.new) result }
+{
+    match reply_to(alloc, words, files) {
+        Reply::Report(text, accepted) => written(out, text.as_str(), status_of(accepted)),
+        Reply::Usage => written(err, USAGE, 2),
+        Reply::Refused => written(err, "refused 13\n", 3),
+        Reply::Fault(text) => written(err, text.as_str(), 4),
+        Reply::NoMemory => written(err, "no memory\n", 6),
+    }
+}
