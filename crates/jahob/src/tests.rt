@@ -17,6 +17,13 @@ const FRAME: &str = "class A { static Object a; static void m() { a = null; } }"
 const COPY: &str =
     "class K { static Object a; static Object b; static void copy() /*: modifies a ensures \"a = old b\" */ { a = b; } static void same() //: requires \"a = b & b ~= null\" ensures \"a = b\"\n { } }";
 
+/// As many comparisons as a specification may have, and one more.
+const SIXTEEN: &str =
+    "class A { static Object a; static void m() /*: requires \"a = a & a = a & a = a & a = a & a = a & a = a & a = a & a = a & a = a & a = a & a = a & a = a & a = a & a = a & a = a & a = a\" ensures \"a = a\" */ { } }";
+
+const SEVENTEEN: &str =
+    "class A { static Object a; static void m() /*: requires \"a = a & a = a & a = a & a = a & a = a & a = a & a = a & a = a & a = a & a = a & a = a & a = a & a = a & a = a & a = a & a = a & a = a\" ensures \"a = a\" */ { } }";
+
 fn words(alloc: Global) -> Result<Vec<String>, AllocError> {
     let mut words = Vec::new(alloc);
     words.push(String::from_str(alloc, "verify")?)?;
@@ -38,7 +45,7 @@ fn sink(alloc: Global) -> Result<SureSink, NoMemory> {
 /// A source, what is written to the one sink and to the other, and the status.
 type Worked = (&'static str, &'static str, &'static str, u8);
 
-const WORKED: [Worked; 13] = [
+const WORKED: [Worked; 15] = [
     ("class A { }", "accepted: methods 0, sequents 0\n", "", 0u8),
     (
         SWAP,
@@ -92,6 +99,13 @@ const WORKED: [Worked; 13] = [
         0,
     ),
     ("", "", "refused 13\n", 3),
+    (
+        SIXTEEN,
+        "A.m 1 post 1:193 trivial\naccepted: methods 1, sequents 1\n",
+        "",
+        0,
+    ),
+    (SEVENTEEN, "", "refused 13\n", 3),
 ];
 
 #[test]
@@ -151,41 +165,5 @@ fn faults_of_files_and_sinks(rt: HostRuntime) -> Result<(), Fail> {
     assert_eq!(rt; jahob(alloc, &[], &mut files, &mut out, &mut err), 5);
     assert_eq!(rt; out.written(), b"".as_slice());
     assert_eq!(rt; err.written(), b"".as_slice());
-    Ok(())
-}
-
-/// A method whose postcondition and body have as many parts as given.
-fn long_source(alloc: Global, comparisons: u32, statements: u32) -> Result<String, AllocError> {
-    let mut source = String::from_str(
-        alloc,
-        "class A { static Object a; static void m() //: modifies a ensures \"a = a",
-    )?;
-    let mut made = 1;
-    while made < comparisons {
-        source.push_str(" & a = a")?;
-        made += 1;
-    }
-    source.push_str("\"\n{")?;
-    let mut made = 0;
-    while made < statements {
-        source.push_str(" a = null;")?;
-        made += 1;
-    }
-    source.push_str("} }")?;
-    Ok(source)
-}
-
-#[test]
-fn limits_of_a_method(rt: HostRuntime) -> Result<(), Fail> {
-    let alloc = rt.alloc();
-    let words = words(alloc)?;
-    for (comparisons, statements, status) in [(16, 200, 0), (17, 200, 3), (16, 201, 3)] {
-        let source = long_source(alloc, comparisons, statements)?;
-        let mut files = SureFiles::of(entries(alloc, source.as_str())?);
-        let mut out = sink(alloc)?;
-        let mut err = sink(alloc)?;
-        let answer = jahob(alloc, words.as_slice(), &mut files, &mut out, &mut err);
-        assert_eq!(rt; answer, status);
-    }
     Ok(())
 }
