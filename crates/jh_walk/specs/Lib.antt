@@ -1,4 +1,5 @@
 pub mod Mapped
+pub mod Shapes
 pub mod Sizes
 pub mod Parts
 pub mod Kept

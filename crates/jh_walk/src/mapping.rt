@@ -1,10 +1,12 @@
 #![tactic(auto, using(jh_tree::proofs::Steps::tree_steps, crate::proofs::MapSteps::map_steps))]
 
-ghost use Rattle.std.specs.Prelude.{◌≡◌, IfOk};
+ghost use Rattle.std.specs.Prelude.{◌≡◌, IfOk, true};
 ghost use Rattle.jh_tree.specs.Bare.{term_tree, int_tree, set_tree, field_tree, value_tree, formula_tree, list_tree};
+ghost use Rattle.jh_tree.specs.Tree as tree;
+ghost use Rattle.jh_walk.specs.Shapes.{is_read, is_not, is_and, is_or, is_implies, is_iff, is_all, is_ex, is_eq_obj, is_eq_int, is_eq_set, is_less, is_less_eq, is_divides, is_member, is_subset, is_reach, is_tree, is_mark};
 ghost use Rattle.jh_walk.specs.Mapped.{mapped_term, mapped_int, mapped_set, mapped_field, mapped_value, mapped_formula, mapped_fields};
 
-use crate::boxes::{boxed, boxed_three, boxed_two};
+use crate::boxes::boxed;
 use crate::copying::copy_mark;
 use crate::counting::deeper;
 use crate::walk::Leaves;
@@ -26,9 +28,8 @@ pub fn map_term<L: Leaves>(
         Term::Free(name) => leaves.object(alloc, name, depth),
         Term::Null => Ok(Term::Null),
         Term::Read(a, b) => {
-            let a = map_field(alloc, a, depth, leaves)?;
-            let b = map_term(alloc, b, depth, leaves)?;
-            let (a, b) = boxed_two(alloc, a, b)?;
+            let a = field_box(alloc, a, depth, leaves)?;
+            let b = term_box(alloc, b, depth, leaves)?;
             Ok(Term::Read(a, b))
         }
     }
@@ -47,36 +48,30 @@ pub fn map_int<L: Leaves>(
         IntTerm::Const(number) => Ok(IntTerm::Const(*number)),
         IntTerm::Free(name) => leaves.integer(alloc, name, depth),
         IntTerm::Read(a, b) => {
-            let a = map_field(alloc, a, depth, leaves)?;
-            let b = map_term(alloc, b, depth, leaves)?;
-            let (a, b) = boxed_two(alloc, a, b)?;
+            let a = field_box(alloc, a, depth, leaves)?;
+            let b = term_box(alloc, b, depth, leaves)?;
             Ok(IntTerm::Read(a, b))
         }
         IntTerm::Add(a, b) => {
-            let a = map_int(alloc, a, depth, leaves)?;
-            let b = map_int(alloc, b, depth, leaves)?;
-            let (a, b) = boxed_two(alloc, a, b)?;
+            let a = int_box(alloc, a, depth, leaves)?;
+            let b = int_box(alloc, b, depth, leaves)?;
             Ok(IntTerm::Add(a, b))
         }
         IntTerm::Sub(a, b) => {
-            let a = map_int(alloc, a, depth, leaves)?;
-            let b = map_int(alloc, b, depth, leaves)?;
-            let (a, b) = boxed_two(alloc, a, b)?;
+            let a = int_box(alloc, a, depth, leaves)?;
+            let b = int_box(alloc, b, depth, leaves)?;
             Ok(IntTerm::Sub(a, b))
         }
         IntTerm::Neg(a) => {
-            let a = map_int(alloc, a, depth, leaves)?;
-            let a = boxed(alloc, a)?;
+            let a = int_box(alloc, a, depth, leaves)?;
             Ok(IntTerm::Neg(a))
         }
         IntTerm::Scale(number, a) => {
-            let a = map_int(alloc, a, depth, leaves)?;
-            let a = boxed(alloc, a)?;
+            let a = int_box(alloc, a, depth, leaves)?;
             Ok(IntTerm::Scale(*number, a))
         }
         IntTerm::Card(a) => {
-            let a = map_set(alloc, a, depth, leaves)?;
-            let a = boxed(alloc, a)?;
+            let a = set_box(alloc, a, depth, leaves)?;
             Ok(IntTerm::Card(a))
         }
     }
@@ -94,45 +89,38 @@ pub fn map_set<L: Leaves>(
     match term {
         SetTerm::Free(name) => leaves.set(alloc, name, depth),
         SetTerm::Read(a, b) => {
-            let a = map_field(alloc, a, depth, leaves)?;
-            let b = map_term(alloc, b, depth, leaves)?;
-            let (a, b) = boxed_two(alloc, a, b)?;
+            let a = field_box(alloc, a, depth, leaves)?;
+            let b = term_box(alloc, b, depth, leaves)?;
             Ok(SetTerm::Read(a, b))
         }
         SetTerm::Empty => Ok(SetTerm::Empty),
         SetTerm::Univ => Ok(SetTerm::Univ),
         SetTerm::Single(a) => {
-            let a = map_term(alloc, a, depth, leaves)?;
-            let a = boxed(alloc, a)?;
+            let a = term_box(alloc, a, depth, leaves)?;
             Ok(SetTerm::Single(a))
         }
         SetTerm::Union(a, b) => {
-            let a = map_set(alloc, a, depth, leaves)?;
-            let b = map_set(alloc, b, depth, leaves)?;
-            let (a, b) = boxed_two(alloc, a, b)?;
+            let a = set_box(alloc, a, depth, leaves)?;
+            let b = set_box(alloc, b, depth, leaves)?;
             Ok(SetTerm::Union(a, b))
         }
         SetTerm::Inter(a, b) => {
-            let a = map_set(alloc, a, depth, leaves)?;
-            let b = map_set(alloc, b, depth, leaves)?;
-            let (a, b) = boxed_two(alloc, a, b)?;
+            let a = set_box(alloc, a, depth, leaves)?;
+            let b = set_box(alloc, b, depth, leaves)?;
             Ok(SetTerm::Inter(a, b))
         }
         SetTerm::Diff(a, b) => {
-            let a = map_set(alloc, a, depth, leaves)?;
-            let b = map_set(alloc, b, depth, leaves)?;
-            let (a, b) = boxed_two(alloc, a, b)?;
+            let a = set_box(alloc, a, depth, leaves)?;
+            let b = set_box(alloc, b, depth, leaves)?;
             Ok(SetTerm::Diff(a, b))
         }
         SetTerm::Compl(a) => {
-            let a = map_set(alloc, a, depth, leaves)?;
-            let a = boxed(alloc, a)?;
+            let a = set_box(alloc, a, depth, leaves)?;
             Ok(SetTerm::Compl(a))
         }
         SetTerm::Compr(a) => {
             let below = deeper(depth)?;
-            let a = map_formula(alloc, a, below, leaves)?;
-            let a = boxed(alloc, a)?;
+            let a = formula_box(alloc, a, below, leaves)?;
             Ok(SetTerm::Compr(a))
         }
     }
@@ -150,10 +138,9 @@ pub fn map_field<L: Leaves>(
     match field {
         FieldTerm::Free(name) => leaves.field(alloc, name, depth),
         FieldTerm::Update(a, b, c) => {
-            let a = map_field(alloc, a, depth, leaves)?;
-            let b = map_term(alloc, b, depth, leaves)?;
-            let c = map_value(alloc, c, depth, leaves)?;
-            let (a, b, c) = boxed_three(alloc, a, b, c)?;
+            let a = field_box(alloc, a, depth, leaves)?;
+            let b = term_box(alloc, b, depth, leaves)?;
+            let c = value_box(alloc, c, depth, leaves)?;
             Ok(FieldTerm::Update(a, b, c))
         }
     }
@@ -169,27 +156,82 @@ pub fn map_value<L: Leaves>(
     ensures { IfOk result (λ made. value_tree made ≡ mapped_value (value_tree value.now) (L.leaves leaves.now) depth) }
 {
     match value {
-        Value::Obj(a) => {
-            let a = map_term(alloc, a, depth, leaves)?;
-            Ok(Value::Obj(a))
-        }
-        Value::Int(a) => {
-            let a = map_int(alloc, a, depth, leaves)?;
-            Ok(Value::Int(a))
-        }
-        Value::Bool(a) => {
-            let a = map_formula(alloc, a, depth, leaves)?;
-            Ok(Value::Bool(a))
-        }
-        Value::Set(a) => {
-            let a = map_set(alloc, a, depth, leaves)?;
-            Ok(Value::Set(a))
-        }
-        Value::Field(a) => {
-            let a = map_field(alloc, a, depth, leaves)?;
-            Ok(Value::Field(a))
-        }
+        Value::Obj(a) => object_value(alloc, a, depth, leaves),
+        Value::Int(a) => integer_value(alloc, a, depth, leaves),
+        Value::Bool(a) => truth_value(alloc, a, depth, leaves),
+        Value::Set(a) => set_value(alloc, a, depth, leaves),
+        Value::Field(a) => field_value(alloc, a, depth, leaves),
     }
+}
+
+#[cycle(map)]
+#[inline(never)]
+fn object_value<L: Leaves>(
+    alloc: Global,
+    term: &Term,
+    depth: u32,
+    leaves: &L,
+) -> Result<Value, NoMemory>
+    ensures { IfOk result (λ made. value_tree made ≡ mapped_value (tree.of_object (term_tree term.now)) (L.leaves leaves.now) depth) }
+{
+    let made = map_term(alloc, term, depth, leaves)?;
+    Ok(Value::Obj(made))
+}
+
+#[cycle(map)]
+#[inline(never)]
+fn integer_value<L: Leaves>(
+    alloc: Global,
+    term: &IntTerm,
+    depth: u32,
+    leaves: &L,
+) -> Result<Value, NoMemory>
+    ensures { IfOk result (λ made. value_tree made ≡ mapped_value (tree.of_number (int_tree term.now)) (L.leaves leaves.now) depth) }
+{
+    let made = map_int(alloc, term, depth, leaves)?;
+    Ok(Value::Int(made))
+}
+
+#[cycle(map)]
+#[inline(never)]
+fn truth_value<L: Leaves>(
+    alloc: Global,
+    formula: &Formula,
+    depth: u32,
+    leaves: &L,
+) -> Result<Value, NoMemory>
+    ensures { IfOk result (λ made. value_tree made ≡ mapped_value (tree.of_truth (formula_tree formula.now)) (L.leaves leaves.now) depth) }
+{
+    let made = map_formula(alloc, formula, depth, leaves)?;
+    Ok(Value::Bool(made))
+}
+
+#[cycle(map)]
+#[inline(never)]
+fn set_value<L: Leaves>(
+    alloc: Global,
+    term: &SetTerm,
+    depth: u32,
+    leaves: &L,
+) -> Result<Value, NoMemory>
+    ensures { IfOk result (λ made. value_tree made ≡ mapped_value (tree.of_set (set_tree term.now)) (L.leaves leaves.now) depth) }
+{
+    let made = map_set(alloc, term, depth, leaves)?;
+    Ok(Value::Set(made))
+}
+
+#[cycle(map)]
+#[inline(never)]
+fn field_value<L: Leaves>(
+    alloc: Global,
+    field: &FieldTerm,
+    depth: u32,
+    leaves: &L,
+) -> Result<Value, NoMemory>
+    ensures { IfOk result (λ made. value_tree made ≡ mapped_value (tree.of_field (field_tree field.now)) (L.leaves leaves.now) depth) }
+{
+    let made = map_field(alloc, field, depth, leaves)?;
+    Ok(Value::Field(made))
 }
 
 #[cycle(map)]
@@ -205,109 +247,385 @@ pub fn map_formula<L: Leaves>(
         Formula::True => Ok(Formula::True),
         Formula::False => Ok(Formula::False),
         Formula::Free(name) => leaves.truth(alloc, name, depth),
-        Formula::Read(a, b) => {
-            let a = map_field(alloc, a, depth, leaves)?;
-            let b = map_term(alloc, b, depth, leaves)?;
-            let (a, b) = boxed_two(alloc, a, b)?;
-            Ok(Formula::Read(a, b))
-        }
-        Formula::Not(a) => {
-            let a = map_formula(alloc, a, depth, leaves)?;
-            let a = boxed(alloc, a)?;
-            Ok(Formula::Not(a))
-        }
-        Formula::And(a, b) => {
-            let a = map_formula(alloc, a, depth, leaves)?;
-            let b = map_formula(alloc, b, depth, leaves)?;
-            let (a, b) = boxed_two(alloc, a, b)?;
-            Ok(Formula::And(a, b))
-        }
-        Formula::Or(a, b) => {
-            let a = map_formula(alloc, a, depth, leaves)?;
-            let b = map_formula(alloc, b, depth, leaves)?;
-            let (a, b) = boxed_two(alloc, a, b)?;
-            Ok(Formula::Or(a, b))
-        }
-        Formula::Implies(a, b) => {
-            let a = map_formula(alloc, a, depth, leaves)?;
-            let b = map_formula(alloc, b, depth, leaves)?;
-            let (a, b) = boxed_two(alloc, a, b)?;
-            Ok(Formula::Implies(a, b))
-        }
-        Formula::Iff(a, b) => {
-            let a = map_formula(alloc, a, depth, leaves)?;
-            let b = map_formula(alloc, b, depth, leaves)?;
-            let (a, b) = boxed_two(alloc, a, b)?;
-            Ok(Formula::Iff(a, b))
-        }
-        Formula::All(a) => {
-            let below = deeper(depth)?;
-            let a = map_formula(alloc, a, below, leaves)?;
-            let a = boxed(alloc, a)?;
-            Ok(Formula::All(a))
-        }
-        Formula::Ex(a) => {
-            let below = deeper(depth)?;
-            let a = map_formula(alloc, a, below, leaves)?;
-            let a = boxed(alloc, a)?;
-            Ok(Formula::Ex(a))
-        }
-        Formula::EqObj(a, b) => {
-            let a = map_term(alloc, a, depth, leaves)?;
-            let b = map_term(alloc, b, depth, leaves)?;
-            Ok(Formula::EqObj(a, b))
-        }
-        Formula::EqInt(a, b) => {
-            let a = map_int(alloc, a, depth, leaves)?;
-            let b = map_int(alloc, b, depth, leaves)?;
-            Ok(Formula::EqInt(a, b))
-        }
-        Formula::EqSet(a, b) => {
-            let a = map_set(alloc, a, depth, leaves)?;
-            let b = map_set(alloc, b, depth, leaves)?;
-            Ok(Formula::EqSet(a, b))
-        }
-        Formula::Less(a, b) => {
-            let a = map_int(alloc, a, depth, leaves)?;
-            let b = map_int(alloc, b, depth, leaves)?;
-            Ok(Formula::Less(a, b))
-        }
-        Formula::LessEq(a, b) => {
-            let a = map_int(alloc, a, depth, leaves)?;
-            let b = map_int(alloc, b, depth, leaves)?;
-            Ok(Formula::LessEq(a, b))
-        }
-        Formula::Divides(number, a) => {
-            let a = map_int(alloc, a, depth, leaves)?;
-            Ok(Formula::Divides(*number, a))
-        }
-        Formula::Member(a, b) => {
-            let a = map_term(alloc, a, depth, leaves)?;
-            let b = map_set(alloc, b, depth, leaves)?;
-            Ok(Formula::Member(a, b))
-        }
-        Formula::Subset(a, b) => {
-            let a = map_set(alloc, a, depth, leaves)?;
-            let b = map_set(alloc, b, depth, leaves)?;
-            Ok(Formula::Subset(a, b))
-        }
-        Formula::Reach(fields, a, b) => {
-            let fields = map_fields(alloc, fields.items(), depth, leaves)?;
-            let a = map_term(alloc, a, depth, leaves)?;
-            let b = map_term(alloc, b, depth, leaves)?;
-            Ok(Formula::Reach(Row::of(fields), a, b))
-        }
-        Formula::Tree(fields) => {
-            let fields = map_fields(alloc, fields.items(), depth, leaves)?;
-            Ok(Formula::Tree(Row::of(fields)))
-        }
-        Formula::Mark(mark, a) => {
-            let a = map_formula(alloc, a, depth, leaves)?;
-            let mark = copy_mark(alloc, mark)?;
-            let a = boxed(alloc, a)?;
-            Ok(Formula::Mark(mark, a))
-        }
+        Formula::Read(_, _) => map_read(alloc, formula, depth, leaves),
+        Formula::Not(_) => map_not(alloc, formula, depth, leaves),
+        Formula::And(_, _) => map_and(alloc, formula, depth, leaves),
+        Formula::Or(_, _) => map_or(alloc, formula, depth, leaves),
+        Formula::Implies(_, _) => map_implies(alloc, formula, depth, leaves),
+        Formula::Iff(_, _) => map_iff(alloc, formula, depth, leaves),
+        Formula::All(_) => map_all(alloc, formula, depth, leaves),
+        Formula::Ex(_) => map_ex(alloc, formula, depth, leaves),
+        Formula::EqObj(_, _) => map_eq_obj(alloc, formula, depth, leaves),
+        Formula::EqInt(_, _) => map_eq_int(alloc, formula, depth, leaves),
+        Formula::EqSet(_, _) => map_eq_set(alloc, formula, depth, leaves),
+        Formula::Less(_, _) => map_less(alloc, formula, depth, leaves),
+        Formula::LessEq(_, _) => map_less_eq(alloc, formula, depth, leaves),
+        Formula::Divides(_, _) => map_divides(alloc, formula, depth, leaves),
+        Formula::Member(_, _) => map_member(alloc, formula, depth, leaves),
+        Formula::Subset(_, _) => map_subset(alloc, formula, depth, leaves),
+        Formula::Reach(_, _, _) => map_reach(alloc, formula, depth, leaves),
+        Formula::Tree(_) => map_tree(alloc, formula, depth, leaves),
+        Formula::Mark(_, _) => map_mark(alloc, formula, depth, leaves),
     }
+}
+
+#[cycle(map)]
+#[inline(never)]
+fn map_read<L: Leaves>(
+    alloc: Global,
+    formula: &Formula,
+    depth: u32,
+    leaves: &L,
+) -> Result<Formula, NoMemory>
+    requires { is_read formula.now ≡ true }
+    ensures { IfOk result (λ made. formula_tree made ≡ mapped_formula (formula_tree formula.now) (L.leaves leaves.now) depth) }
+{
+    let Formula::Read(a, b) = formula else {
+        unreachable!()
+    };
+    let a = field_box(alloc, a, depth, leaves)?;
+    let b = term_box(alloc, b, depth, leaves)?;
+    Ok(Formula::Read(a, b))
+}
+
+#[cycle(map)]
+#[inline(never)]
+fn map_not<L: Leaves>(
+    alloc: Global,
+    formula: &Formula,
+    depth: u32,
+    leaves: &L,
+) -> Result<Formula, NoMemory>
+    requires { is_not formula.now ≡ true }
+    ensures { IfOk result (λ made. formula_tree made ≡ mapped_formula (formula_tree formula.now) (L.leaves leaves.now) depth) }
+{
+    let Formula::Not(a) = formula else {
+        unreachable!()
+    };
+    let a = formula_box(alloc, a, depth, leaves)?;
+    Ok(Formula::Not(a))
+}
+
+#[cycle(map)]
+#[inline(never)]
+fn map_and<L: Leaves>(
+    alloc: Global,
+    formula: &Formula,
+    depth: u32,
+    leaves: &L,
+) -> Result<Formula, NoMemory>
+    requires { is_and formula.now ≡ true }
+    ensures { IfOk result (λ made. formula_tree made ≡ mapped_formula (formula_tree formula.now) (L.leaves leaves.now) depth) }
+{
+    let Formula::And(a, b) = formula else {
+        unreachable!()
+    };
+    let a = formula_box(alloc, a, depth, leaves)?;
+    let b = formula_box(alloc, b, depth, leaves)?;
+    Ok(Formula::And(a, b))
+}
+
+#[cycle(map)]
+#[inline(never)]
+fn map_or<L: Leaves>(
+    alloc: Global,
+    formula: &Formula,
+    depth: u32,
+    leaves: &L,
+) -> Result<Formula, NoMemory>
+    requires { is_or formula.now ≡ true }
+    ensures { IfOk result (λ made. formula_tree made ≡ mapped_formula (formula_tree formula.now) (L.leaves leaves.now) depth) }
+{
+    let Formula::Or(a, b) = formula else {
+        unreachable!()
+    };
+    let a = formula_box(alloc, a, depth, leaves)?;
+    let b = formula_box(alloc, b, depth, leaves)?;
+    Ok(Formula::Or(a, b))
+}
+
+#[cycle(map)]
+#[inline(never)]
+fn map_implies<L: Leaves>(
+    alloc: Global,
+    formula: &Formula,
+    depth: u32,
+    leaves: &L,
+) -> Result<Formula, NoMemory>
+    requires { is_implies formula.now ≡ true }
+    ensures { IfOk result (λ made. formula_tree made ≡ mapped_formula (formula_tree formula.now) (L.leaves leaves.now) depth) }
+{
+    let Formula::Implies(a, b) = formula else {
+        unreachable!()
+    };
+    let a = formula_box(alloc, a, depth, leaves)?;
+    let b = formula_box(alloc, b, depth, leaves)?;
+    Ok(Formula::Implies(a, b))
+}
+
+#[cycle(map)]
+#[inline(never)]
+fn map_iff<L: Leaves>(
+    alloc: Global,
+    formula: &Formula,
+    depth: u32,
+    leaves: &L,
+) -> Result<Formula, NoMemory>
+    requires { is_iff formula.now ≡ true }
+    ensures { IfOk result (λ made. formula_tree made ≡ mapped_formula (formula_tree formula.now) (L.leaves leaves.now) depth) }
+{
+    let Formula::Iff(a, b) = formula else {
+        unreachable!()
+    };
+    let a = formula_box(alloc, a, depth, leaves)?;
+    let b = formula_box(alloc, b, depth, leaves)?;
+    Ok(Formula::Iff(a, b))
+}
+
+#[cycle(map)]
+#[inline(never)]
+fn map_all<L: Leaves>(
+    alloc: Global,
+    formula: &Formula,
+    depth: u32,
+    leaves: &L,
+) -> Result<Formula, NoMemory>
+    requires { is_all formula.now ≡ true }
+    ensures { IfOk result (λ made. formula_tree made ≡ mapped_formula (formula_tree formula.now) (L.leaves leaves.now) depth) }
+{
+    let Formula::All(a) = formula else {
+        unreachable!()
+    };
+    let below = deeper(depth)?;
+    let a = formula_box(alloc, a, below, leaves)?;
+    Ok(Formula::All(a))
+}
+
+#[cycle(map)]
+#[inline(never)]
+fn map_ex<L: Leaves>(
+    alloc: Global,
+    formula: &Formula,
+    depth: u32,
+    leaves: &L,
+) -> Result<Formula, NoMemory>
+    requires { is_ex formula.now ≡ true }
+    ensures { IfOk result (λ made. formula_tree made ≡ mapped_formula (formula_tree formula.now) (L.leaves leaves.now) depth) }
+{
+    let Formula::Ex(a) = formula else {
+        unreachable!()
+    };
+    let below = deeper(depth)?;
+    let a = formula_box(alloc, a, below, leaves)?;
+    Ok(Formula::Ex(a))
+}
+
+#[cycle(map)]
+#[inline(never)]
+fn map_eq_obj<L: Leaves>(
+    alloc: Global,
+    formula: &Formula,
+    depth: u32,
+    leaves: &L,
+) -> Result<Formula, NoMemory>
+    requires { is_eq_obj formula.now ≡ true }
+    ensures { IfOk result (λ made. formula_tree made ≡ mapped_formula (formula_tree formula.now) (L.leaves leaves.now) depth) }
+{
+    let Formula::EqObj(a, b) = formula else {
+        unreachable!()
+    };
+    let a = map_term(alloc, a, depth, leaves)?;
+    let b = map_term(alloc, b, depth, leaves)?;
+    Ok(Formula::EqObj(a, b))
+}
+
+#[cycle(map)]
+#[inline(never)]
+fn map_eq_int<L: Leaves>(
+    alloc: Global,
+    formula: &Formula,
+    depth: u32,
+    leaves: &L,
+) -> Result<Formula, NoMemory>
+    requires { is_eq_int formula.now ≡ true }
+    ensures { IfOk result (λ made. formula_tree made ≡ mapped_formula (formula_tree formula.now) (L.leaves leaves.now) depth) }
+{
+    let Formula::EqInt(a, b) = formula else {
+        unreachable!()
+    };
+    let a = map_int(alloc, a, depth, leaves)?;
+    let b = map_int(alloc, b, depth, leaves)?;
+    Ok(Formula::EqInt(a, b))
+}
+
+#[cycle(map)]
+#[inline(never)]
+fn map_eq_set<L: Leaves>(
+    alloc: Global,
+    formula: &Formula,
+    depth: u32,
+    leaves: &L,
+) -> Result<Formula, NoMemory>
+    requires { is_eq_set formula.now ≡ true }
+    ensures { IfOk result (λ made. formula_tree made ≡ mapped_formula (formula_tree formula.now) (L.leaves leaves.now) depth) }
+{
+    let Formula::EqSet(a, b) = formula else {
+        unreachable!()
+    };
+    let a = map_set(alloc, a, depth, leaves)?;
+    let b = map_set(alloc, b, depth, leaves)?;
+    Ok(Formula::EqSet(a, b))
+}
+
+#[cycle(map)]
+#[inline(never)]
+fn map_less<L: Leaves>(
+    alloc: Global,
+    formula: &Formula,
+    depth: u32,
+    leaves: &L,
+) -> Result<Formula, NoMemory>
+    requires { is_less formula.now ≡ true }
+    ensures { IfOk result (λ made. formula_tree made ≡ mapped_formula (formula_tree formula.now) (L.leaves leaves.now) depth) }
+{
+    let Formula::Less(a, b) = formula else {
+        unreachable!()
+    };
+    let a = map_int(alloc, a, depth, leaves)?;
+    let b = map_int(alloc, b, depth, leaves)?;
+    Ok(Formula::Less(a, b))
+}
+
+#[cycle(map)]
+#[inline(never)]
+fn map_less_eq<L: Leaves>(
+    alloc: Global,
+    formula: &Formula,
+    depth: u32,
+    leaves: &L,
+) -> Result<Formula, NoMemory>
+    requires { is_less_eq formula.now ≡ true }
+    ensures { IfOk result (λ made. formula_tree made ≡ mapped_formula (formula_tree formula.now) (L.leaves leaves.now) depth) }
+{
+    let Formula::LessEq(a, b) = formula else {
+        unreachable!()
+    };
+    let a = map_int(alloc, a, depth, leaves)?;
+    let b = map_int(alloc, b, depth, leaves)?;
+    Ok(Formula::LessEq(a, b))
+}
+
+#[cycle(map)]
+#[inline(never)]
+fn map_divides<L: Leaves>(
+    alloc: Global,
+    formula: &Formula,
+    depth: u32,
+    leaves: &L,
+) -> Result<Formula, NoMemory>
+    requires { is_divides formula.now ≡ true }
+    ensures { IfOk result (λ made. formula_tree made ≡ mapped_formula (formula_tree formula.now) (L.leaves leaves.now) depth) }
+{
+    let Formula::Divides(number, a) = formula else {
+        unreachable!()
+    };
+    let a = map_int(alloc, a, depth, leaves)?;
+    Ok(Formula::Divides(*number, a))
+}
+
+#[cycle(map)]
+#[inline(never)]
+fn map_member<L: Leaves>(
+    alloc: Global,
+    formula: &Formula,
+    depth: u32,
+    leaves: &L,
+) -> Result<Formula, NoMemory>
+    requires { is_member formula.now ≡ true }
+    ensures { IfOk result (λ made. formula_tree made ≡ mapped_formula (formula_tree formula.now) (L.leaves leaves.now) depth) }
+{
+    let Formula::Member(a, b) = formula else {
+        unreachable!()
+    };
+    let a = map_term(alloc, a, depth, leaves)?;
+    let b = map_set(alloc, b, depth, leaves)?;
+    Ok(Formula::Member(a, b))
+}
+
+#[cycle(map)]
+#[inline(never)]
+fn map_subset<L: Leaves>(
+    alloc: Global,
+    formula: &Formula,
+    depth: u32,
+    leaves: &L,
+) -> Result<Formula, NoMemory>
+    requires { is_subset formula.now ≡ true }
+    ensures { IfOk result (λ made. formula_tree made ≡ mapped_formula (formula_tree formula.now) (L.leaves leaves.now) depth) }
+{
+    let Formula::Subset(a, b) = formula else {
+        unreachable!()
+    };
+    let a = map_set(alloc, a, depth, leaves)?;
+    let b = map_set(alloc, b, depth, leaves)?;
+    Ok(Formula::Subset(a, b))
+}
+
+#[cycle(map)]
+#[inline(never)]
+fn map_reach<L: Leaves>(
+    alloc: Global,
+    formula: &Formula,
+    depth: u32,
+    leaves: &L,
+) -> Result<Formula, NoMemory>
+    requires { is_reach formula.now ≡ true }
+    ensures { IfOk result (λ made. formula_tree made ≡ mapped_formula (formula_tree formula.now) (L.leaves leaves.now) depth) }
+{
+    let Formula::Reach(fields, a, b) = formula else {
+        unreachable!()
+    };
+    let fields = map_fields(alloc, fields.items(), depth, leaves)?;
+    let a = map_term(alloc, a, depth, leaves)?;
+    let b = map_term(alloc, b, depth, leaves)?;
+    Ok(Formula::Reach(Row::of(fields), a, b))
+}
+
+#[cycle(map)]
+#[inline(never)]
+fn map_tree<L: Leaves>(
+    alloc: Global,
+    formula: &Formula,
+    depth: u32,
+    leaves: &L,
+) -> Result<Formula, NoMemory>
+    requires { is_tree formula.now ≡ true }
+    ensures { IfOk result (λ made. formula_tree made ≡ mapped_formula (formula_tree formula.now) (L.leaves leaves.now) depth) }
+{
+    let Formula::Tree(fields) = formula else {
+        unreachable!()
+    };
+    let fields = map_fields(alloc, fields.items(), depth, leaves)?;
+    Ok(Formula::Tree(Row::of(fields)))
+}
+
+#[cycle(map)]
+#[inline(never)]
+fn map_mark<L: Leaves>(
+    alloc: Global,
+    formula: &Formula,
+    depth: u32,
+    leaves: &L,
+) -> Result<Formula, NoMemory>
+    requires { is_mark formula.now ≡ true }
+    ensures { IfOk result (λ made. formula_tree made ≡ mapped_formula (formula_tree formula.now) (L.leaves leaves.now) depth) }
+{
+    let Formula::Mark(mark, a) = formula else {
+        unreachable!()
+    };
+    let a = formula_box(alloc, a, depth, leaves)?;
+    let mark = copy_mark(alloc, mark)?;
+    Ok(Formula::Mark(mark, a))
 }
 
 #[cycle(map)]
@@ -325,4 +643,88 @@ pub fn map_fields<L: Leaves>(
         made.push(mapped)?;
     }
     Ok(made)
+}
+
+#[cycle(map)]
+#[inline(never)]
+fn term_box<L: Leaves>(
+    alloc: Global,
+    term: &Term,
+    depth: u32,
+    leaves: &L,
+) -> Result<Box<Term>, NoMemory>
+    ensures { IfOk result (λ made. term_tree made.value ≡ mapped_term (term_tree term.now) (L.leaves leaves.now) depth) }
+{
+    let made = map_term(alloc, term, depth, leaves)?;
+    boxed(alloc, made)
+}
+
+#[cycle(map)]
+#[inline(never)]
+fn int_box<L: Leaves>(
+    alloc: Global,
+    term: &IntTerm,
+    depth: u32,
+    leaves: &L,
+) -> Result<Box<IntTerm>, NoMemory>
+    ensures { IfOk result (λ made. int_tree made.value ≡ mapped_int (int_tree term.now) (L.leaves leaves.now) depth) }
+{
+    let made = map_int(alloc, term, depth, leaves)?;
+    boxed(alloc, made)
+}
+
+#[cycle(map)]
+#[inline(never)]
+fn set_box<L: Leaves>(
+    alloc: Global,
+    term: &SetTerm,
+    depth: u32,
+    leaves: &L,
+) -> Result<Box<SetTerm>, NoMemory>
+    ensures { IfOk result (λ made. set_tree made.value ≡ mapped_set (set_tree term.now) (L.leaves leaves.now) depth) }
+{
+    let made = map_set(alloc, term, depth, leaves)?;
+    boxed(alloc, made)
+}
+
+#[cycle(map)]
+#[inline(never)]
+fn field_box<L: Leaves>(
+    alloc: Global,
+    field: &FieldTerm,
+    depth: u32,
+    leaves: &L,
+) -> Result<Box<FieldTerm>, NoMemory>
+    ensures { IfOk result (λ made. field_tree made.value ≡ mapped_field (field_tree field.now) (L.leaves leaves.now) depth) }
+{
+    let made = map_field(alloc, field, depth, leaves)?;
+    boxed(alloc, made)
+}
+
+#[cycle(map)]
+#[inline(never)]
+fn value_box<L: Leaves>(
+    alloc: Global,
+    value: &Value,
+    depth: u32,
+    leaves: &L,
+) -> Result<Box<Value>, NoMemory>
+    ensures { IfOk result (λ made. value_tree made.value ≡ mapped_value (value_tree value.now) (L.leaves leaves.now) depth) }
+{
+    let made = map_value(alloc, value, depth, leaves)?;
+    boxed(alloc, made)
+}
+
+#[cycle(map)]
+#[inline(never)]
+fn formula_box<L: Leaves>(
+    alloc: Global,
+    formula: &Formula,
+    depth: u32,
+    leaves: &L,
+) -> Result<Box<Formula>, NoMemory>
+    ensures { IfOk result (λ made. formula_tree made.value ≡ mapped_formula (formula_tree formula.now) (L.leaves leaves.now) depth) }
+{
+    let made = map_formula(alloc, formula, depth, leaves)?;
+    boxed(alloc, made)
 }
