@@ -129,6 +129,59 @@ def call(head, words):
     return head if not words else f"{head} {' '.join(words)}"
 
 
+# ---------------------------------------------------------------- which shape a formula has
+
+# the kinds of formulas by their parts, as jh_tree lets them go
+KINDS = {
+    'Connective': 'True False Free Read Not And Or Implies Iff All Ex',
+    'Other': 'Mark EqObj Member Reach Tree',
+    'Pair': 'EqInt Less LessEq Divides EqSet Subset',
+}
+
+
+def any_formula(variant, kinds):
+    """The pattern of a formula of this variant, whatever its parts."""
+    head, words = bare_pattern('P', variant, kinds)
+    return apply('formula.' + head.split('.')[1], ['_'] * len(words))
+
+
+def snake(variant):
+    return ''.join('_' + c.lower() if c.isupper() else c for c in variant).lstrip('_')
+
+
+def shapes_file():
+    out = ["""-- Which connective or atom a formula is. Each function that maps one of them alone asks for it.
+use Rattle.std.specs.Prelude.{Bool, true, false}
+use Rattle.jh_tree.specs.declared.form.Formula.{Formula}
+use Rattle.jh_tree.specs.declared.form.Formula.TheVariants as formula
+"""]
+    for variant, _, kinds in TYPES['P'][3]:
+        if any(is_part(k) for k in kinds):
+            name = f"is_{snake(variant)}"
+            out.append(f"""
+abbrev pub {name} : Formula → Bool
+{name} {any_formula(variant, kinds)} = true
+{name} _ = false
+""")
+    return ''.join(out)
+
+
+def kinds_file():
+    arguments = {variant: kinds for variant, _, kinds in TYPES['P'][3]}
+    out = ["""-- What the parts of a formula are.
+use Rattle.jh_tree.specs.declared.form.Formula.{Formula}
+use Rattle.jh_tree.specs.declared.form.Formula.TheVariants as formula
+use Rattle.jh_tree.specs.declared.form.Kind.{Kind}
+use Rattle.jh_tree.specs.declared.form.Kind.TheVariants as kind
+
+abbrev pub kind_of : Formula → Kind
+"""]
+    for kind, variants in KINDS.items():
+        for variant in variants.split():
+            out.append(f"kind_of {any_formula(variant, arguments[variant])} = kind.{kind}\n")
+    return ''.join(out)
+
+
 # ---------------------------------------------------------------- specs/Tree.antt
 
 def tree_file():
@@ -831,6 +884,8 @@ if __name__ == '__main__':
     write('jh_tree/specs/Tree.antt', tree_file())
     write('jh_tree/specs/Bare.antt', bare_file())
     write('jh_tree/proofs/Steps.antt', steps_file())
+    write('jh_tree/specs/Kinds.antt', kinds_file())
+    write('jh_walk/specs/Shapes.antt', shapes_file())
     write('jh_walk/specs/Mapped.antt', mapped_file())
     write('jh_walk/specs/Sizes.antt', sizes_file())
     write('jh_walk/specs/Parts.antt', parts_file())

@@ -1,94 +1,12 @@
 #!/usr/bin/env python3
-"""Writes the recursions of jh_walk over the formula types, one arm for each variant."""
+"""Writes the recursions of jh_walk that ask something of the formula types, one arm for each variant.
+
+The mapping, which builds formulas, is kept by hand."""
 import sys
 sys.path.insert(0, __file__.rsplit('/', 1)[0])
-from forms import TYPES, ORDER, core, is_part, boxed, names
+from forms import TYPES, ORDER, core, is_part, names
 
 PARAM = {'T': 'term', 'I': 'term', 'S': 'term', 'F': 'field', 'V': 'value', 'P': 'formula'}
-LEAFCALL = {'free_object': 'object', 'free_number': 'integer', 'free_set': 'set', 'free_field': 'field', 'free_truth': 'truth'}
-
-
-def map_call(kind, n):
-    c = core(kind)
-    d = 'below' if kind.endswith('+') else 'depth'
-    if c == 'L':
-        return f"map_fields(alloc, {n}.items(), {d}, leaves)?"
-    return f"map_{TYPES[c][2]}(alloc, {n}, {d}, leaves)?"
-
-
-def map_arm(code, variant, ctor, kinds):
-    rust = TYPES[code][0]
-    ns = ['fields' if core(k) == 'L' else {'x': 'name', 'k': 'number' if core(k) == 'u' else 'mark', 'z': 'number'}.get(n, n) for k, n in zip(kinds, names(kinds))]
-    pat = f"{rust}::{variant}" + (f"({', '.join(ns)})" if ns else '')
-    if ctor in LEAFCALL:
-        return f"        {pat} => leaves.{LEAFCALL[ctor]}(alloc, name, depth),\n"
-    if ctor == 'bound':
-        return f"        {pat} => leaves.bound(alloc, *number, depth),\n"
-    if not any(is_part(k) for k in kinds):
-        arg = '(' + ', '.join('*' + n for n in ns) + ')' if ns else ''
-        return f"        {pat} => Ok({rust}::{variant}{arg}),\n"
-    lines = []
-    if any(k.endswith('+') for k in kinds):
-        lines.append("let below = deeper(depth)?;")
-    for k, n in zip(kinds, ns):
-        if is_part(k):
-            lines.append(f"let {n} = {map_call(k, n)};")
-    for k, n in zip(kinds, ns):
-        if core(k) == 'k':
-            lines.append(f"let {n} = copy_mark(alloc, {n})?;")
-    boxes = [n for k, n in zip(kinds, ns) if boxed(k)]
-    if len(boxes) == 1:
-        lines.append(f"let {boxes[0]} = boxed(alloc, {boxes[0]})?;")
-    elif len(boxes) == 2:
-        lines.append(f"let ({', '.join(boxes)}) = boxed_two(alloc, {', '.join(boxes)})?;")
-    elif len(boxes) == 3:
-        lines.append(f"let ({', '.join(boxes)}) = boxed_three(alloc, {', '.join(boxes)})?;")
-    args = []
-    for k, n in zip(kinds, ns):
-        args.append(f"Row::of({n})" if core(k) == 'L' else f"*{n}" if core(k) in 'zu' else n)
-    lines.append(f"Ok({rust}::{variant}({', '.join(args)}))")
-    return f"        {pat} => {{\n" + ''.join(f"            {l}\n" for l in lines) + "        }\n"
-
-
-def mapping():
-    out = ["""#![tactic(auto, using(jh_tree::proofs::Steps::tree_steps, crate::proofs::MapSteps::map_steps))]
-
-ghost use Rattle.std.specs.Prelude.{◌≡◌, IfOk};
-ghost use Rattle.jh_tree.specs.Bare.{term_tree, int_tree, set_tree, field_tree, value_tree, formula_tree, list_tree};
-ghost use Rattle.jh_walk.specs.Mapped.{mapped_term, mapped_int, mapped_set, mapped_field, mapped_value, mapped_formula, mapped_fields};
-
-use crate::boxes::{boxed, boxed_three, boxed_two};
-use crate::copying::copy_mark;
-use crate::counting::deeper;
-use crate::walk::Leaves;
-use jh_name::{NoMemory, Row};
-use jh_tree::{FieldTerm, Formula, IntTerm, SetTerm, Term, Value};
-use std::alloc::Global;
-"""]
-    for code in ORDER:
-        rust, tree, fn, variants = TYPES[code]
-        p = PARAM[code]
-        out.append(f"""
-#[cycle(map)]
-pub fn map_{fn}<L: Leaves>(alloc: Global, {p}: &{rust}, depth: u32, leaves: &L) -> Result<{rust}, NoMemory>
-    ensures {{ IfOk result (λ made. {fn}_tree made ≡ mapped_{fn} ({fn}_tree {p}.now) (L.leaves leaves.now) depth) }}
-{{
-    match {p} {{
-""" + ''.join(map_arm(code, v, ctor, kinds) for v, ctor, kinds in variants) + "    }\n}\n")
-    out.append("""
-#[cycle(map)]
-pub fn map_fields<L: Leaves>(alloc: Global, fields: &[FieldTerm], depth: u32, leaves: &L) -> Result<Vec<FieldTerm>, NoMemory>
-    ensures { IfOk result (λ made. list_tree made.items ≡ mapped_fields (list_tree fields.now) (L.leaves leaves.now) depth) }
-{
-    let mut made = Vec::new(alloc);
-    for field in fields {
-        let mapped = map_field(alloc, field, depth, leaves)?;
-        made.push(mapped)?;
-    }
-    Ok(made)
-}
-""")
-    return ''.join(out)
 
 
 def extent_arm(code, variant, ctor, kinds):
@@ -197,6 +115,5 @@ pub fn names_fields<T: NameTest>(fields: &[FieldTerm], test: &T) -> bool
 
 if __name__ == '__main__':
     root = sys.argv[1]
-    open(f'{root}/crates/jh_walk/src/mapping.rt', 'w').write(mapping())
     open(f'{root}/crates/jh_walk/src/extent.rt', 'w').write(extent())
     open(f'{root}/crates/jh_walk/src/passing.rt', 'w').write(naming())

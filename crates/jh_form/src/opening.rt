@@ -40,6 +40,8 @@ impl Leaves for Opening<'_> {
         Unchanged.field(alloc, name, depth)
     }
 
+    // Out of line, so that the levels above a leaf don't keep its room on the stack.
+    #[inline(never)]
     fn bound(&self, alloc: Global, number: u32, depth: u32) -> Result<Term, NoMemory> {
         if number < depth {
             Ok(Term::Bound(number))

@@ -22,9 +22,11 @@ struct Substituting<'a> {
     value: &'a Value,
 }
 
+// Out of line, so that the levels above a leaf don't keep its room on the stack.
 impl Leaves for Substituting<'_> {
     ghost leaves = { λ s. substituting s.name.now (value_tree s.value.now) };
 
+    #[inline(never)]
     fn object(&self, alloc: Global, name: &Name, depth: u32) -> Result<Term, NoMemory> {
         match self.value {
             Value::Obj(with) => {
@@ -41,6 +43,7 @@ impl Leaves for Substituting<'_> {
         }
     }
 
+    #[inline(never)]
     fn integer(&self, alloc: Global, name: &Name, depth: u32) -> Result<IntTerm, NoMemory> {
         match self.value {
             Value::Obj(_) => Unchanged.integer(alloc, name, depth),
@@ -57,6 +60,7 @@ impl Leaves for Substituting<'_> {
         }
     }
 
+    #[inline(never)]
     fn truth(&self, alloc: Global, name: &Name, depth: u32) -> Result<Formula, NoMemory> {
         match self.value {
             Value::Obj(_) => Unchanged.truth(alloc, name, depth),
@@ -73,6 +77,7 @@ impl Leaves for Substituting<'_> {
         }
     }
 
+    #[inline(never)]
     fn set(&self, alloc: Global, name: &Name, depth: u32) -> Result<SetTerm, NoMemory> {
         match self.value {
             Value::Obj(_) => Unchanged.set(alloc, name, depth),
@@ -89,6 +94,7 @@ impl Leaves for Substituting<'_> {
         }
     }
 
+    #[inline(never)]
     fn field(&self, alloc: Global, name: &Name, depth: u32) -> Result<FieldTerm, NoMemory> {
         match self.value {
             Value::Obj(_) => Unchanged.field(alloc, name, depth),
@@ -105,6 +111,7 @@ impl Leaves for Substituting<'_> {
         }
     }
 
+    #[inline(never)]
     fn bound(&self, alloc: Global, number: u32, depth: u32) -> Result<Term, NoMemory> {
         Unchanged.bound(alloc, number, depth)
     }

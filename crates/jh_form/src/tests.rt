@@ -6,6 +6,7 @@ use crate::{
 use jh_name::{Name, NoMemory, name};
 use jh_walk::{boxed, boxed_three, boxed_two};
 use std::alloc::Global;
+use std::process::Abort;
 use std::test::Fail;
 
 fn free(alloc: Global, text: &str) -> Result<Term, NoMemory> {
@@ -33,11 +34,50 @@ fn under_two(alloc: Global, a: Term, b: Term, c: Term) -> Result<Formula, NoMemo
     all(alloc, inner)
 }
 
+/// `count` levels of negations over true.
 fn negations(alloc: Global, count: u32) -> Result<Formula, NoMemory> {
     let mut made = Formula::True;
     for _ in 0..count {
         let inner = boxed(alloc, made)?;
         made = Formula::Not(inner);
+    }
+    Ok(made)
+}
+
+/// `count` pairs of levels, which bind a variable each: `ALL x. null : {y | ..}`.
+fn binders(alloc: Global, count: u32) -> Result<Formula, NoMemory> {
+    let mut made = Formula::True;
+    for _ in 0..count {
+        let inner = boxed(alloc, made)?;
+        let inner = boxed(alloc, Formula::Member(Term::Null, SetTerm::Compr(inner)))?;
+        made = Formula::All(inner);
+    }
+    Ok(made)
+}
+
+/// `count` reads of a field after a write of a truth: `next[null := ..](null) = null`.
+fn updates(alloc: Global, count: u32) -> Result<Formula, NoMemory> {
+    let mut made = Formula::True;
+    for _ in 0..count {
+        let next = name(alloc, "next", 0)?;
+        let (field, at, with) = boxed_three(
+            alloc,
+            FieldTerm::Free(next),
+            Term::Null,
+            Value::Bool(made),
+        )?;
+        let (field, at) = boxed_two(alloc, FieldTerm::Update(field, at, with), Term::Null)?;
+        made = Formula::EqObj(Term::Read(field, at), Term::Null);
+    }
+    Ok(made)
+}
+
+/// `count` conjunctions, each the left part of the next.
+fn conjunctions(alloc: Global, count: u32) -> Result<Formula, NoMemory> {
+    let mut made = Formula::True;
+    for _ in 0..count {
+        let (left, right) = boxed_two(alloc, made, Formula::False)?;
+        made = Formula::And(left, right);
     }
     Ok(made)
 }
@@ -84,24 +124,55 @@ fn substitutes_under_binders_and_updates(rt: HostRuntime) -> Result<(), Fail> {
     Ok(())
 }
 
-#[test]
-fn carries_deep_formulas(rt: HostRuntime) -> Result<(), Fail> {
-    let alloc = rt.alloc();
-    let deep = negations(alloc, 1_000)?;
-    assert_eq!(rt; deep.size(), 1_001);
-    assert_eq!(rt; deep.depth(), 1_001);
-    let copied = copy(alloc, &deep)?;
-    assert!(rt; same(&deep, &copied));
-    let opened = open(alloc, &deep, &Term::Null)?;
+/// Asks, compares, maps and drops a deep formula, of which another stands beside it.
+fn carries(
+    rt: &impl Abort,
+    alloc: Global,
+    deep: &Formula,
+    other: &Formula,
+    depth: u64,
+) -> Result<(), Fail> {
+    assert_eq!(rt; deep.depth(), depth);
+    assert!(rt; deep.size() >= depth);
+    assert!(rt; same(deep, other));
+    let copied = copy(alloc, deep)?;
+    assert!(rt; same(deep, &copied));
+    let opened = open(alloc, deep, &Term::Null)?;
     let x = name(alloc, "x", 0)?;
-    let made = subst(alloc, &opened, &x, &Value::Obj(Term::Null))?;
-    assert!(rt;
-        replaces(
-            &deep,
-            &made,
-            &Value::Obj(Term::Null),
-            &Value::Obj(Term::Null)
-        )
-    );
+    let null = Value::Obj(Term::Null);
+    let made = subst(alloc, &opened, &x, &null)?;
+    assert!(rt; replaces(deep, &made, &null, &null));
     Ok(())
+}
+
+#[test]
+fn carries_deep_negations(rt: HostRuntime) -> Result<(), Fail> {
+    let alloc = rt.alloc();
+    let deep = negations(alloc, 10_000)?;
+    let other = negations(alloc, 10_000)?;
+    carries(&rt, alloc, &deep, &other, 10_001)
+}
+
+#[test]
+fn carries_deep_conjunctions(rt: HostRuntime) -> Result<(), Fail> {
+    let alloc = rt.alloc();
+    let deep = conjunctions(alloc, 10_000)?;
+    let other = conjunctions(alloc, 10_000)?;
+    carries(&rt, alloc, &deep, &other, 10_001)
+}
+
+#[test]
+fn carries_deep_binders(rt: HostRuntime) -> Result<(), Fail> {
+    let alloc = rt.alloc();
+    let deep = binders(alloc, 3_500)?;
+    let other = binders(alloc, 3_500)?;
+    carries(&rt, alloc, &deep, &other, 10_501)
+}
+
+#[test]
+fn carries_deep_updates(rt: HostRuntime) -> Result<(), Fail> {
+    let alloc = rt.alloc();
+    let deep = updates(alloc, 3_500)?;
+    let other = updates(alloc, 3_500)?;
+    carries(&rt, alloc, &deep, &other, 10_501)
 }

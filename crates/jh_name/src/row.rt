@@ -8,9 +8,15 @@ use std::marker::Model;
 
 /// A list that contracts see as its items, without its memory. It can stand inside the type of its
 /// items.
-#[derive(Debug, Drop)]
+#[derive(Debug)]
 pub struct Row<T> {
     items: Vec<T>,
+}
+
+impl<T: Drop> Drop for Row<T> {
+    fn drop(self) {
+        let Row { items: _items } = self;
+    }
 }
 
 impl<T> Model for Row<T> {

@@ -6,3 +6,4 @@ pub mod Passing
 pub mod Agreement
 pub mod Assigned
 pub mod Laws
+pub mod Kinds

@@ -12,34 +12,41 @@ use std::alloc::Global;
 #[derive(Clone, Copy, Debug)]
 pub struct Unchanged;
 
+// Out of line, so that the levels above a leaf don't keep its room on the stack.
 impl Leaves for Unchanged {
     ghost leaves = { λ _. unchanged };
 
+    #[inline(never)]
     fn object(&self, alloc: Global, name: &Name, _depth: u32) -> Result<Term, NoMemory> {
         let name = name.copy(alloc)?;
         Ok(Term::Free(name))
     }
 
+    #[inline(never)]
     fn integer(&self, alloc: Global, name: &Name, _depth: u32) -> Result<IntTerm, NoMemory> {
         let name = name.copy(alloc)?;
         Ok(IntTerm::Free(name))
     }
 
+    #[inline(never)]
     fn truth(&self, alloc: Global, name: &Name, _depth: u32) -> Result<Formula, NoMemory> {
         let name = name.copy(alloc)?;
         Ok(Formula::Free(name))
     }
 
+    #[inline(never)]
     fn set(&self, alloc: Global, name: &Name, _depth: u32) -> Result<SetTerm, NoMemory> {
         let name = name.copy(alloc)?;
         Ok(SetTerm::Free(name))
     }
 
+    #[inline(never)]
     fn field(&self, alloc: Global, name: &Name, _depth: u32) -> Result<FieldTerm, NoMemory> {
         let name = name.copy(alloc)?;
         Ok(FieldTerm::Free(name))
     }
 
+    #[inline(never)]
     fn bound(&self, _alloc: Global, number: u32, _depth: u32) -> Result<Term, NoMemory> {
         Ok(Term::Bound(number))
     }
