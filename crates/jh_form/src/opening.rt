@@ -17,30 +17,35 @@ struct Opening<'a> {
     with: &'a Term,
 }
 
+// Out of line, so that the levels above a leaf don't keep its room on the stack.
 impl Leaves for Opening<'_> {
     ghost leaves = { λ s. opening (term_tree s.with.now) };
 
+    #[inline(never)]
     fn object(&self, alloc: Global, name: &Name, depth: u32) -> Result<Term, NoMemory> {
         Unchanged.object(alloc, name, depth)
     }
 
+    #[inline(never)]
     fn integer(&self, alloc: Global, name: &Name, depth: u32) -> Result<IntTerm, NoMemory> {
         Unchanged.integer(alloc, name, depth)
     }
 
+    #[inline(never)]
     fn truth(&self, alloc: Global, name: &Name, depth: u32) -> Result<Formula, NoMemory> {
         Unchanged.truth(alloc, name, depth)
     }
 
+    #[inline(never)]
     fn set(&self, alloc: Global, name: &Name, depth: u32) -> Result<SetTerm, NoMemory> {
         Unchanged.set(alloc, name, depth)
     }
 
+    #[inline(never)]
     fn field(&self, alloc: Global, name: &Name, depth: u32) -> Result<FieldTerm, NoMemory> {
         Unchanged.field(alloc, name, depth)
     }
 
-    // Out of line, so that the levels above a leaf don't keep its room on the stack.
     #[inline(never)]
     fn bound(&self, alloc: Global, number: u32, depth: u32) -> Result<Term, NoMemory> {
         if number < depth {
