@@ -28,5 +28,5 @@ pub use laws::exchange_keeps_meaning;
 pub use opening::open;
 pub use replacing::replaces;
 pub use same_formulas::same;
-pub use sorts::sort_of;
+pub use sorts::{StandsOnlyAt, sort_of};
 pub use substituting::subst;

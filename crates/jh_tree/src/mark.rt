@@ -26,7 +26,7 @@ pub enum MarkKind {
 }
 
 /// The label of a part of a formula. It changes no meaning.
-#[derive(Debug, Drop)]
+#[derive(Debug, PartialEq, Eq, Hash, Drop)]
 pub struct Mark {
     pub kind: MarkKind,
     /// Where the source states the part.

@@ -14,7 +14,7 @@ mod walking;
 
 pub use boxes::{boxed, boxed_three, boxed_two};
 pub use copying::{copy_mark, copy_names};
-pub use counting::{Extent, beside, deeper, over};
+pub use counting::{Extent, NOTHING, beside, deeper, over};
 pub use laws::{map_keeps_meaning, part_is_smaller};
 pub use mapping::{map_field, map_formula, map_int, map_set, map_term, map_value};
 pub use passing::{names_field, names_formula, names_int, names_set, names_term, names_value};
