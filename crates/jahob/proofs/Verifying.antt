@@ -1,5 +1,5 @@
 -- From what was read and answered to the headline.
-use Rattle.std.proofs.Common.{◌≡◌, ℕ, List, ap, sym, ◌∙◌, Bool, true, false, refl, arith, inl, inr}
+use Rattle.std.proofs.Common.{◌≡◌, ℕ, List, ap, sym, ◌∙◌, Bool, true, false, refl, arith}
 use Rattle.std.specs.Prelude.{Option, None, Some, if◌then◌else◌}
 use Rattle.jahob.specs.declared.token.Token.{Token}
 use Rattle.jahob.specs.declared.tree.Program.{Program}
@@ -8,10 +8,7 @@ use Rattle.jahob.specs.Lexing.{Lexes}
 use Rattle.jahob.specs.Reading.{program_of}
 use Rattle.jahob.specs.Checked.{is_sound}
 use Rattle.jahob.specs.Obligations.{sequents_of}
-use Rattle.jahob.specs.Verify.{Spells, IsReport, IsRead, Fits, FitsFile, Verifies}
-use Rattle.jahob.specs.Words.{verify_file}
-use Rattle.jahob.specs.declared.top.Reply.{Reply}
-use Rattle.jahob.specs.declared.top.Reply.TheVariants as reply
+use Rattle.jahob.specs.Verify.{Spells, Reports, Verifies, all_proved}
 use Rattle.jahob.proofs.Cuts.{cuts-one}
 use Rattle.jahob.proofs.Rights.{proved-valid}
 use Rattle.jahob.proofs.Soundness.{valid_sound}
@@ -41,35 +38,19 @@ spelled-named bytes ts p q lexes read spells named =
     let wrong : true ≡ false = sym fact ∙ named in
     cc
 
--- the headline, where all answers are proofs
-pub verifies : (words : List (List ℕ)) (holds : List ℕ → Option (List ℕ)) (p : Program) (text : List ℕ) (accepted : Bool) → IsRead words holds p → IsReport p text accepted → accepted ≡ true → Verifies words holds
-verifies words holds p text accepted read report proved = record {
-  program = p;
-  read = read;
-  sound = valid_sound p (proved-valid (sequents_of p) report.answers report.right (sym report.accepted_is ∙ proved));
+-- only accepted has status 0
+accepted-by : (b : Bool) → ◌≡◌ {A = ℕ} (if b then 0 else 1) 0 → b ≡ true
+accepted-by true h = refl
+accepted-by false h = absurd (omega arith)
+
+-- the headline, where a report with status 0 was made
+pub reports-verifies : (words : List (List ℕ)) (holds : List ℕ → Option (List ℕ)) (before after : Option (List ℕ)) (status : ℕ) → Reports words holds before after status → status ≡ 0 → Verifies words holds
+reports-verifies words holds before after status report zero = record {
+  program = report.program;
+  read = report.read;
+  sound = valid_sound report.program (proved-valid (sequents_of report.program) report.answers report.right (accepted-by (all_proved report.answers) (sym report.status_is ∙ zero)));
 }
 
 -- where the program of tokens isn't there, nothing is spelled
 pub none-spelled : (bytes : List ℕ) (ts : List Token) (p : Program) → Lexes bytes ts → program_of ts ≡ None → Spells bytes p → ⊥
 none-spelled bytes ts p lexes none spells = let both : None ≡ Some p = sym none ∙ spelled-read bytes ts p lexes spells in cc
-
--- a reply that fits what a file holds fits the words that ask for the file
-pub fits-file : (words : List (List ℕ)) (holds : List ℕ → Option (List ℕ)) (file : List ℕ) (answer : Reply) → verify_file words ≡ Some file → FitsFile (holds file) answer → Fits words holds answer
-fits-file words holds file (reply.Report text accepted) asked fits =
-    elim fits [
-      | inl fault ↦ absurd fault
-      | inr there ↦ (there.2.0, record { file = file; bytes = there.0; asked = asked; told = there.1; spelled = there.2.1; only = λ q other. spells-one there.0 q there.2.0 other there.2.1 }, there.2.2)
-    ]
-fits-file words holds file reply.Usage asked fits = elim fits [ inl fault ↦ absurd fault | inr there ↦ absurd there.2 ]
-fits-file words holds file reply.Refused asked fits =
-    elim fits [
-      | inl fault ↦ absurd fault
-      | inr there ↦ record { file = file; bytes = there.0; asked = asked; told = there.1; none_spelled = there.2 }
-    ]
-fits-file words holds file (reply.Fault text) asked fits = tt
-fits-file words holds file reply.NoMemory asked fits = tt
-
--- only accepted has status 0
-pub accepted-by : (b : Bool) → ◌≡◌ {A = ℕ} (if b then 0 else 1) 0 → b ≡ true
-accepted-by true h = refl
-accepted-by false h = absurd (omega arith)

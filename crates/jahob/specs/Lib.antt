@@ -13,3 +13,4 @@ pub mod Sound
 pub mod Obligations
 pub mod Report
 pub mod Verify
+pub mod Causes

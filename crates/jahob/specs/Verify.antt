@@ -1,12 +1,10 @@
--- What `verify` answers.
+-- What `verify` reads, what it accepts and what it reports.
 use Rattle.std.specs.List.{list_all}
-use Rattle.std.specs.Prelude.{not, ℕ, ◌≡◌, Bool, true, List, ◌⊎◌, if◌then◌else◌, Option, None, Some, IfSome, string_bytes}
+use Rattle.std.specs.Prelude.{not, ℕ, ◌≡◌, ◌≤◌, Bool, true, List, length, if◌then◌else◌, Option, Some, IfSome}
 use Rattle.jh_files.specs.Contents.{Appends}
 use Rattle.jahob.specs.declared.prove.Answer.{Answer}
 use Rattle.jahob.specs.declared.token.Token.{Token}
 use Rattle.jahob.specs.declared.tree.Program.{Program}
-use Rattle.jahob.specs.declared.top.Reply.{Reply}
-use Rattle.jahob.specs.declared.top.Reply.TheVariants as reply
 use Rattle.jahob.specs.Lexing.{Lexes}
 use Rattle.jahob.specs.Reading.{program_of}
 use Rattle.jahob.specs.Checked.{is_sound}
@@ -22,6 +20,10 @@ pub record Spells (bytes : List ℕ) (p : Program) : Type 0 where
   pub cut : Lexes bytes tokens
   pub spelled : program_of tokens ≡ Some p
   pub named : is_sound p ≡ true
+
+-- the most bytes that a source may have
+abbrev pub source_limit : ℕ
+source_limit = 1048576
 
 -- the bytes that were handed over for a name are those that it holds, where the files tell
 abbrev pub Tells : Option (List ℕ) → List ℕ → Type 0
@@ -44,6 +46,7 @@ pub record IsRead (words : List (List ℕ)) (holds : List ℕ → Option (List �
   pub bytes : List ℕ
   pub asked : verify_file words ≡ Some file
   pub told : Tells (holds file) bytes
+  pub within : length bytes ≤ source_limit
   pub spelled : Spells bytes p
   pub only : (q : Program) → Spells bytes q → q ≡ p
 
@@ -53,35 +56,8 @@ pub record IsRefused (words : List (List ℕ)) (holds : List ℕ → Option (Lis
   pub bytes : List ℕ
   pub asked : verify_file words ≡ Some file
   pub told : Tells (holds file) bytes
+  pub within : length bytes ≤ source_limit
   pub none_spelled : (p : Program) → Spells bytes p → ⊥
-
--- a fault of a file, or want of memory
-abbrev pub IsFault : Reply → Type 0
-IsFault (reply.Report text accepted) = ⊥
-IsFault reply.Usage = ⊥
-IsFault reply.Refused = ⊥
-IsFault (reply.Fault text) = Unit {0}
-IsFault reply.NoMemory = Unit {0}
-
--- A reply is the right one for the bytes of a source.
-abbrev pub FitsBytes : List ℕ → Reply → Type 0
-FitsBytes bytes (reply.Report text accepted) = (p : Program) × Spells bytes p × IsReport p (string_bytes text) accepted
-FitsBytes bytes reply.Usage = ⊥
-FitsBytes bytes reply.Refused = (p : Program) → Spells bytes p → ⊥
-FitsBytes bytes (reply.Fault text) = ⊥
-FitsBytes bytes reply.NoMemory = Unit {0}
-
--- A reply is the right one for what a file holds, where the files tell.
-abbrev pub FitsFile : Option (List ℕ) → Reply → Type 0
-FitsFile held answer = IsFault answer ⊎ ((bytes : List ℕ) × Tells held bytes × FitsBytes bytes answer)
-
--- A reply is the right one for the words and what the files hold.
-abbrev pub Fits : List (List ℕ) → (List ℕ → Option (List ℕ)) → Reply → Type 0
-Fits words holds (reply.Report text accepted) = (p : Program) × IsRead words holds p × IsReport p (string_bytes text) accepted
-Fits words holds reply.Usage = verify_file words ≡ None
-Fits words holds reply.Refused = IsRefused words holds
-Fits words holds (reply.Fault text) = Unit {0}
-Fits words holds reply.NoMemory = Unit {0}
 
 -- The headline: the words ask for a file whose bytes spell one program, and that program is sound.
 pub record Verifies (words : List (List ℕ)) (holds : List ℕ → Option (List ℕ)) : Type 0 where

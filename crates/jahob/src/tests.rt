@@ -1,6 +1,6 @@
 //! The worked programs, through the top call over files and sinks in memory.
 
-use crate::top::{USAGE, jahob};
+use crate::top::jahob;
 use jh_files::{MemFiles, MemSink, SureFiles, SureSink};
 use jh_name::NoMemory;
 use std::alloc::{AllocError, Global};
@@ -159,7 +159,7 @@ fn faults_of_files_and_sinks(rt: HostRuntime) -> Result<(), Fail> {
     let mut out = sink(alloc)?;
     let mut err = sink(alloc)?;
     assert_eq!(rt; jahob(alloc, &[], &mut files, &mut out, &mut err), 2);
-    assert_eq!(rt; err.written(), USAGE.as_bytes());
+    assert_eq!(rt; err.written(), b"usage: jahob verify FILE\n".as_slice());
     let mut out = sink(alloc)?;
     let mut err = MemSink::of(alloc, 4096, 10, [1].to_vec(alloc)?)?;
     assert_eq!(rt; jahob(alloc, &[], &mut files, &mut out, &mut err), 5);

@@ -1,13 +1,13 @@
 //! The top call: from the words of a command line to a report.
 #![tactic(auto)]
 
-ghost use Rattle.std.specs.Prelude.{◌≡◌, ◌≢◌, ◌+◌, ◌<◌, ◌^◌, ◌-◌, ◌⊎◌, ◌++◌, map, length, string_bytes, if◌then◌else◌, IfOk, OnOk};
-ghost use Rattle.jh_files.specs.Contents.{Appends};
+ghost use Rattle.std.specs.Prelude.{◌≡◌, ◌+◌, ◌<◌, ◌^◌, ◌-◌, ◌⊎◌, ◌++◌, ℕ, List, codes, map, length, string_bytes, IfOk, OnOk};
 ghost use Rattle.jh_tree.specs.Bare.{formula_tree};
 ghost use Rattle.jahob.specs.declared.tree.Program.{Program as ProgramTree};
 ghost use Rattle.jahob.specs.Obligations.{obligation_of, member_sequents, method_id, number_after, sequents_of};
 ghost use Rattle.jahob.specs.Sequents.{sequent_tree, split_of};
-ghost use Rattle.jahob.specs.Verify.{Spells, IsReport, IsFault, Fits, FitsBytes, FitsFile, Verifies, Reports};
+ghost use Rattle.jahob.specs.Verify.{Spells, IsReport, Verifies, Reports};
+ghost use Rattle.jahob.specs.Causes.{fault_text, IsFault, FitsBytes, FitsFile, Fits, Takes, Delivered, reply_due, Answered, Exact};
 
 use crate::check::is_sound;
 use crate::command::of_method;
@@ -29,8 +29,6 @@ use std::alloc::Global;
 /// The most bytes that a source may have.
 const SOURCE_LIMIT: u64 = 1_048_576;
 
-pub(crate) const USAGE: &str = "usage: jahob verify FILE\n";
-
 /// A report on a program, and whether every sequent is proved.
 #[derive(Debug, Drop)]
 pub struct Verified {
@@ -45,9 +43,50 @@ pub enum Reply {
     Report(String, bool),
     Usage,
     Refused,
-    /// The file can't be read.
+    /// The file can't be read; the line says why.
     Fault(String),
     NoMemory,
+}
+
+impl Reply {
+    /// The exit status that is due.
+    fn status(&self) -> u8
+        ensures { result ≡ (reply_due self.now).status }
+    {
+        match self {
+            Reply::Report(_, accepted) => { if *accepted { 0 } else { 1 } }
+            Reply::Usage => 2,
+            Reply::Refused => 3,
+            Reply::Fault(_) => 4,
+            Reply::NoMemory => 6,
+        }
+    }
+
+    /// The text that is due.
+    fn text(&self) -> &str
+        ensures { result.now ≡ (reply_due self.now).text }
+    {
+        match self {
+            Reply::Report(text, _) => text.as_str(),
+            Reply::Usage => "usage: jahob verify FILE\n",
+            Reply::Refused => "refused 13\n",
+            Reply::Fault(text) => text.as_str(),
+            Reply::NoMemory => "no memory\n",
+        }
+    }
+
+    /// Whether the text is due on the first sink.
+    fn is_report(&self) -> bool
+        ensures { result ≡ (reply_due self.now).on_out }
+    {
+        match self {
+            Reply::Report(_, _) => true,
+            Reply::Usage => false,
+            Reply::Refused => false,
+            Reply::Fault(_) => false,
+            Reply::NoMemory => false,
+        }
+    }
 }
 
 /// The program that a source spells.
@@ -170,28 +209,49 @@ fn reply_to_bytes(alloc: Global, bytes: &[u8]) -> Reply
     }
 }
 
-fn fault(alloc: Global, kind: &str, file: &str) -> Reply
-    ensures { IsFault result }
+/// The line that says that a file fails in some way.
+fn fault_line(alloc: Global, kind: &str, file: &str) -> Result<String, NoMemory>
+    ensures { IfOk result (λ text. string_bytes text ≡ fault_text kind.now file.now) }
 {
-    match format!(in alloc; "file {kind} {file}\n") {
+    let mut text = String::new(alloc);
+    writeln!(text, "file {kind} {file}")?;
+    Ok(text)
+}
+
+fn failed(alloc: Global, file: &str) -> Reply
+    ensures { IsFault (codes "failed") file.now result }
+{
+    match fault_line(alloc, "failed", file) {
         Ok(text) => Reply::Fault(text),
-        Err(_) => Reply::NoMemory,
+        Err(NoMemory) => Reply::NoMemory,
+    }
+}
+
+fn too_long(alloc: Global, file: &str) -> Reply
+    ensures { IsFault (codes "too long") file.now result }
+{
+    match fault_line(alloc, "too long", file) {
+        Ok(text) => Reply::Fault(text),
+        Err(NoMemory) => Reply::NoMemory,
     }
 }
 
 fn reply_to_file<F: Files>(alloc: Global, file: &str, files: &mut F) -> Reply
-    ensures { FitsFile (F.holds files.old file.now) result }
+    ensures fits { FitsFile (record { holds = F.holds files.old; before = F.faults files.old; after = F.faults files.new }) file.now result }
+    ensures held { (name : List ℕ) → F.holds files.new name ≡ F.holds files.old name }
 {
     match files.get(alloc, file, SOURCE_LIMIT) {
         Ok(bytes) => reply_to_bytes(alloc, bytes.as_slice()),
-        Err(FileFault::Failed) => fault(alloc, "failed", file),
-        Err(FileFault::TooLong { .. }) => fault(alloc, "too long", file),
+        Err(FileFault::Failed) => failed(alloc, file),
+        Err(FileFault::TooLong { .. }) => too_long(alloc, file),
         Err(FileFault::Memory) => Reply::NoMemory,
     }
 }
 
+/// What the words and the file that they name come to.
 fn reply_to<F: Files>(alloc: Global, words: &[String], files: &mut F) -> Reply
-    ensures { Fits (map (λ word. string_bytes word) words.now) (F.holds files.old) result }
+    ensures fits { Fits (map (λ word. string_bytes word) words.now) (record { holds = F.holds files.old; before = F.faults files.old; after = F.faults files.new }) result }
+    ensures held { (name : List ℕ) → F.holds files.new name ≡ F.holds files.old name }
 {
     match file_of(words) {
         Some(file) => reply_to_file(alloc, file, files),
@@ -199,11 +259,9 @@ fn reply_to<F: Files>(alloc: Global, words: &[String], files: &mut F) -> Reply
     }
 }
 
-/// Writes a text, and answers the status, or 5 where the sink fails.
+/// Writes a text, and answers the status that is due with it, or 5 where the sink fails.
 fn written<S: Sink>(sink: &mut S, text: &str, status: u8) -> u8
-    requires { status ≢ 5 }
-    ensures all { result ≢ 5 → Appends (S.written sink.old) text.now (S.written sink.new) }
-    ensures status { result ≢ 5 → result ≡ status }
+    ensures { Takes (record { before = S.written sink.old; after = S.written sink.new; faults_before = S.faults sink.old; faults_after = S.faults sink.new }) text.now status result }
 {
     match put_all(sink, text.as_bytes()) {
         Ok(()) => status,
@@ -211,10 +269,18 @@ fn written<S: Sink>(sink: &mut S, text: &str, status: u8) -> u8
     }
 }
 
-fn status_of(accepted: bool) -> u8
-    ensures { result ≡ (if accepted then 0 else 1) }
+/// Writes what is due for a reply, and answers the status.
+fn deliver<O: Sink, E: Sink>(reply: &Reply, out: &mut O, err: &mut E) -> u8
+    ensures { Delivered (reply_due reply.now)
+        (record { before = O.written out.old; after = O.written out.new; faults_before = O.faults out.old; faults_after = O.faults out.new })
+        (record { before = E.written err.old; after = E.written err.new; faults_before = E.faults err.old; faults_after = E.faults err.new })
+        result }
 {
-    if accepted { 0 } else { 1 }
+    if reply.is_report() {
+        written(out, reply.text(), reply.status())
+    } else {
+        written(err, reply.text(), reply.status())
+    }
 }
 
 /// Does what the words of a command line say, and answers the exit status: 0 accepted, 1 rejected, 2
@@ -233,12 +299,21 @@ pub fn jahob<F: Files, O: Sink, E: Sink>(
 
     // Where the status is 0 or 1, the whole report was written, and no answer is Unproved just where it is 0.
     ensures report { (result ≡ 0) ⊎ (result ≡ 1) → Reports (map (λ word. string_bytes word) words.now) (F.holds files.old) (O.written out.old) (O.written out.new) result }
+
+    // Each answer has its cause, and the text that is due with it was written whole, or a front of it by a sink that failed.
+    ensures cause { Answered (map (λ word. string_bytes word) words.now)
+        (record { holds = F.holds files.old; before = F.faults files.old; after = F.faults files.new })
+        (record { before = O.written out.old; after = O.written out.new; faults_before = O.faults out.old; faults_after = O.faults out.new })
+        (record { before = E.written err.old; after = E.written err.new; faults_before = E.faults err.old; faults_after = E.faults err.new })
+        result }
+
+    // The same from the conditions to the answers.
+    ensures exact { Exact (map (λ word. string_bytes word) words.now) (record { holds = F.holds files.old; before = F.faults files.old; after = F.faults files.new }) result }
+
+    // Want of memory never follows a byte on the first sink, and what the files hold stays.
+    ensures memory { result ≡ 6 → O.written out.new ≡ O.written out.old }
+    ensures held { (name : List ℕ) → F.holds files.new name ≡ F.holds files.old name }
 {
-    match reply_to(alloc, words, files) {
-        Reply::Report(text, accepted) => written(out, text.as_str(), status_of(accepted)),
-        Reply::Usage => written(err, USAGE, 2),
-        Reply::Refused => written(err, "refused 13\n", 3),
-        Reply::Fault(text) => written(err, text.as_str(), 4),
-        Reply::NoMemory => written(err, "no memory\n", 6),
-    }
+    let reply = reply_to(alloc, words, files);
+    deliver(&reply, out, err)
 }

@@ -1,12 +1,17 @@
-use Rattle.std.proofs.Common.{◌≡◌, ◌≢◌, sym, ◌∙◌, arith}
-use Rattle.std.specs.Prelude.{map, string_bytes}
-use Rattle.jahob.proofs.Verifying.{verifies, accepted-by}
+use Rattle.jahob.proofs.Findings.{answered-by, answered-exact, answered-memory, answered-reports, answered-verifies}
 use Rattle.jahob.proofs.top.jahob.Goals as goal
 
-pub returns-in-Report-clause-headline : goal.returns-in-Report-clause-headline
-returns-in-Report-clause-headline g c = λ zero.
-    let differs : c.written.result ≢ 5 = omega (arith, zero) in
-    let status : c.status_of.result ≡ 0 = sym (c.written.ensures.status differs) ∙ zero in
-    let read = c.in-Report.ensures in
-    verifies (map (λ word. string_bytes word) c.args.words.now) (g.F.Files.holds c.args.files.now) read.0 (string_bytes c.in-Report.text) c.in-Report.accepted read.1 read.2
-    (accepted-by c.in-Report.accepted (sym c.status_of.ensures ∙ status))
+pub returns-clause-cause : goal.returns-clause-cause
+returns-clause-cause g c = answered-by _ _ _ _ _ c.reply_to-reply.result c.reply_to-reply.ensures.fits c.deliver.ensures
+
+pub returns-clause-headline : goal.returns-clause-headline
+returns-clause-headline g c = λ zero. answered-verifies _ _ _ _ _ (answered-by _ _ _ _ _ c.reply_to-reply.result c.reply_to-reply.ensures.fits c.deliver.ensures) zero
+
+pub returns-clause-report : goal.returns-clause-report
+returns-clause-report g c = λ low. answered-reports _ _ _ _ _ (answered-by _ _ _ _ _ c.reply_to-reply.result c.reply_to-reply.ensures.fits c.deliver.ensures) low
+
+pub returns-clause-exact : goal.returns-clause-exact
+returns-clause-exact g c = answered-exact _ _ _ _ _ (answered-by _ _ _ _ _ c.reply_to-reply.result c.reply_to-reply.ensures.fits c.deliver.ensures)
+
+pub returns-clause-memory : goal.returns-clause-memory
+returns-clause-memory g c = λ six. answered-memory _ _ _ _ _ (answered-by _ _ _ _ _ c.reply_to-reply.result c.reply_to-reply.ensures.fits c.deliver.ensures) six

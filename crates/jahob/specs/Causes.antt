@@ -1,0 +1,154 @@
+-- What each call of the program answers, and why.
+use Rattle.std.specs.Prelude.{ℕ, ◌≡◌, ◌<◌, ◌≤◌, ◌++◌, ◌⊎◌, Bool, true, false, List, [], ◌∷◌, length, codes, if◌then◌else◌, Option, None, Some, IfSome, string_bytes}
+use Rattle.jh_files.specs.Contents.{Appends, AppendsFront}
+use Rattle.jh_files.specs.Counts.{Rose}
+use Rattle.jahob.specs.declared.prove.Answer.{Answer}
+use Rattle.jahob.specs.declared.tree.Program.{Program}
+use Rattle.jahob.specs.declared.top.Reply.{Reply}
+use Rattle.jahob.specs.declared.top.Reply.TheVariants as reply
+use Rattle.jahob.specs.Sequents.{AllRight}
+use Rattle.jahob.specs.Obligations.{sequents_of}
+use Rattle.jahob.specs.Report.{report_of}
+use Rattle.jahob.specs.Verify.{Spells, Tells, IsRead, IsRefused, IsReport, all_proved, source_limit}
+use Rattle.jahob.specs.Words.{verify_file}
+
+-- What there is to see of the files over a call: what they hold, and for each name how many calls had
+-- failed before it and had after it.
+pub record FilesSeen : Type 0 where
+  pub holds : List ℕ → Option (List ℕ)
+  pub before : List ℕ → ℕ
+  pub after : List ℕ → ℕ
+
+-- What there is to see of a sink over a call: what was written before it and after it, where the sink
+-- tells, and how many calls had failed.
+pub record SinkSeen : Type 0 where
+  pub before : Option (List ℕ)
+  pub after : Option (List ℕ)
+  pub faults_before : ℕ
+  pub faults_after : ℕ
+
+-- What a call finds, before anything is written.
+pub data Finding : Type 0 where
+  reported : Program → List Answer → Finding
+  no_job : Finding
+  refused : Finding
+  file_failed : List ℕ → Finding
+  file_too_long : List ℕ → Finding
+  no_memory : Finding
+
+-- When each finding may come. A program is reported on where the bytes spell it, with right answers for
+-- its sequents; a file fails only where its count rose. Want of memory is free where there is a job.
+abbrev pub Comes : List (List ℕ) → FilesSeen → Finding → Type 0
+Comes words files (reported p answers) = IsRead words files.holds p × AllRight (sequents_of p) answers
+Comes words files no_job = verify_file words ≡ None
+Comes words files refused = IsRefused words files.holds
+Comes words files (file_failed file) = (verify_file words ≡ Some file) × Rose (files.before file) (files.after file)
+Comes words files (file_too_long file) = (verify_file words ≡ Some file) × IfSome (files.holds file) (λ held. source_limit < length held)
+Comes words files no_memory = (file : List ℕ) × (verify_file words ≡ Some file)
+
+-- What is due: the exit status, and a text, on the first sink or on the second.
+pub record Due : Type 0 where
+  pub status : ℕ
+  pub on_out : Bool
+  pub text : List ℕ
+
+abbrev pub usage_text : List ℕ
+usage_text = codes "usage: jahob verify FILE" ++ 10 ∷ []
+
+abbrev pub refused_text : List ℕ
+refused_text = codes "refused 13" ++ 10 ∷ []
+
+-- the text for a file that fails in some way
+abbrev pub fault_text : List ℕ → List ℕ → List ℕ
+fault_text kind file = codes "file " ++ (kind ++ (codes " " ++ (file ++ 10 ∷ [])))
+
+abbrev pub no_memory_text : List ℕ
+no_memory_text = codes "no memory" ++ 10 ∷ []
+
+abbrev pub due : Finding → Due
+due (reported p answers) = record { status = if all_proved answers then 0 else 1; on_out = true; text = report_of p (sequents_of p) answers }
+due no_job = record { status = 2; on_out = false; text = usage_text }
+due refused = record { status = 3; on_out = false; text = refused_text }
+due (file_failed file) = record { status = 4; on_out = false; text = fault_text (codes "failed") file }
+due (file_too_long file) = record { status = 4; on_out = false; text = fault_text (codes "too long") file }
+due no_memory = record { status = 6; on_out = false; text = no_memory_text }
+
+-- A sink took a whole text, and the status is the one that is due; or the sink failed, has a front of the
+-- text, and the status is 5.
+abbrev pub Takes : SinkSeen → List ℕ → ℕ → ℕ → Type 0
+Takes sink text due_status status =
+    ((status ≡ due_status) × Appends sink.before text sink.after)
+    ⊎ ((status ≡ 5) × AppendsFront sink.before text sink.after × Rose sink.faults_before sink.faults_after)
+
+-- nothing was done to a sink
+pub record Untouched (sink : SinkSeen) : Type 0 where
+  pub written : sink.after ≡ sink.before
+  pub faults : sink.faults_after ≡ sink.faults_before
+
+-- A text was taken by the first sink, or else by the second, and nothing was done to the other.
+abbrev pub IsTaken : Bool → List ℕ → ℕ → SinkSeen → SinkSeen → ℕ → Type 0
+IsTaken true text due_status out err status = Takes out text due_status status × Untouched err
+IsTaken false text due_status out err status = Takes err text due_status status × Untouched out
+
+-- what is due was delivered
+abbrev pub Delivered : Due → SinkSeen → SinkSeen → ℕ → Type 0
+Delivered d out err status = IsTaken d.on_out d.text d.status out err status
+
+-- Each answer has its cause: a finding that may come was delivered.
+pub record Answered (words : List (List ℕ)) (files : FilesSeen) (out err : SinkSeen) (status : ℕ) : Type 0 where
+  pub finding : Finding
+  pub comes : Comes words files finding
+  pub delivered : Delivered (due finding) out err status
+
+-- The answers that no condition rules out: a read that failed, a sink that failed, want of memory.
+abbrev pub IsExcused : FilesSeen → List ℕ → ℕ → Type 0
+IsExcused files file status = ((status ≡ 4) × Rose (files.before file) (files.after file)) ⊎ (status ≡ 5) ⊎ (status ≡ 6)
+
+-- The answers by their conditions. Without a job it is usage. Else, for what the file holds where it tells: 4
+-- where it is too long, 3 where it spells no program, and 0 or 1 where it spells one.
+pub record Exact (words : List (List ℕ)) (files : FilesSeen) (status : ℕ) : Type 0 where
+  pub usage : verify_file words ≡ None → (status ≡ 2) ⊎ (status ≡ 5)
+  pub too_long : (file bytes : List ℕ) → verify_file words ≡ Some file → files.holds file ≡ Some bytes → source_limit < length bytes → (status ≡ 4) ⊎ IsExcused files file status
+  pub refused : (file bytes : List ℕ) → verify_file words ≡ Some file → files.holds file ≡ Some bytes → length bytes ≤ source_limit → ((p : Program) → Spells bytes p → ⊥) → (status ≡ 3) ⊎ IsExcused files file status
+  pub reported : (file bytes : List ℕ) (p : Program) → verify_file words ≡ Some file → files.holds file ≡ Some bytes → length bytes ≤ source_limit → Spells bytes p → (status ≡ 0) ⊎ (status ≡ 1) ⊎ IsExcused files file status
+
+-- what is due for a reply
+abbrev pub reply_due : Reply → Due
+reply_due (reply.Report text accepted) = record { status = if accepted then 0 else 1; on_out = true; text = string_bytes text }
+reply_due reply.Usage = record { status = 2; on_out = false; text = usage_text }
+reply_due reply.Refused = record { status = 3; on_out = false; text = refused_text }
+reply_due (reply.Fault text) = record { status = 4; on_out = false; text = string_bytes text }
+reply_due reply.NoMemory = record { status = 6; on_out = false; text = no_memory_text }
+
+-- A reply is right for the bytes of a source.
+abbrev pub FitsBytes : List ℕ → Reply → Type 0
+FitsBytes bytes (reply.Report text accepted) = (p : Program) × Spells bytes p × IsReport p (string_bytes text) accepted
+FitsBytes bytes reply.Usage = ⊥
+FitsBytes bytes reply.Refused = (p : Program) → Spells bytes p → ⊥
+FitsBytes bytes (reply.Fault text) = ⊥
+FitsBytes bytes reply.NoMemory = Unit {0}
+
+-- a reply says that a file fails in some way, or is want of memory
+abbrev pub IsFault : List ℕ → List ℕ → Reply → Type 0
+IsFault kind file (reply.Report text accepted) = ⊥
+IsFault kind file reply.Usage = ⊥
+IsFault kind file reply.Refused = ⊥
+IsFault kind file (reply.Fault text) = string_bytes text ≡ fault_text kind file
+IsFault kind file reply.NoMemory = Unit {0}
+
+-- A reply is right for a file whose bytes didn't come.
+abbrev pub FitsFault : FilesSeen → List ℕ → Reply → Type 0
+FitsFault files file answer =
+    (IsFault (codes "failed") file answer × Rose (files.before file) (files.after file))
+    ⊎ (IsFault (codes "too long") file answer × IfSome (files.holds file) (λ held. source_limit < length held))
+    ⊎ (answer ≡ reply.NoMemory)
+
+-- A reply is right for a file.
+abbrev pub FitsFile : FilesSeen → List ℕ → Reply → Type 0
+FitsFile files file answer = FitsFault files file answer ⊎ ((bytes : List ℕ) × Tells (files.holds file) bytes × (length bytes ≤ source_limit) × FitsBytes bytes answer)
+
+-- A reply is right for the words and the files: what is due for it is due for a finding that may come.
+pub record Fits (words : List (List ℕ)) (files : FilesSeen) (answer : Reply) : Type 0 where
+  pub finding : Finding
+  pub comes : Comes words files finding
+  pub is_due : due finding ≡ reply_due answer
