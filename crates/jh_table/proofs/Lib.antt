@@ -1,0 +1,14 @@
+pub mod Below
+pub mod Children
+pub mod Extents
+pub mod Growing
+pub mod Keys
+pub mod Listed
+pub mod Lists
+pub mod NodeSteps
+pub mod PartSteps
+pub mod Places
+pub mod Putting
+pub mod ShapeEq
+pub mod Tables
+pub mod Unique

@@ -1,0 +1,15 @@
+use Rattle.std.proofs.Common.{◌≡◌, ◌<◌, ◌-◌, ◌^◌, true, min, length, slice_get, ℕ, ◌+◌, ◌*◌, ◌≤◌}
+use Rattle.jh_walk.specs.Sizes.{value_size, value_depth}
+use Rattle.jh_table.specs.Entries.{the_value}
+use Rattle.jh_table.specs.Measures.{extent_of}
+use Rattle.jh_table.specs.Nodes.{nodes, fits_in, tree_in}
+use Rattle.std.proofs.Common.{take}
+use Rattle.jh_table.specs.Parts.{parts}
+use Rattle.jh_table.proofs.Extents.{size_sum, depth_max}
+use Rattle.jh_table.proofs.listing.Table.measured.Given as goal
+
+abbrev pub invariant-loop-index : goal.invariant-loop-index
+invariant-loop-index l = record {
+  size : l.sum.nodes ≡ min (size_sum (nodes l.self) (take l.index (parts l.self.pools.lists l.shape))) (2 ^ 64 - 1);
+  greatest : l.sum.depth ≡ min (depth_max (nodes l.self) (take l.index (parts l.self.pools.lists l.shape))) (2 ^ 64 - 1);
+}

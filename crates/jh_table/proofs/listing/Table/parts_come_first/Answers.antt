@@ -1,0 +1,7 @@
+use Rattle.std.proofs.Common.{rules, arith, ap, sym, refl, ◌∙◌, ◌≡◌, ◌<◌, ℕ, true, false, Ok, Some, None, length, slice_get, ◌+◌, ◌-◌, ◌≤◌, Bool, List, [], ◌∷◌, ◌++◌, take, drop, is_some}
+use Rattle.std.specs.HashMap.{keys, values}
+use Rattle.jh_table.proofs.Tables.{seen, parts-first}
+use Rattle.jh_table.proofs.listing.Table.parts_come_first.Goals as goal
+
+pub returns : goal.returns
+returns c = parts-first c.args.self.now (values c.self.inside.nodes) (seen (record { names = c.self.inside.names.keys; marks = c.self.inside.marks.keys; lists = c.self.inside.lists.keys }) (keys c.self.inside.nodes) (values c.self.inside.nodes) c.args.self.now c.self.view_is c.self.invariant)

@@ -1,0 +1,6 @@
+pub mod Entries
+pub mod Growth
+pub mod Measures
+pub mod Nodes
+pub mod Own
+pub mod Parts

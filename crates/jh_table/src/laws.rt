@@ -1,0 +1,29 @@
+ghost use Rattle.std.specs.Prelude.{◌≡◌, ℕ, ◌<◌, Some, slice_get, true};
+ghost use Rattle.jh_tree.specs.Tree.{ValueTree};
+ghost use Rattle.jh_walk.specs.Parts.{IsChild};
+ghost use Rattle.jh_table.specs.Growth.{AreDifferent};
+ghost use Rattle.jh_table.specs.Nodes.{nodes, fits_in, tree_in};
+ghost use Rattle.jh_table.specs.declared.shapes.Shape.{Shape};
+
+use crate::Table;
+
+impl Table {
+    /// No two nodes are the same tree, labels included, and a node that is the tree of a shape is of that shape. It
+    /// is a law, and changes nothing.
+    pub fn nodes_differ(&self)
+        ensures different { AreDifferent (nodes self.now) }
+        ensures known { (node : ℕ) (shape : Shape) → fits_in self.now shape ≡ true → slice_get (nodes self.now) node ≡ Some (tree_in self.now shape) → slice_get self.now.shapes node ≡ Some shape }
+    {
+        let _count = self.nodes.len();
+        let _names = self.names.len();
+        let _marks = self.marks.len();
+        let _lists = self.lists.len();
+    }
+
+    /// Each part of a node is a node before it. It is a law, and changes nothing.
+    pub fn parts_come_first(&self)
+        ensures { (n : ℕ) (v w : ValueTree) → slice_get (nodes self.now) n ≡ Some v → IsChild w v → (m : ℕ) × (m < n) × (slice_get (nodes self.now) m ≡ Some w) }
+    {
+        let _alloc = &self.alloc;
+    }
+}

@@ -1,0 +1,15 @@
+//! A table of terms, fields and formulas in which each part stands once and is named by its number.
+#![tactic(auto)]
+
+mod laws;
+mod listing;
+mod measures;
+mod nodes;
+mod parts;
+mod pools;
+mod shapes;
+#[cfg(test)]
+mod tests;
+
+pub use listing::Table;
+pub use shapes::{Own, Shape};

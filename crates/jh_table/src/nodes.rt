@@ -1,0 +1,42 @@
+ghost use Rattle.std.specs.Prelude.{◌≡◌, ◌<◌, ℕ, true, IfOk, Some, length, slice_get};
+ghost use Rattle.jh_table.specs.Growth.{Extends};
+ghost use Rattle.jh_table.specs.Nodes.{nodes, fits_in, tree_in};
+ghost use Rattle.jh_table.specs.Parts.{ArePartsBelow};
+
+use crate::{Shape, Table};
+use jh_name::NoMemory;
+
+impl Table {
+    /// The node of this shape, which is made where it is new. Where the shape's tree is a node, the answer is that
+    /// node and the table stays as it is.
+    pub fn make(&mut self, shape: Shape) -> Result<usize, NoMemory>
+        requires { fits_in self.old shape ≡ true }
+        ensures node { IfOk result (λ node. slice_get (nodes self.new) node ≡ Some (tree_in self.old shape)) }
+        ensures grows { Extends self.old self.new }
+        ensures pools { self.new.pools ≡ self.old.pools }
+        ensures kept { (node : ℕ) → slice_get (nodes self.old) node ≡ Some (tree_in self.old shape) → (self.new ≡ self.old) × (result ≡ Ok node) }
+    {
+        self.nodes_differ();
+        match self.nodes.get_index_of(&shape) {
+            Some(node) => Ok(node),
+            None => {
+                let extent = self.measured(shape);
+                let (node, _) = self.nodes.insert_full(shape, extent)?;
+                Ok(node)
+            }
+        }
+    }
+
+    /// The shape of a node. Its parts are nodes before it.
+    pub fn shape(&self, node: usize) -> Shape
+        requires { node < length (nodes self.now) }
+        ensures tree { slice_get (nodes self.now) node ≡ Some (tree_in self.now result) }
+        ensures fits { fits_in self.now result ≡ true }
+        ensures below { ArePartsBelow node self.now.pools.lists result }
+    {
+        match self.nodes.get_index(node) {
+            Some((shape, _)) => *shape,
+            None => Shape::Null,
+        }
+    }
+}

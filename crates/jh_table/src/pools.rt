@@ -1,0 +1,78 @@
+ghost use Rattle.std.specs.Prelude.{◌≡◌, ◌<◌, IfOk, Some, length, slice_get};
+ghost use Rattle.jh_table.specs.Growth.{Extends};
+ghost use Rattle.jh_table.specs.Nodes.{nodes};
+
+use crate::Table;
+use jh_name::{Name, NoMemory, Row};
+use jh_tree::Mark;
+use jh_walk::copy_mark;
+
+impl Table {
+    /// The number of a name in the pool of names, to which it is added where it is new.
+    pub fn name(&mut self, name: &Name) -> Result<usize, NoMemory>
+        ensures number { IfOk result (λ number. slice_get self.new.pools.names number ≡ Some name.now) }
+        ensures grows { Extends self.old self.new }
+        ensures nodes { nodes self.new ≡ nodes self.old }
+    {
+        match self.names.get_index_of(name) {
+            Some(number) => Ok(number),
+            None => {
+                let copied = name.copy(self.alloc)?;
+                let (number, _) = self.names.insert_full(copied)?;
+                Ok(number)
+            }
+        }
+    }
+
+    /// The number of a label in the pool of labels, to which it is added where it is new.
+    pub fn mark(&mut self, mark: &Mark) -> Result<usize, NoMemory>
+        ensures number { IfOk result (λ number. slice_get self.new.pools.marks number ≡ Some mark.now) }
+        ensures grows { Extends self.old self.new }
+        ensures nodes { nodes self.new ≡ nodes self.old }
+    {
+        match self.marks.get_index_of(mark) {
+            Some(number) => Ok(number),
+            None => {
+                let copied = copy_mark(self.alloc, mark)?;
+                let (number, _) = self.marks.insert_full(copied)?;
+                Ok(number)
+            }
+        }
+    }
+
+    /// The number of a list of nodes in the pool of lists, to which it is added where it is new.
+    pub fn list(&mut self, items: &[usize]) -> Result<usize, NoMemory>
+        ensures number { IfOk result (λ number. slice_get self.new.pools.lists number ≡ Some items.now) }
+        ensures grows { Extends self.old self.new }
+        ensures nodes { nodes self.new ≡ nodes self.old }
+    {
+        let mut copied = Vec::new(self.alloc);
+        copied.extend_from_slice(items)?;
+        let (number, _) = self.lists.insert_full(Row::of(copied))?;
+        Ok(number)
+    }
+
+    /// The name of this number.
+    pub fn name_at(&self, number: usize) -> &Name
+        requires { number < length self.now.pools.names }
+        ensures { slice_get self.now.pools.names number ≡ Some result.now }
+    {
+        &self.names[number]
+    }
+
+    /// The label of this number.
+    pub fn mark_at(&self, number: usize) -> &Mark
+        requires { number < length self.now.pools.marks }
+        ensures { slice_get self.now.pools.marks number ≡ Some result.now }
+    {
+        &self.marks[number]
+    }
+
+    /// The list of nodes of this number.
+    pub fn list_at(&self, number: usize) -> &[usize]
+        requires { number < length self.now.pools.lists }
+        ensures { slice_get self.now.pools.lists number ≡ Some result.now }
+    {
+        self.lists[number].items()
+    }
+}
