@@ -1,0 +1,12 @@
+pub mod Mappings
+pub mod PartMappings
+pub mod Remakes
+pub mod Makings
+pub mod Sorted
+pub mod OpeningRules
+pub mod Passings
+pub mod Passes
+pub mod ShapeSorts
+pub mod SubstitutionRules
+pub mod Substituted
+pub mod Samples

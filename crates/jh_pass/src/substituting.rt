@@ -1,0 +1,123 @@
+ghost use Rattle.std.specs.Prelude.{◌≡◌, ◌<◌, ℕ, List, [], true, false, IfOk, Some, length, slice_get};
+ghost use Rattle.jh_tree.specs.Tree.{of_truth};
+ghost use Rattle.jh_tree.specs.Closed.{is_closed_value};
+ghost use Rattle.jh_tree.specs.Passing.{formula_passes};
+ghost use Rattle.jh_tree.specs.Meaning.{Interp, truth, datum};
+ghost use Rattle.jh_tree.specs.Assigned.{assigned};
+ghost use Rattle.jh_table.specs.Entries.{is_truth, the_name, the_value, the_truth};
+ghost use Rattle.jh_table.specs.Growth.{Extends};
+ghost use Rattle.jh_table.specs.Nodes.{nodes};
+ghost use Rattle.jh_form.specs.Substituted.{substituted, substituting, tree_sort, stands_only_at};
+ghost use Rattle.jh_pass.specs.Leaf.{free_shape};
+ghost use Rattle.jh_pass.specs.Substitution.{IsReady};
+ghost use Rattle.jh_pass.specs.Staying.{substituting-stays};
+
+use crate::naming::names;
+use crate::rules::LeafRules;
+use crate::sorts::sort_at;
+use crate::walking::walked;
+use jh_form::{FormFault, StandsOnlyAt};
+use jh_name::{Name, NoMemory, Sort};
+use jh_table::{Shape, Table};
+
+/// The rules by which a node stands for a free name of its sort: the name's number, its node at that
+/// sort, and the node that stands for it.
+#[derive(Clone, Copy, Debug)]
+struct Substituting {
+    name: usize,
+    leaf: usize,
+    value: usize,
+}
+
+impl LeafRules for Substituting {
+    ghost leaves = { λ rules t. substituting (the_name (slice_get t.pools.names rules.name)) (the_value (slice_get (nodes t) rules.value)) };
+
+    ghost ready = { λ rules t. IsReady rules.name rules.leaf rules.value t };
+
+    fn leaf(
+        &self,
+        table: &mut Table,
+        node: usize,
+        _shape: Shape,
+        _depth: u32,
+    ) -> Result<usize, NoMemory> {
+        table.nodes_differ();
+        if node == self.leaf {
+            Ok(self.value)
+        } else {
+            Ok(node)
+        }
+    }
+
+    ghost stays = { λ rules. substituting-stays rules.name rules.leaf rules.value };
+}
+
+/// The shape of a free name of a sort.
+#[tactic(auto, unfolding(crate::specs::Leaf::free_shape))]
+fn free_name(name: usize, sort: Sort) -> Shape
+    ensures { result ≡ free_shape name sort }
+{
+    match sort {
+        Sort::Obj => Shape::FreeObject(name),
+        Sort::Int => Shape::FreeNumber(name),
+        Sort::Bool => Shape::FreeTruth(name),
+        Sort::Set => Shape::FreeSet(name),
+        Sort::Field => Shape::FreeField(name),
+    }
+}
+
+/// The node of a formula with a value, which has no loose bound variables, for a free name. The name is
+/// exchanged wherever it stands as a term or formula; names in labels stay. It is an error where the
+/// name stands in the formula at another sort than the value's.
+pub fn subst(
+    table: &mut Table,
+    formula: usize,
+    name: &Name,
+    value: usize,
+) -> Result<usize, FormFault>
+    requires formula { is_truth (slice_get (nodes table.old) formula) ≡ true }
+    requires value { value < length (nodes table.old) }
+    requires closed { is_closed_value (the_value (slice_get (nodes table.old) value)) 0 ≡ true }
+    ensures tree { IfOk result (λ made. slice_get (nodes table.new) made ≡ Some (of_truth (substituted (the_truth (slice_get (nodes table.old) formula)) name.now (the_value (slice_get (nodes table.old) value))))) }
+    ensures meaning { IfOk result (λ made. (m : Interp) (env : List ℕ) → truth (the_truth (slice_get (nodes table.new) made)) m env ≡ truth (the_truth (slice_get (nodes table.old) formula)) (assigned m name.now (datum (the_value (slice_get (nodes table.old) value)) m [])) env) }
+    ensures ill_sorted { result ≡ Err FormFault.IllSorted → formula_passes (the_truth (slice_get (nodes table.old) formula)) (stands_only_at name.now (tree_sort (the_value (slice_get (nodes table.old) value)))) ≡ false }
+    ensures sorted { IfOk result (λ made. formula_passes (the_truth (slice_get (nodes table.old) formula)) (stands_only_at name.now (tree_sort (the_value (slice_get (nodes table.old) value)))) ≡ true) }
+    ensures grows { Extends table.old table.new }
+{
+    let sort = sort_at(table, value);
+    match names(table, formula, &StandsOnlyAt { name, sort }) {
+        Ok(true) => match exchanged(table, formula, name, sort, value) {
+            Ok(made) => Ok(made),
+            Err(_) => Err(FormFault::Memory),
+        },
+        Ok(false) => Err(FormFault::IllSorted),
+        Err(_) => Err(FormFault::Memory),
+    }
+}
+
+fn exchanged(
+    table: &mut Table,
+    formula: usize,
+    name: &Name,
+    sort: Sort,
+    value: usize,
+) -> Result<usize, NoMemory>
+    requires formula { is_truth (slice_get (nodes table.old) formula) ≡ true }
+    requires value { value < length (nodes table.old) }
+    requires sort { sort ≡ tree_sort (the_value (slice_get (nodes table.old) value)) }
+    ensures tree { IfOk result (λ made. slice_get (nodes table.new) made ≡ Some (of_truth (substituted (the_truth (slice_get (nodes table.old) formula)) name.now (the_value (slice_get (nodes table.old) value))))) }
+    ensures grows { Extends table.old table.new }
+{
+    let number = table.name(name)?;
+    let leaf = table.make(free_name(number, sort))?;
+    walked(
+        table,
+        &Substituting {
+            name: number,
+            leaf,
+            value,
+        },
+        formula,
+        0,
+    )
+}

@@ -1,0 +1,101 @@
+ghost use Rattle.std.specs.Prelude.{◌≡◌, ◌+◌, ◌<◌, true, false, Some, IfOk, OnOk, length, slice_get};
+ghost use Rattle.jh_walk.specs.Mapped.{mapped_value};
+ghost use Rattle.jh_table.specs.Entries.{the_value};
+ghost use Rattle.jh_table.specs.Growth.{Extends};
+ghost use Rattle.jh_table.specs.Nodes.{nodes, tree_in, fits_in};
+ghost use Rattle.jh_table.specs.Parts.{parts, binders};
+ghost use Rattle.jh_pass.specs.Mapping.{IsMapped, AllMapped, Holds, KeepsMeaning};
+ghost use Rattle.jh_pass.specs.Leaf.{is_leaf};
+ghost use Rattle.jh_pass.specs.Memos.{found};
+
+use crate::leaves::is_leaf;
+use crate::memo::{Key, Memo};
+use crate::rules::LeafRules;
+use jh_name::NoMemory;
+use jh_table::{Shape, Table};
+
+/// The number of binders passed below a shape.
+fn below(depth: u32, shape: Shape) -> Result<u32, NoMemory>
+    ensures { IfOk result (λ below. below ≡ depth + binders shape) }
+{
+    match depth.checked_add(shape.binders()) {
+        Some(below) => Ok(below),
+        None => Err(NoMemory),
+    }
+}
+
+/// The answer for a node that was met before, or else that of its shape, which is noted.
+#[cycle(mapped)]
+fn mapped<R: LeafRules>(
+    table: &mut Table,
+    rules: &R,
+    memo: &mut Memo,
+    node: usize,
+    depth: u32,
+) -> Result<usize, NoMemory>
+    requires inside { node < length (nodes table.old) }
+    requires memo { Holds (R.ready rules.now) (R.leaves rules.now) table.old (found memo.old.answers) }
+    ensures node { IfOk result (λ made. IsMapped (R.leaves rules.now table.new) (nodes table.new) node depth made) }
+    ensures grows { Extends table.old table.new }
+    ensures memo { OnOk result (Holds (R.ready rules.now) (R.leaves rules.now) table.new (found memo.new.answers)) }
+{
+    let key = Key { node, depth };
+    match memo.known(key) {
+        Some(answer) => Ok(answer),
+        None => {
+            let answer = mapped_shape(table, rules, memo, node, depth)?;
+            memo.note(key, answer)?;
+            Ok(answer)
+        }
+    }
+}
+
+/// The answer for a node by its shape: a leaf's rule, or the shape with the answers for its parts.
+#[cycle(mapped)]
+fn mapped_shape<R: LeafRules>(
+    table: &mut Table,
+    rules: &R,
+    memo: &mut Memo,
+    node: usize,
+    depth: u32,
+) -> Result<usize, NoMemory>
+    requires inside { node < length (nodes table.old) }
+    requires memo { Holds (R.ready rules.now) (R.leaves rules.now) table.old (found memo.old.answers) }
+    ensures node { IfOk result (λ made. IsMapped (R.leaves rules.now table.new) (nodes table.new) node depth made) }
+    ensures grows { Extends table.old table.new }
+    ensures memo { OnOk result (Holds (R.ready rules.now) (R.leaves rules.now) table.new (found memo.new.answers)) }
+{
+    let shape = table.shape(node);
+    if is_leaf(shape) {
+        return rules.leaf(table, node, shape, depth);
+    }
+    let below = below(depth, shape)?;
+    let mut answers = Vec::new(table.alloc());
+    for index in 0..table.count(shape) {
+        let part = table.part(shape, index);
+        let answer = mapped(table, rules, memo, part, below)?;
+        answers.push(answer)?;
+    }
+    let made = table.with_parts(shape, answers.as_slice())?;
+    table.make(made)
+}
+
+/// The node of the tree of a node in which each leaf is exchanged for what stands for it by the rules,
+/// where `depth` binders count as passed. What the table held stays in its place, after any answer. The
+/// time is in proportion to the parts, each counted once for each depth at which it is met. Where a depth
+/// leaves u32 the answer is want of memory.
+pub fn walked<R: LeafRules>(
+    table: &mut Table,
+    rules: &R,
+    node: usize,
+    depth: u32,
+) -> Result<usize, NoMemory>
+    requires inside { node < length (nodes table.old) }
+    requires ready { R.ready rules.now table.old }
+    ensures tree { IfOk result (λ made. slice_get (nodes table.new) made ≡ Some (mapped_value (the_value (slice_get (nodes table.old) node)) (R.leaves rules.now table.old) depth)) }
+    ensures meaning { IfOk result (λ made. KeepsMeaning (R.leaves rules.now table.old) depth (slice_get (nodes table.old) node) (slice_get (nodes table.new) made)) }
+    ensures grows { Extends table.old table.new }
+{
+    let mut memo = Memo::new(table.alloc());
+    mapped(table, rules, &mut memo, node, depth)
+}

@@ -1,0 +1,548 @@
+#!/usr/bin/env python3
+"""Writes the rote lemmas on walks over a table, one for each shape."""
+import os
+import sys
+
+sys.path.insert(0, os.path.dirname(os.path.abspath(__file__)))
+from forms import TYPES  # noqa: E402
+
+SORT = {'T': 'object', 'I': 'number', 'S': 'set', 'F': 'field', 'P': 'truth'}
+MAPPED = {'T': 'term', 'I': 'int', 'S': 'set', 'F': 'field', 'P': 'formula'}
+SHAPE = {'true_formula': 'True', 'false_formula': 'False'}
+HERE = os.path.join(os.path.dirname(os.path.abspath(__file__)), '..', 'crates', 'jh_pass')
+
+
+def shape_name(ctor):
+    return SHAPE.get(ctor) or ''.join(word.capitalize() for word in ctor.split('_'))
+
+
+def shapes():
+    """(shape, sort, constructor, [(kind, variable)])"""
+    for code in 'TISFP':
+        for _, ctor, kinds in TYPES[code][3]:
+            parts = iter('abc')
+            yield shape_name(ctor), SORT[code], ctor, [
+                (kind[0], {'u': 'k', 'n': 'x', 'z': 'z', 'k': 'm', 'L': 'f'}.get(kind[0]) or next(parts), kind.endswith('+'))
+                for kind in kinds]
+
+
+def applied(head, words):
+    return f"({head} {' '.join(words)})" if words else head
+
+
+def is_leaf(ctor):
+    return ctor == 'bound' or ctor.startswith('free_')
+
+
+def test(kind, var):
+    """The test of `fits` for a part of a shape, as a term."""
+    if kind == 'V':
+        return f"is_some (slice_get ts {var})"
+    return f"is_{SORT[kind]} (slice_get ts {var})"
+
+
+def conjuncts(args):
+    out = []
+    for kind, var, _ in args:
+        if kind == 'L':
+            out += ['is_some (slice_get p.lists f)', 'are_fields ts (the_list (slice_get p.lists f))']
+        elif kind == 'k':
+            out.append('is_some (slice_get p.marks m)')
+        elif kind.isupper():
+            out.append(test(kind, var))
+    return out
+
+
+def fact(tests, index):
+    """The proof from h : (t0 && t1) && .. ≡ true that the test of this index passes."""
+    def go(upto):
+        return f"({tests[0]})" if upto == 0 else f"({go(upto - 1)} && {tests[upto]})"
+    proof = 'h'
+    last = len(tests) - 1
+    while last > index:
+        proof = f"(both-left {go(last - 1)} ({tests[last]}) {proof})"
+        last -= 1
+    if index > 0:
+        proof = f"(both-right {go(index - 1)} ({tests[index]}) {proof})"
+    return proof
+
+
+def remake(name, sort, ctor, args):
+    own = [(kind, var) for kind, var, _ in args if kind.isupper() and kind != 'L']
+    tests = conjuncts(args)
+    e = 'e' if any(bound for _, _, bound in args) else 'd'
+    depth = '(d + 1)' if any(bound for _, _, bound in args) else 'd'
+    has_list = any(kind == 'L' for kind, _, _ in args)
+    variables = [var for _, var, _ in args]
+    types = {'u': 'ℕ', 'z': 'ℤ'}
+    binders = ' '.join(f"({var} : {types.get(kind, 'ℕ')})" for kind, var, _ in args)
+    own_list = ' ∷ '.join([var for _, var in own] + ['[]'])
+    new = []
+    index = 0
+    for kind, var, _ in args:
+        if kind == 'L':
+            new.append('n')
+        elif kind.isupper():
+            new.append(f"(slice_index rs {index})")
+            index += 1
+        else:
+            new.append(var)
+    premises = [f"fits p ts {applied('s.' + name, variables)} ≡ true"]
+    names = ['h']
+    if has_list:
+        premises += ["slice_get q.lists n ≡ Some fs", f"AllMapped l ts {depth} (the_list (slice_get p.lists f)) fs"]
+        names += ['g', 'u']
+    if own:
+        premises.append(f"AllMapped l ts {depth} ({own_list}) rs")
+        names.append('w')
+    extra = (' (rs : List ℕ)' if own else '') + (' (fs : List ℕ)' if has_list else '')
+    extra_names = (['rs'] if own else []) + (['fs'] if has_list else [])
+    sig = f"  remade-{name} : {binders}{extra}{' → ' if binders or extra else ''}{' → '.join(premises)} → Remade p q ts l d {applied('s.' + name, variables)} {applied('s.' + name, new)}"
+    sig = sig.replace(' :  →', ' :').replace(': (', ': (')
+    head = f"  remade-{name} {' '.join(variables + extra_names + names)}".rstrip()
+    lines = []
+    fits, tree = [], []
+    index = 0
+    place = ['first', 'second', 'third']
+    position = 0
+    for kind, var, _ in args:
+        if kind == 'L':
+            lines.append(f"let u1 = {fact(tests, position + 1)} in")
+            fits += ["ap is_some g", f"fields-fit q ts l {depth} n fs (the_list (slice_get p.lists f)) g u u1"]
+            tree.append(f"fields-are q ts l {depth} n fs (the_list (slice_get p.lists f)) g u u1 i")
+            position += 2
+        elif kind == 'k':
+            lines.append(f"let marked : slice_get q.marks m ≡ slice_get p.marks m = grown p.marks q.marks m marks {fact(tests, position)} in")
+            fits.append(f"(ap is_some marked ∙ {fact(tests, position)})")
+            tree.append("the_mark (marked i)")
+            position += 1
+        elif kind.isupper():
+            rest = ' ∷ '.join([v for _, v in own[index + 1:]] + ['[]'])
+            before = ' '.join(v for _, v in own[:index + 1])
+            lines.append(f"let {var}1 = {place[index]}-mapped ts l {depth} {before} ({rest}) rs w in")
+            lines.append(f"let {var}2 = {fact(tests, position)} in")
+            if kind == 'V':
+                fits.append(f"mapped-there l ts {var} {depth} (slice_index rs {index}) {var}1")
+                tree.append(f"value-is l ts {var} {depth} (slice_index rs {index}) {var}1 i")
+            else:
+                fits.append(f"{SORT[kind]}-fits l ts {var} {depth} (slice_index rs {index}) {var}1 {var}2")
+                tree.append(f"{SORT[kind]}-is l ts {var} {depth} (slice_index rs {index}) {var}1 {var}2 i")
+            index += 1
+            position += 1
+        else:
+            tree.append(var)
+    proof = fits[0] if fits else 'refl'
+    if len(fits) > 1:
+        proof = f"({fits[0]})"
+        for more in fits[1:]:
+            proof = f"(both_true {proof} ({more}))"
+    value = {'object': 'of_object', 'number': 'of_number', 'set': 'of_set', 'field': 'of_field', 'truth': 'of_truth'}[sort]
+    path = 'refl' if not any(' i' in t or 'marked' in t for t in tree) else \
+        f"λ i. {value} (t.{ctor} {' '.join(f'({t})' if ' ' in t else t for t in tree)})"
+    body = '\n      '.join(lines + [f"record {{ fits = {proof}; is = {path} }}"])
+    return sig, f"{head} =\n      {body}"
+
+
+HEAD = """-- A shape with the answers for its parts in their places is the mapped shape.
+use Rattle.std.proofs.Common.{◌≡◌, refl, sym, ap, ◌∙◌, ℕ, ◌+◌, Bool, true, false, ◌&&◌, List, [], ◌∷◌, length, slice_get, slice_index, Option, Some, None, is_some, ℤ}
+use Rattle.std.proofs.lemmas.Bool.{true≢false}
+use Rattle.std.specs.Cmp.Derive.{both_true}
+use Rattle.jh_tree.specs.Tree.{ValueTree, of_object, of_number, of_truth, of_set, of_field}
+use Rattle.jh_tree.specs.Tree as t
+use Rattle.jh_tree.proofs.ClosedLemmas.{both-left, both-right}
+use Rattle.jh_walk.specs.Mapped.{LeafMap, mapped_term, mapped_int, mapped_set, mapped_field, mapped_value, mapped_formula, mapped_fields}
+use Rattle.jh_table.specs.Entries.{Pools, the_list, the_mark, is_object, is_number, is_truth, is_set, is_field, the_object, the_number, the_truth, the_set, the_field, the_value, are_fields, fields_at}
+use Rattle.jh_table.specs.Growth.{Grows}
+use Rattle.jh_table.specs.Nodes.{fits, shape_tree}
+use Rattle.jh_table.specs.Parts.{own_parts, list_parts, has_list, binders, put}
+use Rattle.jh_table.specs.declared.shapes.Shape.{Shape}
+use Rattle.jh_table.specs.declared.shapes.Shape.TheVariants as s
+use Rattle.jh_pass.specs.Leaf.{is_leaf}
+use Rattle.jh_pass.specs.Mapping.{IsMapped, AllMapped}
+use Rattle.jh_pass.specs.Staying.{grown}
+use Rattle.jh_pass.proofs.Mappings.{mapped-there}
+use Rattle.jh_pass.proofs.PartMappings.{Remade, first-mapped, second-mapped, third-mapped, object-fits, object-is, number-fits, number-is, truth-fits, truth-is, set-fits, set-is, field-fits, field-is, value-is, fields-fit, fields-are, plain}
+
+module _ (p q : Pools) (ts : List ValueTree) (l : LeafMap) (d : ℕ) (n : ℕ) (marks : Grows p.marks q.marks) where
+"""
+
+
+def remakes():
+    out = [HEAD]
+    cases = []
+    for name, sort, ctor, args in shapes():
+        variables = [var for _, var, _ in args]
+        pattern = applied('s.' + name, variables)
+        if is_leaf(ctor):
+            cases.append(f"  remade {pattern} rs fs leaf h g u w = absurd (true≢false leaf)")
+            continue
+        sig, proof = remake(name, sort, ctor, args)
+        out.append(sig)
+        out.append("  unfolding fits shape_tree mapped_term mapped_int mapped_set mapped_field mapped_value mapped_formula")
+        out.append(proof)
+        out.append('')
+        own = [var for kind, var, _ in args if kind.isupper() and kind != 'L']
+        has_list = any(kind == 'L' for kind, _, _ in args)
+        bound = any(b for _, _, b in args)
+        w = 'w' if bound else f"(plain ts l d ({' ∷ '.join(own + ['[]'])}) rs w)"
+        words = variables + (['rs'] if own else []) + (['fs'] if has_list else []) + ['h'] + (['(g refl)', '(plain ts l d (the_list (slice_get p.lists f)) fs u)'] if has_list else []) + ([w] if own else [])
+        cases.append(f"  remade {pattern} rs fs leaf h g u w = remade-{name} {' '.join(words)}")
+    out.append("""  pub remade : (x : Shape) (rs fs : List ℕ) → is_leaf x ≡ false → fits p ts x ≡ true →
+      (has_list x ≡ true → slice_get q.lists n ≡ Some fs) →
+      AllMapped l ts (d + binders x) (list_parts p.lists x) fs → AllMapped l ts (d + binders x) (own_parts x) rs →
+      Remade p q ts l d x (put n rs x)
+  unfolding is_leaf has_list binders list_parts own_parts put""")
+    out += cases
+    return '\n'.join(out) + '\n'
+
+
+PARTS = """-- What the answers for the parts of a shape say.
+use Rattle.std.proofs.Common.{◌≡◌, refl, sym, ap, subst, add-zero, ◌∙◌, ℕ, ◌+◌, Bool, true, false, ◌&&◌, List, [], ◌∷◌, ◌++◌, length, slice_get, slice_index, Option, Some, None, is_some, option_map, arith, length-append}
+use Rattle.std.proofs.lemmas.Bool.{true≢false}
+use Rattle.std.specs.Cmp.Derive.{both_true}
+use Rattle.jh_tree.specs.Tree.{ValueTree, of_object, of_number, of_truth, of_set, of_field, none, more}
+use Rattle.jh_tree.proofs.ClosedLemmas.{both-left, both-right}
+use Rattle.jh_walk.specs.Mapped.{LeafMap, mapped_term, mapped_int, mapped_set, mapped_field, mapped_value, mapped_formula, mapped_fields}
+use Rattle.jh_table.specs.Entries.{Pools, the_list, is_object, is_number, is_truth, is_set, is_field, the_object, the_number, the_truth, the_set, the_field, the_value, are_fields, fields_at}
+use Rattle.jh_table.specs.Nodes.{fits, shape_tree}
+use Rattle.jh_table.specs.declared.shapes.Shape.{Shape}
+use Rattle.jh_pass.specs.Mapping.{IsMapped, AllMapped}
+use Rattle.jh_pass.proofs.Mappings.{mapped-there}
+
+-- the new shape fits, and is the old one mapped
+pub record Remade (p q : Pools) (ts : List ValueTree) (l : LeafMap) (d : ℕ) (old new : Shape) : Type 0 where
+  pub fits : fits q ts new ≡ true
+  pub is : shape_tree q ts new ≡ mapped_value (shape_tree p ts old) l d
+
+pub first-mapped : (ts : List ValueTree) (l : LeafMap) (d a : ℕ) (ps rs : List ℕ) → AllMapped l ts d (a ∷ ps) rs → IsMapped l ts a d (slice_index rs 0)
+first-mapped ts l d a ps [] h = absurd h
+first-mapped ts l d a ps (r ∷ rs) h = h.0
+
+pub second-mapped : (ts : List ValueTree) (l : LeafMap) (d a b : ℕ) (ps rs : List ℕ) → AllMapped l ts d (a ∷ b ∷ ps) rs → IsMapped l ts b d (slice_index rs 1)
+second-mapped ts l d a b ps [] h = absurd h
+second-mapped ts l d a b ps (r ∷ rs) h = first-mapped ts l d b ps rs h.1
+
+pub third-mapped : (ts : List ValueTree) (l : LeafMap) (d a b c : ℕ) (ps rs : List ℕ) → AllMapped l ts d (a ∷ b ∷ c ∷ ps) rs → IsMapped l ts c d (slice_index rs 2)
+third-mapped ts l d a b c ps [] h = absurd h
+third-mapped ts l d a b c ps (r ∷ rs) h = second-mapped ts l d b c ps rs h.1
+
+"""
+
+
+def sort_lemmas():
+    out = [PARTS]
+    for code in 'TIPSF':
+        sort, mapped = SORT[code], MAPPED[code]
+        out.append(f"""{sort}-fits_of : (l : LeafMap) (d : ℕ) (o n : Option ValueTree) → n ≡ option_map (λ v. mapped_value v l d) o → is_{sort} o ≡ true → is_{sort} n ≡ true
+unfolding is_{sort} mapped_value
+{sort}-fits_of l d (Some (of_{sort} a)) n e h = ap is_{sort} e
+{sort}-fits_of l d _ n e h = absurd (true≢false (sym h))
+
+pub {sort}-fits : (l : LeafMap) (ts : List ValueTree) (k d r : ℕ) → IsMapped l ts k d r → is_{sort} (slice_get ts k) ≡ true → is_{sort} (slice_get ts r) ≡ true
+{sort}-fits l ts k d r m h = {sort}-fits_of l d (slice_get ts k) (slice_get ts r) m.is h
+
+{sort}-is_of : (l : LeafMap) (d : ℕ) (o n : Option ValueTree) → n ≡ option_map (λ v. mapped_value v l d) o → is_{sort} o ≡ true → the_{sort} n ≡ mapped_{mapped} (the_{sort} o) l d
+unfolding is_{sort} the_{sort} mapped_value
+{sort}-is_of l d (Some (of_{sort} a)) n e h = ap the_{sort} e
+{sort}-is_of l d _ n e h = absurd (true≢false (sym h))
+
+pub {sort}-is : (l : LeafMap) (ts : List ValueTree) (k d r : ℕ) → IsMapped l ts k d r → is_{sort} (slice_get ts k) ≡ true → the_{sort} (slice_get ts r) ≡ mapped_{mapped} (the_{sort} (slice_get ts k)) l d
+{sort}-is l ts k d r m h = {sort}-is_of l d (slice_get ts k) (slice_get ts r) m.is h
+""")
+    out.append("""-- no binders more
+pub plain : (ts : List ValueTree) (l : LeafMap) (d : ℕ) (ps rs : List ℕ) → AllMapped l ts (d + 0) ps rs → AllMapped l ts d ps rs
+plain ts l d ps rs h = subst (λ (q : ℕ). AllMapped l ts q ps rs) (add-zero d) h
+
+value-is_of : (l : LeafMap) (d : ℕ) (o n : Option ValueTree) → n ≡ option_map (λ v. mapped_value v l d) o → is_some o ≡ true → the_value n ≡ mapped_value (the_value o) l d
+unfolding the_value
+value-is_of l d (Some a) n e h = ap the_value e
+value-is_of l d None n e h = absurd (true≢false (sym h))
+
+pub value-is : (l : LeafMap) (ts : List ValueTree) (k d r : ℕ) → IsMapped l ts k d r → the_value (slice_get ts r) ≡ mapped_value (the_value (slice_get ts k)) l d
+value-is l ts k d r m = value-is_of l d (slice_get ts k) (slice_get ts r) m.is m.there
+
+all-fit : (ts : List ValueTree) (l : LeafMap) (d : ℕ) (ps rs : List ℕ) → AllMapped l ts d ps rs → are_fields ts ps ≡ true → are_fields ts rs ≡ true
+unfolding are_fields
+all-fit ts l d [] [] u h = refl
+all-fit ts l d [] (r ∷ rs) u h = absurd u
+all-fit ts l d (p ∷ ps) [] u h = absurd u
+all-fit ts l d (p ∷ ps) (r ∷ rs) u h =
+    both_true
+    (field-fits l ts p d r u.0 (both-left (is_field (slice_get ts p)) (are_fields ts ps) h))
+    (all-fit ts l d ps rs u.1 (both-right (is_field (slice_get ts p)) (are_fields ts ps) h))
+
+all-are : (ts : List ValueTree) (l : LeafMap) (d : ℕ) (ps rs : List ℕ) → AllMapped l ts d ps rs → are_fields ts ps ≡ true → fields_at ts rs ≡ mapped_fields (fields_at ts ps) l d
+unfolding are_fields fields_at mapped_fields
+all-are ts l d [] [] u h = refl
+all-are ts l d [] (r ∷ rs) u h = absurd u
+all-are ts l d (p ∷ ps) [] u h = absurd u
+all-are ts l d (p ∷ ps) (r ∷ rs) u h = λ i.
+    more
+    (field-is l ts p d r u.0 (both-left (is_field (slice_get ts p)) (are_fields ts ps) h) i)
+    (all-are ts l d ps rs u.1 (both-right (is_field (slice_get ts p)) (are_fields ts ps) h) i)
+
+-- the answers for a list of fields, which has the number n
+pub fields-fit : (q : Pools) (ts : List ValueTree) (l : LeafMap) (d n : ℕ) (fs ps : List ℕ) → slice_get q.lists n ≡ Some fs →
+    AllMapped l ts d ps fs → are_fields ts ps ≡ true → are_fields ts (the_list (slice_get q.lists n)) ≡ true
+unfolding the_list
+fields-fit q ts l d n fs ps g u h = ap (λ o. are_fields ts (the_list o)) g ∙ all-fit ts l d ps fs u h
+
+pub fields-are : (q : Pools) (ts : List ValueTree) (l : LeafMap) (d n : ℕ) (fs ps : List ℕ) → slice_get q.lists n ≡ Some fs →
+    AllMapped l ts d ps fs → are_fields ts ps ≡ true → fields_at ts (the_list (slice_get q.lists n)) ≡ mapped_fields (fields_at ts ps) l d
+unfolding the_list
+fields-are q ts l d n fs ps g u h = ap (λ o. fields_at ts (the_list o)) g ∙ all-are ts l d ps fs u h
+
+-- the answers for parts that stand one list after the other
+pub all-split : (ts : List ValueTree) (l : LeafMap) (d : ℕ) (ps qs fs gs : List ℕ) → AllMapped l ts d (ps ++ qs) (fs ++ gs) → length fs ≡ length ps →
+    AllMapped l ts d ps fs × AllMapped l ts d qs gs
+all-split ts l d [] qs [] gs h e = (tt, h)
+all-split ts l d [] qs (f ∷ fs) gs h e = absurd (omega arith)
+all-split ts l d (p ∷ ps) qs [] gs h e = absurd (omega arith)
+all-split ts l d (p ∷ ps) qs (f ∷ fs) gs h e =
+    let rest = all-split ts l d ps qs fs gs h.1 (omega arith) in
+    ((h.0, rest.0), rest.1)
+""")
+    return '\n'.join(out)
+
+
+PASSINGS = """-- The free names of a shape's tree pass a test exactly where those of its parts do.
+use Rattle.std.proofs.Common.{◌≡◌, refl, sym, ap, ◌∙◌, ℕ, ◌+◌, ◌<◌, zero, suc, Bool, true, false, ◌&&◌, List, [], ◌∷◌, ◌++◌, length, slice_get, Option, Some, None, is_some, ℤ, arith}
+use Rattle.std.proofs.Math.Bool.{and-true}
+use Rattle.std.proofs.lemmas.Bool.{true≢false}
+use Rattle.std.proofs.lemmas.Option.{slice_get_within}
+use Rattle.jh_name.specs.declared.naming.Name.{Name}
+use Rattle.jh_name.specs.declared.place.Sort as place
+use Rattle.jh_name.specs.declared.place.Sort.TheVariants as Sort
+use Rattle.jh_tree.specs.Tree.{ValueTree, of_object, of_number, of_truth, of_set, of_field}
+use Rattle.jh_tree.specs.Tree as t
+use Rattle.jh_tree.specs.Passing.{term_passes, int_passes, set_passes, field_passes, value_passes, formula_passes, fields_passes}
+use Rattle.jh_tree.proofs.ClosedLemmas.{both-left, both-right}
+use Rattle.jh_table.specs.Entries.{Pools, the_name, the_list, is_object, is_number, is_truth, is_set, is_field, the_object, the_number, the_truth, the_set, the_field, the_value, are_fields, fields_at}
+use Rattle.jh_table.specs.Nodes.{fits, shape_tree}
+use Rattle.jh_table.specs.Parts.{parts, own_parts, list_parts}
+use Rattle.jh_table.specs.declared.shapes.Shape.{Shape}
+use Rattle.jh_table.specs.declared.shapes.Shape.TheVariants as s
+use Rattle.jh_pass.specs.Leaf.{is_leaf}
+use Rattle.jh_pass.specs.Passed.{all_pass}
+
+one-pass : (a va : Bool) → a ≡ va → a ≡ (va && true)
+one-pass a va e = e ∙ sym (and-true va)
+
+two-pass : (a b va vb : Bool) → a ≡ va → b ≡ vb → (a && b) ≡ (va && (vb && true))
+two-pass a b va vb e f = (λ i. e i && f i) ∙ ap (λ z. va && z) (sym (and-true vb))
+
+regroup : (a b c : Bool) → ((a && b) && c) ≡ (a && (b && (c && true)))
+regroup true b c = ap (λ z. b && z) (sym (and-true c))
+regroup false b c = refl
+
+three-pass : (a b c va vb vc : Bool) → a ≡ va → b ≡ vb → c ≡ vc → ((a && b) && c) ≡ (va && (vb && (vc && true)))
+three-pass a b c va vb vc e f g = (λ i. (e i && f i) && g i) ∙ regroup va vb vc
+
+and_assoc : (a b c : Bool) → (a && (b && c)) ≡ ((a && b) && c)
+and_assoc true b c = refl
+and_assoc false b c = refl
+
+pub all_pass-append : (q : Name → place.Sort → Bool) (ts : List ValueTree) (xs ys : List ℕ) → all_pass q ts (xs ++ ys) ≡ (all_pass q ts xs && all_pass q ts ys)
+all_pass-append q ts [] ys = refl
+all_pass-append q ts (x ∷ xs) ys =
+    ap (λ z. value_passes (the_value (slice_get ts x)) q && z) (all_pass-append q ts xs ys)
+    ∙ and_assoc (value_passes (the_value (slice_get ts x)) q) (all_pass q ts xs) (all_pass q ts ys)
+"""
+
+
+def passings():
+    out = [PASSINGS]
+    for code in 'TIPSF':
+        sort, fn = SORT[code], MAPPED[code]
+        out.append(f"""{'pub ' if sort == 'truth' else ''}{sort}-passes : (q : Name → place.Sort → Bool) (o : Option ValueTree) → is_{sort} o ≡ true → {fn}_passes (the_{sort} o) q ≡ value_passes (the_value o) q
+unfolding is_{sort} the_{sort} the_value value_passes
+{sort}-passes q (Some (of_{sort} a)) h = refl
+{sort}-passes q _ h = absurd (true≢false (sym h))
+""")
+    out.append("""fields-pass : (q : Name → place.Sort → Bool) (ts : List ValueTree) (ns : List ℕ) → are_fields ts ns ≡ true → fields_passes (fields_at ts ns) q ≡ all_pass q ts ns
+unfolding are_fields fields_at fields_passes
+fields-pass q ts [] h = refl
+fields-pass q ts (n ∷ ns) h = λ i.
+    field-passes q (slice_get ts n) (both-left (is_field (slice_get ts n)) (are_fields ts ns) h) i
+    && fields-pass q ts ns (both-right (is_field (slice_get ts n)) (are_fields ts ns) h) i
+
+module _ (p : Pools) (ts : List ValueTree) (q : Name → place.Sort → Bool) where
+  pub passes-parts : (x : Shape) → is_leaf x ≡ false → fits p ts x ≡ true → value_passes (shape_tree p ts x) q ≡ all_pass q ts (parts p.lists x)
+  unfolding is_leaf fits shape_tree list_parts own_parts term_passes int_passes set_passes field_passes value_passes formula_passes""")
+    for name, sort, ctor, args in shapes():
+        variables = [var for _, var, _ in args]
+        pattern = applied('s.' + name, variables)
+        if is_leaf(ctor):
+            out.append(f"  passes-parts {pattern} leaf h = absurd (true≢false leaf)")
+            continue
+        tests = conjuncts(args)
+        position = 0
+        left, right, facts = [], [], []
+        for kind, var, _ in args:
+            if kind == 'L':
+                left.append("(fields_passes (fields_at ts (the_list (slice_get p.lists f))) q)")
+                right.append("(all_pass q ts (the_list (slice_get p.lists f)))")
+                facts.append(f"(fields-pass q ts (the_list (slice_get p.lists f)) {fact(tests, position + 1)})")
+                position += 2
+            elif kind == 'k':
+                position += 1
+            elif kind == 'V':
+                left.append(f"(value_passes (the_value (slice_get ts {var})) q)")
+                right.append(f"(value_passes (the_value (slice_get ts {var})) q)")
+                facts.append("refl")
+                position += 1
+            elif kind.isupper():
+                left.append(f"({MAPPED[kind]}_passes (the_{SORT[kind]} (slice_get ts {var})) q)")
+                right.append(f"(value_passes (the_value (slice_get ts {var})) q)")
+                facts.append(f"({SORT[kind]}-passes q (slice_get ts {var}) {fact(tests, position)})")
+                position += 1
+        words = ' '.join(left + right + facts)
+        proof = ['refl', 'one-pass', 'two-pass', 'three-pass'][len(left)]
+        proof = proof if not left else f"{proof} {words}"
+        if any(kind == 'L' for kind, _, _ in args):
+            own = ' ∷ '.join([var for kind, var, _ in args if kind.isupper() and kind != 'L'] + ['[]'])
+            proof += f" ∙ sym (all_pass-append q ts (the_list (slice_get p.lists f)) ({own}))"
+        out.append(f"  passes-parts {pattern} leaf h = {proof}")
+    out.append('')
+    for code, word in (('T', 'Obj'), ('I', 'Int'), ('P', 'Bool'), ('S', 'Set'), ('F', 'Field')):
+        sort = SORT[code]
+        shape = 'Free' + sort.capitalize()
+        out.append(f"""  pub {sort}-named : (x : Shape) (n : ℕ) → x ≡ s.{shape} n → fits p ts x ≡ true → n < length p.names
+  unfolding fits
+  {sort}-named x n e h = name-within p.names n (ap (fits p ts) (sym e) ∙ h)
+
+  pub {sort}-asked : (x : Shape) (n : ℕ) (y : Name) (r : Bool) → x ≡ s.{shape} n → slice_get p.names n ≡ Some y → r ≡ q y Sort.{word} → r ≡ value_passes (shape_tree p ts x) q
+  unfolding shape_tree the_name {MAPPED[code]}_passes value_passes
+  {sort}-asked x n y r e named asked = asked ∙ ap (λ o. q (the_name o) Sort.{word}) (sym named) ∙ ap (λ z. value_passes (shape_tree p ts z) q) (sym e)
+""")
+    frees = ['FreeObject', 'FreeNumber', 'FreeTruth', 'FreeSet', 'FreeField']
+    premises = ' → '.join(f"((n : ℕ) → x ≡ s.{shape} n → ⊥)" for shape in frees)
+    out.append(f"""  pub bound-asked : (x : Shape) → is_leaf x ≡ true → {premises} → true ≡ value_passes (shape_tree p ts x) q
+  unfolding is_leaf shape_tree term_passes value_passes
+  bound-asked (s.Bound k) leaf a b c d e = refl""")
+    for shape, letter in zip(frees, 'abcde'):
+        out.append(f"  bound-asked (s.{shape} n) leaf a b c d e = absurd ({letter} n refl)")
+    out.append("  bound-asked _ leaf a b c d e = absurd (true≢false (sym leaf))")
+    text = '\n'.join(out) + '\n'
+    return text.replace('module _ (p : Pools)', """some-name : (xs : List Name) (n : ℕ) (o : Option Name) → slice_get xs n ≡ o → is_some o ≡ true → n < length xs
+some-name xs n (Some v) e h = slice_get_within xs n v e
+some-name xs n None e h = absurd (true≢false (sym h))
+
+name-within : (xs : List Name) (n : ℕ) → is_some (slice_get xs n) ≡ true → n < length xs
+name-within xs n h = some-name xs n (slice_get xs n) refl h
+
+module _ (p : Pools)""", 1)
+
+
+def sort_of():
+    out = ["""-- The sort of a shape is that of its tree.
+use Rattle.std.proofs.Common.{◌≡◌, refl, ℕ, ℤ, List}
+use Rattle.jh_name.specs.declared.place.Sort.TheVariants as Sort
+use Rattle.jh_tree.specs.Tree.{ValueTree}
+use Rattle.jh_form.specs.Substituted.{tree_sort}
+use Rattle.jh_table.specs.Entries.{Pools}
+use Rattle.jh_table.specs.Nodes.{shape_tree}
+use Rattle.jh_table.specs.declared.shapes.Shape.{Shape}
+use Rattle.jh_table.specs.declared.shapes.Shape.TheVariants as s
+use Rattle.jh_pass.specs.Leaf.{shape_sort}
+
+pub sort-same : (p : Pools) (ts : List ValueTree) (x : Shape) → shape_sort x ≡ tree_sort (shape_tree p ts x)
+unfolding shape_sort shape_tree"""]
+    premises, cases, names = [], [], []
+    for name, sort, ctor, args in shapes():
+        variables = [var for _, var, _ in args]
+        out.append(f"sort-same p ts {applied('s.' + name, variables)} = refl")
+        if sort != 'truth':
+            kinds = {'z': 'ℤ'}
+            binders = ' '.join(f"({var} : {kinds.get(kind, 'ℕ')})" for kind, var, _ in args)
+            premises.append(f"({binders + ' → ' if binders else ''}y ≡ {applied('s.' + name, variables).strip('()')} → ⊥)")
+            cases.append((name, variables))
+            names.append(f"h{len(names)}")
+    out.append(f"\n-- what is no term and no field is a formula\npub formula-sort : (y : Shape) → {' → '.join(premises)} → Sort.Bool ≡ shape_sort y")
+    out.append("unfolding shape_sort")
+    for (name, variables), h in zip(cases, names):
+        out.append(f"formula-sort {applied('s.' + name, variables)} {' '.join(names)} = absurd ({' '.join([h] + variables)} refl)")
+    out.append(f"formula-sort _ {' '.join(names)} = refl")
+    sort_of.answer = ' '.join(f"c.in_default.not-{name}" for name, _ in cases)
+    return '\n'.join(out) + '\n'
+
+
+def substitution():
+    out = ["""-- The rules of a substitution, over a table.
+use Rattle.std.proofs.Common.{◌≡◌, refl, sym, ap, ◌∙◌, subst, ℕ, Bool, true, false, if◌then◌else◌, List, slice_get, Option, Some, is_some}
+use Rattle.std.proofs.lemmas.Bool.{true≢false}
+use Rattle.jh_name.specs.declared.naming.Name.{Name}
+use Rattle.jh_name.specs.declared.place.Sort.{Sort}
+use Rattle.jh_tree.specs.Tree.{ValueTree, of_object, of_number, of_truth, of_set, of_field}
+use Rattle.jh_tree.specs.Tree as t
+use Rattle.jh_tree.specs.Passing.{name_equal}
+use Rattle.jh_tree.proofs.Names.{name_equal-same, name_equal-true}
+use Rattle.jh_walk.specs.Mapped.{LeafMap, mapped_value, mapped_term, mapped_int, mapped_set, mapped_field, mapped_formula}
+use Rattle.jh_form.specs.Substituted.{substituting, tree_sort}
+use Rattle.jh_table.specs.Entries.{Pools, the_name}
+use Rattle.jh_table.specs.Nodes.{fits, shape_tree}
+use Rattle.jh_table.specs.declared.shapes.Shape.{Shape}
+use Rattle.jh_table.specs.declared.shapes.Shape.TheVariants as s
+use Rattle.jh_pass.specs.Leaf.{is_leaf, free_shape, free_value}
+
+-- where the test passes, and where the names differ
+pub chosen : {X : Type 0} (x : Name) (a c : X) → (if name_equal x x then a else c) ≡ a
+chosen x a c = ap (λ b. if b then a else c) (name_equal-same x x refl)
+
+unless : {X : Type 0} (y x : Name) (a c : X) (b : Bool) → name_equal y x ≡ b → (y ≡ x → ⊥) → (if b then a else c) ≡ c
+unless y x a c true e differs = absurd (differs (name_equal-true y x e))
+unless y x a c false e differs = refl
+
+pub other : {X : Type 0} (y x : Name) (a c : X) → (y ≡ x → ⊥) → (if name_equal y x then a else c) ≡ c
+other y x a c differs = unless y x a c (name_equal y x) refl differs
+
+-- the value stands for the name
+pub free-exchanged : (x : Name) (v : ValueTree) (d : ℕ) → mapped_value (free_value x v) (substituting x v) d ≡ v
+unfolding mapped_value mapped_term mapped_int mapped_set mapped_field mapped_formula"""]
+    values = [('object', 'FreeObject', 'free_object'), ('number', 'FreeNumber', 'free_number'), ('truth', 'FreeTruth', 'free_truth'), ('set', 'FreeSet', 'free_set'), ('field', 'FreeField', 'free_field')]
+    for sort, _, ctor in values:
+        out.append(f"free-exchanged x (of_{sort} a) d = ap of_{sort} (chosen x a (t.{ctor} x))")
+    out.append("""
+-- another leaf stays
+pub other-kept : (p : Pools) (ts : List ValueTree) (x : Name) (d : ℕ) (y : Shape) (v : ValueTree) → is_leaf y ≡ true → (shape_tree p ts y ≡ free_value x v → ⊥) →
+    mapped_value (shape_tree p ts y) (substituting x v) d ≡ shape_tree p ts y
+unfolding is_leaf shape_tree mapped_value mapped_term mapped_int mapped_set mapped_field mapped_formula""")
+    for sort, _, _ in values:
+        out.append(f"other-kept p ts x d (s.Bound k) (of_{sort} a) leaf differs = refl")
+    for own, shape, ctor in values:
+        for sort, _, _ in values:
+            proof = 'refl' if sort != own else \
+                f"ap of_{sort} (other (the_name (slice_get p.names n)) x a (t.{ctor} (the_name (slice_get p.names n))) (λ e. differs (ap (λ z. of_{sort} (t.{ctor} z)) e)))"
+            out.append(f"other-kept p ts x d (s.{shape} n) (of_{sort} a) leaf differs = {proof}")
+    out.append("other-kept p ts x d _ v leaf differs = absurd (true≢false (sym leaf))")
+    out.append("""
+-- the free name at the sort of the value
+pub free-fits : (p : Pools) (ts : List ValueTree) (n : ℕ) (sort : Sort) → is_some (slice_get p.names n) ≡ true → fits p ts (free_shape n sort) ≡ true
+unfolding fits free_shape
+free-fits p ts n Sort.Obj h = h
+free-fits p ts n Sort.Int h = h
+free-fits p ts n Sort.Bool h = h
+free-fits p ts n Sort.Set h = h
+free-fits p ts n Sort.Field h = h
+
+pub free-tree : (p : Pools) (ts : List ValueTree) (n : ℕ) (v : ValueTree) → shape_tree p ts (free_shape n (tree_sort v)) ≡ free_value (the_name (slice_get p.names n)) v
+unfolding shape_tree free_shape""")
+    for sort, _, _ in values:
+        out.append(f"free-tree p ts n (of_{sort} a) = refl")
+    text = '\n'.join(out) + '\n'
+    return text.replace('{Sort}\nuse Rattle.jh_tree.specs.Tree.{Value', '{Sort}\nuse Rattle.jh_name.specs.declared.place.Sort.TheVariants as Sort\nuse Rattle.jh_tree.specs.Tree.{Value').replace('declared.place.Sort.{Sort}', 'declared.place.Sort as place').replace('(sort : Sort)', '(sort : place.Sort)')
+
+
+if __name__ == '__main__':
+    with open(os.path.join(HERE, 'proofs', 'SubstitutionRules.antt'), 'w') as out:
+        out.write(substitution())
+    with open(os.path.join(HERE, 'proofs', 'Passings.antt'), 'w') as out:
+        out.write(passings())
+    with open(os.path.join(HERE, 'proofs', 'ShapeSorts.antt'), 'w') as out:
+        out.write(sort_of())
+    if '--answers' in sys.argv:
+        print(sort_of.answer)
+    with open(os.path.join(HERE, 'proofs', 'PartMappings.antt'), 'w') as out:
+        out.write(sort_lemmas())
+    with open(os.path.join(HERE, 'proofs', 'Remakes.antt'), 'w') as out:
+        out.write(remakes())
