@@ -1,0 +1,2 @@
+pub mod DoorSteps
+pub mod Fields
