@@ -1,6 +1,6 @@
 -- What the tests of equality of names, labels and lists say, and where a key stands in a list without
 -- equal ones.
-use Rattle.std.proofs.Common.{◌≡◌, refl, sym, ap, ◌∙◌, ℕ, zero, suc, ◌+◌, ◌<◌, ◌≤◌, ◌==◌, Bool, true, false, ◌&&◌, List, [], ◌∷◌, ◌++◌, length, slice_get, Some, None, is_some, nat_eq, nat_lt, not, cond, get_or, position, rules, arith}
+use Rattle.std.proofs.Common.{◌≡◌, refl, sym, ap, ◌∙◌, ℕ, zero, suc, ◌<◌, ◌≤◌, Bool, true, false, ◌&&◌, List, [], ◌∷◌, length, slice_get, Some, None, nat_eq, nat_lt, not, cond, get_or, position, rules, arith}
 use Rattle.std.specs.Prelude.{Option}
 use Rattle.std.specs.Bool.{Decides}
 use Rattle.std.specs.List.{IsDistinct, position_or_len}

@@ -1,12 +1,11 @@
 -- A shape's list of fields, by its number.
-use Rattle.std.proofs.Common.{◌≡◌, refl, sym, ap, ◌∙◌, ℕ, ◌<◌, Bool, true, false, List, [], ◌∷◌, length, slice_get, Some, None, is_some, arith}
-use Rattle.std.specs.Prelude.{Option}
+use Rattle.std.proofs.Common.{◌≡◌, refl, sym, ap, ◌∙◌, ℕ, ◌<◌, true, false, List, [], length, slice_get, Some, None, arith}
 use Rattle.std.proofs.lemmas.Bool.{true≢false}
 use Rattle.jh_table.specs.Entries.{Listing, the_list}
 use Rattle.jh_table.specs.declared.shapes.Shape.{Shape}
 use Rattle.jh_table.specs.declared.shapes.Shape.TheVariants as s
 use Rattle.jh_table.specs.Nodes.{nodes, fits_in}
-use Rattle.jh_table.specs.Parts.{list_of, list_parts, has_list, own_parts}
+use Rattle.jh_table.specs.Parts.{list_of, list_parts, has_list}
 use Rattle.jh_table.proofs.Below.{inside}
 use Rattle.jh_table.proofs.PartSteps.{part-Reach-l, part-Tree-l}
 

@@ -1,5 +1,5 @@
 -- Closedness at each constructor.
-use Rattle.std.proofs.Common.{◌≡◌, refl, ◌&&◌, Bool, true, nat_lt, ℕ, ◌+◌, ℤ}
+use Rattle.std.proofs.Common.{◌≡◌, refl, ◌&&◌, true, nat_lt, ℕ, ◌+◌, ℤ}
 use Rattle.jh_name.specs.declared.naming.Name.{Name}
 use Rattle.jh_tree.specs.declared.mark.Mark.{Mark}
 use Rattle.jh_tree.specs.Tree.{TermTree, IntTree, SetTree, FieldTree, ValueTree, FormulaTree, FieldTrees}

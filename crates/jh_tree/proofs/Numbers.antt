@@ -1,5 +1,5 @@
 -- A number divides another exactly where some whole number times it is the other.
-use Rattle.std.proofs.Common.{◌≡◌, refl, sym, ap, ◌∙◌, ℕ, zero, suc, ◌+◌, ◌*◌, ◌/◌, ◌%◌, ◌==◌, true, ℤ, pos, negsuc, ◌*ℤ◌, neg_ℤ, unsigned_abs, arith}
+use Rattle.std.proofs.Common.{◌≡◌, sym, ap, ◌∙◌, ℕ, zero, suc, ◌+◌, ◌*◌, ◌/◌, ◌%◌, true, ℤ, pos, negsuc, ◌*ℤ◌, neg_ℤ, unsigned_abs, arith}
 use Rattle.std.proofs.Math.Nat.{div-add-mod, mul-mod_right}
 use Rattle.std.proofs.Math.IntN.{pos-*ℤ-pos, pos-*ℤ-negsuc, negsuc-*ℤ-pos, negsuc-*ℤ-negsuc}
 use Rattle.std.proofs.lemmas.Int.{unsigned_abs-mul}

@@ -1,5 +1,5 @@
 -- The tree of each variant, an equation for each.
-use Rattle.std.proofs.Common.{◌≡◌, refl, ap, ◌∙◌, List, [], ◌∷◌, ℕ, ℤ}
+use Rattle.std.proofs.Common.{◌≡◌, refl, ap, ◌∙◌, List, ℕ, ℤ}
 use Rattle.jh_name.specs.declared.naming.Name.{Name}
 use Rattle.jh_tree.specs.declared.mark.Mark.{Mark}
 use Rattle.jh_tree.specs.declared.form.Term.{Term}

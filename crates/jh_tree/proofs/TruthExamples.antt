@@ -1,9 +1,9 @@
 -- Truth values worked by hand, in a universe of the objects 0 to 3 where null is 0.
-use Rattle.std.proofs.Common.{◌≡◌, refl, ℕ, ◌==◌, if◌then◌else◌, Bool, true, false, List, [], ◌∷◌, ℤ, pos, negsuc}
+use Rattle.std.proofs.Common.{◌≡◌, refl, ℕ, ◌==◌, if◌then◌else◌, Bool, true, false, [], pos, negsuc}
 use Rattle.jh_name.specs.declared.naming.Name.{Name}
 use Rattle.jh_tree.specs.Tree.{TermTree, IntTree, SetTree, FieldTree, ValueTree, FormulaTree, FieldTrees}
 use Rattle.jh_tree.specs.Tree as t
-use Rattle.jh_tree.specs.Meaning.{Fields, Interp, truth, term_value, int_value, divides_number}
+use Rattle.jh_tree.specs.Meaning.{Fields, Interp, truth}
 
 -- names without text, told apart by their turns
 abbrev named : ℕ → Name

@@ -1,5 +1,5 @@
 -- Terms are objects of the universe.
-use Rattle.std.proofs.Common.{◌≡◌, refl, ℕ, suc, ◌<◌, ◌==◌, Bool, true, false, if◌then◌else◌, List, slice_index, arith}
+use Rattle.std.proofs.Common.{ℕ, suc, ◌<◌, ◌==◌, Bool, true, false, if◌then◌else◌, List, slice_index, arith}
 use Rattle.jh_tree.specs.Tree.{TermTree, FieldTree, ValueTree}
 use Rattle.jh_tree.specs.Tree as t
 use Rattle.jh_tree.specs.Meaning.{Fields, Datum, an_object, a_number, a_truth, a_set, a_field, Interp, InUniverse, updated, term_value, field_value, datum}

@@ -1,7 +1,6 @@
 -- A part has fewer nodes than its whole.
-use Rattle.std.proofs.Common.{◌≡◌, ℕ, ◌+◌, ◌<◌, ◌≤◌, arith}
-use Rattle.jh_tree.specs.Tree.{TermTree, IntTree, SetTree, FieldTree, ValueTree, FormulaTree, FieldTrees}
-use Rattle.jh_tree.specs.Tree as t
+use Rattle.std.proofs.Common.{◌<◌, ◌≤◌, arith}
+use Rattle.jh_tree.specs.Tree.{FieldTree, ValueTree, FieldTrees}
 use Rattle.jh_walk.specs.Sizes.{term_size, int_size, set_size, field_size, value_size, formula_size, fields_size}
 use Rattle.jh_walk.specs.Parts.{Among, first, later, IsChild, IsPart, child, within}
 use Rattle.jh_walk.specs.Parts as p

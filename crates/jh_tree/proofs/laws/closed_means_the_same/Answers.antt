@@ -1,4 +1,4 @@
-use Rattle.std.proofs.Common.{ℕ, ◌<◌, ◌≡◌, slice_index, arith}
+use Rattle.std.proofs.Common.{arith}
 use Rattle.jh_tree.proofs.ClosedLemmas.{datum-closed}
 use Rattle.jh_tree.proofs.laws.closed_means_the_same.Goals as goal
 

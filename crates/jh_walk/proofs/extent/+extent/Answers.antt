@@ -1,4 +1,4 @@
-use Rattle.std.proofs.Common.{◌≡◌, ℕ, ◌-◌, ◌^◌, ◌+◌, ◌<◌, ◌≤◌, min, max, drop, length, arith}
+use Rattle.std.proofs.Common.{◌≡◌, ℕ, ◌+◌, ◌≤◌, min, max, arith}
 use Rattle.jh_walk.proofs.Rows.{rest_size, rest_depth, end_size, end_depth}
 use Rattle.jh_walk.proofs.extent.+extent.Goals as goal
 

@@ -1,4 +1,4 @@
-use Rattle.std.proofs.Common.{◌≡◌, sym, ap, ◌∙◌, Bool, true, false, not, ◌&&◌, rules}
+use Rattle.std.proofs.Common.{◌≡◌, sym, ap, ◌∙◌, Bool, true, false, ◌&&◌, rules}
 use Rattle.jh_walk.proofs.Rows.{pass_step, pass_end}
 use Rattle.jh_walk.proofs.passing.+names.Goals as goal
 

@@ -1,4 +1,4 @@
-use Rattle.std.proofs.Common.{rules, arith, ap, sym, refl, ◌∙◌, ◌≡◌, ◌<◌, ℕ, true, false, Ok, Some, None, length, slice_get, ◌+◌, ◌-◌, ◌≤◌, Bool, List, [], ◌∷◌, ◌++◌, take, drop, is_some}
+use Rattle.std.proofs.Common.{ap, sym, refl, ◌∙◌, Ok, slice_get}
 use Rattle.std.specs.HashMap.{keys, values, get}
 use Rattle.indexmap.proofs.CallerLemmas.{insert_entry-new}
 use Rattle.jh_table.specs.Nodes.{tree_in}

@@ -1,8 +1,6 @@
-use Rattle.std.proofs.Common.{rules, arith, ap, sym, refl, ◌∙◌, ◌≡◌, ◌<◌, IfOk, Some, length, slice_get, ℕ, ◌+◌, ◌-◌, ◌*◌, ◌≤◌, ◌/◌, ◌%◌, Bool, true, false, nat_eq, nat_lt, List, [], ◌∷◌, ◌++◌, slice_index_or, slice_set, bit_and, bit_or, Fits, w8, w32, w64, Bor, MutBor}
-use Rattle.jh_table.specs.Growth.{Extends}
-use Rattle.jh_table.specs.Nodes.{nodes}
+use Rattle.std.proofs.Common.{ap, sym, ◌∙◌, Some, slice_get}
 use Rattle.std.specs.HashMap.{keys, values}
-use Rattle.jh_table.proofs.Listed.{PoolsGrow, grows-refl}
+use Rattle.jh_table.proofs.Listed.{grows-refl}
 use Rattle.jh_table.proofs.Tables.{grows-insert, pooled-table, pooled-nodes, pooled-extends}
 use Rattle.jh_tree.specs.contracts.mark.MarkPartialEq.TheImpl as mark
 use Rattle.jh_table.proofs.Keys.{mark_eq-true, mark_eq-same, position-found}

@@ -1,8 +1,5 @@
-use Rattle.std.proofs.Common.{◌≡◌, ◌<◌, ◌-◌, ◌^◌, true, min, length, slice_get, ℕ, ◌+◌, ◌*◌, ◌≤◌}
-use Rattle.jh_walk.specs.Sizes.{value_size, value_depth}
-use Rattle.jh_table.specs.Entries.{the_value}
-use Rattle.jh_table.specs.Measures.{extent_of}
-use Rattle.jh_table.specs.Nodes.{nodes, fits_in, tree_in}
+use Rattle.std.proofs.Common.{◌≡◌, ◌-◌, ◌^◌, min}
+use Rattle.jh_table.specs.Nodes.{nodes}
 use Rattle.std.proofs.Common.{take}
 use Rattle.jh_table.specs.Parts.{parts}
 use Rattle.jh_table.proofs.Extents.{size_sum, depth_max}

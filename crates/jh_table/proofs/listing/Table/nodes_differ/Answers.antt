@@ -1,10 +1,4 @@
-use Rattle.std.proofs.Common.{rules, arith, ap, sym, refl, ◌∙◌, ◌≡◌, ℕ, ◌<◌, Some, slice_get, ◌+◌, ◌-◌, ◌*◌, ◌≤◌, length, ◌/◌, ◌%◌, Bool, true, false, nat_eq, nat_lt, List, [], ◌∷◌, ◌++◌, slice_index_or, slice_set, bit_and, bit_or, Fits, w8, w32, w64, Bor, MutBor}
-use Rattle.jh_tree.specs.Tree.{ValueTree}
-use Rattle.jh_walk.specs.Parts.{IsChild}
-use Rattle.jh_table.specs.Growth.{AreDifferent}
-use Rattle.jh_table.specs.Nodes.{nodes}
 use Rattle.std.specs.HashMap.{keys, values}
-use Rattle.jh_table.proofs.Unique.{AreApart, nodes-different, shape-known}
 use Rattle.jh_table.proofs.Tables.{differ, known}
 use Rattle.jh_table.proofs.listing.Table.nodes_differ.Goals as goal
 

@@ -1,4 +1,3 @@
-use Rattle.std.proofs.Common.{rules, arith, ap, sym, refl, ◌∙◌, ◌≡◌, ◌<◌, ℕ, true, false, Ok, Some, None, length, slice_get, ◌+◌, ◌-◌, ◌≤◌, Bool, List, [], ◌∷◌, ◌++◌, take, drop, is_some}
 use Rattle.std.specs.HashMap.{keys, values}
 use Rattle.jh_table.proofs.Tables.{seen, parts-first}
 use Rattle.jh_table.proofs.listing.Table.parts_come_first.Goals as goal

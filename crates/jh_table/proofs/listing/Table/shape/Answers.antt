@@ -1,7 +1,4 @@
-use Rattle.std.proofs.Common.{rules, arith, ap, sym, refl, ◌∙◌, ◌≡◌, ◌<◌, ℕ, true, IfOk, Some, length, slice_get, ◌+◌, ◌-◌, ◌*◌, ◌≤◌, ◌/◌, ◌%◌, Bool, false, nat_eq, nat_lt, List, [], ◌∷◌, ◌++◌, slice_index_or, slice_set, bit_and, bit_or, Fits, w8, w32, w64, Bor, MutBor}
-use Rattle.jh_table.specs.Growth.{Extends}
-use Rattle.jh_table.specs.Nodes.{nodes, fits_in, tree_in}
-use Rattle.jh_table.specs.Parts.{ArePartsBelow}
+use Rattle.std.proofs.Common.{ap, sym, ◌∙◌, slice_get}
 use Rattle.std.specs.HashMap.{keys, values}
 use Rattle.jh_table.proofs.Tables.{seen, key-at, node-tree, node-fits, node-below}
 use Rattle.jh_table.proofs.listing.Table.shape.Goals as goal

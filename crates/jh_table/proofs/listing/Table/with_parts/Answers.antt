@@ -1,4 +1,4 @@
-use Rattle.std.proofs.Common.{rules, arith, ap, sym, refl, ◌∙◌, ◌≡◌, ◌<◌, ℕ, true, false, Ok, Some, None, length, slice_get, ◌+◌, ◌-◌, ◌≤◌, Bool, List, [], ◌∷◌, ◌++◌, take, drop, is_some}
+use Rattle.std.proofs.Common.{ap, ◌∙◌, length}
 use Rattle.jh_table.proofs.Putting.{put-is}
 use Rattle.jh_table.proofs.listing.Table.with_parts.Goals as goal
 
