@@ -81,7 +81,7 @@ use Rattle.jh_tree.specs.declared.mark.Mark.{{Mark}}
 use Rattle.jh_tree.specs.Tree.{{{TREES}}}
 use Rattle.jh_tree.specs.Tree as t
 use Rattle.jh_tree.specs.Passing.{{name_equal}}
-use Rattle.jh_form.specs.Marks.{{mark_equal}}
+use Rattle.jh_compare.specs.Marks.{{mark_equal}}
 
 -- a test of the parts of a tree of one form; a tree of another form doesn't pass"""]
     for code, variant, ctor, kinds, ns in all_ctors():
@@ -113,7 +113,7 @@ use Rattle.jh_tree.specs.declared.mark.Mark.{{Mark}}
 use Rattle.jh_tree.specs.Tree.{{{TREES}}}
 use Rattle.jh_tree.specs.Tree as t
 use Rattle.jh_tree.specs.Passing.{{name_equal}}
-use Rattle.jh_form.specs.Marks.{{mark_equal}}
+use Rattle.jh_compare.specs.Marks.{{mark_equal}}
 """
 
 
@@ -137,7 +137,7 @@ use Rattle.jh_tree.specs.declared.form.FieldTerm.TheBlock.{{shown-the_row-FieldT
 use Rattle.std.specs.declared.boxed.Box.{{Box}}
 use Rattle.std.specs.declared.alloc.Global.{{Global}}
 use Rattle.jh_tree.specs.Bare.{{{', '.join(TYPES[c][2] + '_tree' for c in ORDER)}}}
-use Rattle.jh_form.specs.Compared.{{{with_names()}, {related_names()}}}
+use Rattle.jh_compare.specs.Compared.{{{with_names()}, {related_names()}}}
 """]
     rules = []
     for code, variant, ctor, kinds, ns in all_ctors():
@@ -216,10 +216,10 @@ use Rattle.std.proofs.Common.{{◌≡◌, refl, sym, ap, ◌∙◌, subst, ℕ, 
 use Rattle.std.proofs.lemmas.Bool.{{true≢false, eqb-true, eq-eqb}}
 use Rattle.jh_tree.proofs.ClosedLemmas.{{both-left, both-right}}
 use Rattle.jh_tree.proofs.Names.{{name_equal-same, name_equal-true}}
-use Rattle.jh_form.proofs.MarkLemmas.{{mark_equal-same, mark_equal-true, int_eq-same, int_eq-true}}
-{HEAD}use Rattle.jh_form.specs.Compared.{{{with_names()}, {related_names()}}}
-use Rattle.jh_form.specs.Related.{{{', '.join(REL[c] for c in ORDER + 'L')}}}
-use Rattle.jh_form.specs.Related as r
+use Rattle.jh_compare.proofs.MarkLemmas.{{mark_equal-same, mark_equal-true, int_eq-same, int_eq-true}}
+{HEAD}use Rattle.jh_compare.specs.Compared.{{{with_names()}, {related_names()}}}
+use Rattle.jh_compare.specs.Related.{{{', '.join(REL[c] for c in ORDER + 'L')}}}
+use Rattle.jh_compare.specs.Related as r
 
 -- a passed test is of a tree of that form"""]
     for code, variant, ctor, kinds, ns in all_ctors():
@@ -428,11 +428,12 @@ def comparing():
 
 ghost use Rattle.std.specs.Prelude.{◌≡◌};
 ghost use Rattle.jh_tree.specs.Bare.{term_tree, int_tree, set_tree, field_tree, value_tree, formula_tree, list_tree};
-ghost use Rattle.jh_form.specs.Compared.{related_term, related_int, related_set, related_field, related_value, related_formula, related_fields};
+ghost use Rattle.jh_compare.specs.Compared.{related_term, related_int, related_set, related_field, related_value, related_formula, related_fields};
 
 use crate::exchange::Exchange;
 use crate::marks::marks_are_one;
-use crate::sorts::{names_are_one, numbers_are_one};
+use crate::numbers::numbers_are_one;
+use jh_subst::names_are_one;
 use jh_tree::{FieldTerm, Formula, IntTerm, SetTerm, Term, Value};
 """]
     for code in ORDER:
@@ -519,7 +520,7 @@ use Rattle.std.specs.Ordering.{{int_eq}}
 use Rattle.jh_tree.specs.Tree.{{{TREES}}}
 use Rattle.jh_tree.specs.Tree as t
 use Rattle.jh_tree.specs.Passing.{{name_equal}}
-use Rattle.jh_form.specs.Compared.{{{', '.join(f"{ctor}_with" for _, _, ctor, _, _ in all_ctors() if ctor != 'mark')}}}
+use Rattle.jh_compare.specs.Compared.{{{', '.join(f"{ctor}_with" for _, _, ctor, _, _ in all_ctors() if ctor != 'mark')}}}
 
 -- the formula under the labels that stand around it
 unfoldable pub past : FormulaTree → FormulaTree
@@ -546,10 +547,10 @@ use Rattle.jh_tree.specs.declared.form.Formula.TheVariants as formula
 use Rattle.std.specs.declared.boxed.Box.{{Box}}
 use Rattle.std.specs.declared.alloc.Global.{{Global}}
 use Rattle.jh_tree.specs.Bare.{{formula_tree}}
-use Rattle.jh_form.specs.Compared.{{{with_names()}, {related_names()}}}
-use Rattle.jh_form.specs.Exchanged.{{nothing}}
-use Rattle.jh_form.specs.Unmarked.{{{', '.join(unm(c) for c in ORDER + 'L')}}}
-use Rattle.jh_form.specs.Sameness.{{past, {', '.join(same_of(c) for c in ORDER + 'L')}}}
+use Rattle.jh_compare.specs.Compared.{{{with_names()}, {related_names()}}}
+use Rattle.jh_compare.specs.Exchanged.{{nothing}}
+use Rattle.jh_compare.specs.Unmarked.{{{', '.join(unm(c) for c in ORDER + 'L')}}}
+use Rattle.jh_compare.specs.Sameness.{{past, {', '.join(same_of(c) for c in ORDER + 'L')}}}
 """]
     rules = []
     for code, variant, ctor, kinds, ns in all_ctors():
@@ -662,9 +663,10 @@ def sameness():
 
 ghost use Rattle.std.specs.Prelude.{◌≡◌};
 ghost use Rattle.jh_tree.specs.Bare.{term_tree, int_tree, set_tree, field_tree, value_tree, formula_tree, list_tree};
-ghost use Rattle.jh_form.specs.Sameness.{past, same_term, same_int, same_set, same_field, same_value, same_past, same_fields};
+ghost use Rattle.jh_compare.specs.Sameness.{past, same_term, same_int, same_set, same_field, same_value, same_past, same_fields};
 
-use crate::sorts::{names_are_one, numbers_are_one};
+use crate::numbers::numbers_are_one;
+use jh_subst::names_are_one;
 use jh_tree::{FieldTerm, Formula, IntTerm, SetTerm, Term, Value};
 
 /// The formula under the labels that stand around it.
@@ -721,9 +723,9 @@ def exchange_meanings():
     from forms import MEANING, VALUE, MEANING_USES
     out = [f"""-- Exchanging parts for others of the same meaning keeps the meaning.
 use Rattle.std.proofs.Common.{{◌≡◌, refl, ap, ◌∙◌, ℕ, suc, ◌==◌, Bool, true, false, not, ◌&&◌, ◌||◌, List, [], ◌∷◌, ℤ, pos, ◌+ℤ◌, ◌-ℤ◌, ◌*ℤ◌, neg_ℤ, int_lt, int_le}}
-{HEAD.replace("use Rattle.jh_tree.specs.Passing.{name_equal}" + chr(10) + "use Rattle.jh_form.specs.Marks.{mark_equal}" + chr(10), "")}use Rattle.jh_tree.specs.Meaning.{{{MEANING_USES}}}
-use Rattle.jh_form.specs.Related.{{{', '.join(REL[c] for c in ORDER + 'L')}}}
-use Rattle.jh_form.specs.Related as r
+{HEAD.replace("use Rattle.jh_tree.specs.Passing.{name_equal}" + chr(10) + "use Rattle.jh_compare.specs.Marks.{mark_equal}" + chr(10), "")}use Rattle.jh_tree.specs.Meaning.{{{MEANING_USES}}}
+use Rattle.jh_compare.specs.Related.{{{', '.join(REL[c] for c in ORDER + 'L')}}}
+use Rattle.jh_compare.specs.Related as r
 
 -- the value inside, where it is of that sort
 no_fields : Fields
@@ -806,7 +808,7 @@ module _ (X : ValueTree → ValueTree → Type 0) (m : Interp) (keeps : (u v : V
 
 if __name__ == '__main__':
     root = sys.argv[1]
-    base = f'{root}/crates/jh_form'
+    base = f'{root}/crates/jh_compare'
     open(f'{base}/specs/Related.antt', 'w').write(related_specs())
     open(f'{base}/specs/Compared.antt', 'w').write(tests_specs())
     open(f'{base}/proofs/CompareSteps.antt', 'w').write(steps_file())

@@ -1,11 +1,2 @@
-pub mod Openings
-pub mod Substitutions
-pub mod MarkLemmas
-pub mod CompareSteps
-pub mod Decisions
-pub mod FieldLists
-pub mod DerivedEq
-pub mod SameSteps
-pub mod Equalities
-pub mod SameLists
-pub mod ExchangeMeanings
+pub mod Samples
+pub use Rattle.jh_subst.proofs.Substitutions

@@ -1,5 +1,5 @@
 -- An interpretation in which one name has another value.
-use Rattle.std.specs.Prelude.{ℕ, if◌then◌else◌}
+use Rattle.std.specs.Prelude.{if◌then◌else◌}
 use Rattle.jh_name.specs.declared.naming.Name.{Name}
 use Rattle.jh_tree.specs.Meaning.{Interp, Datum, an_object, a_number, a_truth, a_set, a_field}
 use Rattle.jh_tree.specs.Passing.{name_equal}

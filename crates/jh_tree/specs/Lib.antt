@@ -1,4 +1,5 @@
 pub mod Tree
+pub mod Sorts
 pub mod Bare
 pub mod Meaning
 pub mod Closed

@@ -1,5 +1,5 @@
 -- Tests over the free names of a tree.
-use Rattle.std.specs.Prelude.{Bool, true, not, ◌&&◌, ◌||◌, nat_eq}
+use Rattle.std.specs.Prelude.{Bool, true, ◌&&◌, nat_eq}
 use Rattle.std.specs.Cmp.Lexicographic.{pointwise}
 use Rattle.jh_name.specs.declared.naming.Name.{Name}
 use Rattle.jh_name.specs.declared.place.Sort as place

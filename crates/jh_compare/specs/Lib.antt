@@ -1,0 +1,6 @@
+pub mod Marks
+pub mod Related
+pub mod Compared
+pub mod Exchanged
+pub mod Unmarked
+pub mod Sameness

@@ -1,0 +1,122 @@
+#![tactic(auto, using(jh_tree::proofs::Steps::tree_steps, crate::proofs::CompareSteps::here_steps, crate::proofs::CompareSteps::compare_steps, crate::proofs::CompareSteps::other_steps))]
+
+ghost use Rattle.std.specs.Prelude.{◌≡◌, ◌↔◌, ◌&&◌, IsTrue, false};
+ghost use Rattle.jh_tree.specs.Tree as tree;
+ghost use Rattle.jh_tree.specs.Bare.{term_tree, int_tree, set_tree, field_tree, value_tree, formula_tree};
+ghost use Rattle.jh_compare.specs.Exchanged.{Exchanged, equal_trees};
+
+use crate::comparing::{related_field, related_formula, related_int, related_set, related_term};
+use crate::exchange::Exchange;
+use jh_tree::{FieldTerm, Formula, IntTerm, SetTerm, Term, Value};
+
+/// Nothing may be exchanged.
+#[derive(Clone, Copy, Debug)]
+struct Nothing;
+
+impl Exchange for Nothing {
+    ghost pairs = { λ _ u v. false };
+
+    fn terms(&self, _left: &Term, _right: &Term) -> bool {
+        false
+    }
+
+    fn ints(&self, _left: &IntTerm, _right: &IntTerm) -> bool {
+        false
+    }
+
+    fn sets(&self, _left: &SetTerm, _right: &SetTerm) -> bool {
+        false
+    }
+
+    fn fields(&self, _left: &FieldTerm, _right: &FieldTerm) -> bool {
+        false
+    }
+
+    fn formulas(&self, _left: &Formula, _right: &Formula) -> bool {
+        false
+    }
+}
+
+fn is_term(term: &Term, value: &Value) -> bool
+    ensures { result ≡ equal_trees (tree.of_object (term_tree term.now)) (value_tree value.now) }
+{
+    match value {
+        Value::Obj(other) => related_term(term, other, &Nothing),
+        _ => false,
+    }
+}
+
+fn is_int(term: &IntTerm, value: &Value) -> bool
+    ensures { result ≡ equal_trees (tree.of_number (int_tree term.now)) (value_tree value.now) }
+{
+    match value {
+        Value::Int(other) => related_int(term, other, &Nothing),
+        _ => false,
+    }
+}
+
+fn is_set(term: &SetTerm, value: &Value) -> bool
+    ensures { result ≡ equal_trees (tree.of_set (set_tree term.now)) (value_tree value.now) }
+{
+    match value {
+        Value::Set(other) => related_set(term, other, &Nothing),
+        _ => false,
+    }
+}
+
+fn is_field(field: &FieldTerm, value: &Value) -> bool
+    ensures { result ≡ equal_trees (tree.of_field (field_tree field.now)) (value_tree value.now) }
+{
+    match value {
+        Value::Field(other) => related_field(field, other, &Nothing),
+        _ => false,
+    }
+}
+
+fn is_formula(formula: &Formula, value: &Value) -> bool
+    ensures { result ≡ equal_trees (tree.of_truth (formula_tree formula.now)) (value_tree value.now) }
+{
+    match value {
+        Value::Bool(other) => related_formula(formula, other, &Nothing),
+        _ => false,
+    }
+}
+
+/// The old value may be exchanged for the new one.
+#[derive(Drop)]
+struct Exchanging<'a> {
+    old: &'a Value,
+    new: &'a Value,
+}
+
+impl Exchange for Exchanging<'_> {
+    ghost pairs = { λ s u v. equal_trees u (value_tree s.old.now) && equal_trees v (value_tree s.new.now) };
+
+    fn terms(&self, left: &Term, right: &Term) -> bool {
+        is_term(left, self.old) && is_term(right, self.new)
+    }
+
+    fn ints(&self, left: &IntTerm, right: &IntTerm) -> bool {
+        is_int(left, self.old) && is_int(right, self.new)
+    }
+
+    fn sets(&self, left: &SetTerm, right: &SetTerm) -> bool {
+        is_set(left, self.old) && is_set(right, self.new)
+    }
+
+    fn fields(&self, left: &FieldTerm, right: &FieldTerm) -> bool {
+        is_field(left, self.old) && is_field(right, self.new)
+    }
+
+    fn formulas(&self, left: &Formula, right: &Formula) -> bool {
+        is_formula(left, self.old) && is_formula(right, self.new)
+    }
+}
+
+/// Whether the second formula is the first with some occurrences of the old value, none or all of them
+/// maybe, exchanged for the new one. Labels are compared. It takes no memory.
+pub fn replaces(from: &Formula, to: &Formula, old: &Value, new: &Value) -> bool
+    ensures { IsTrue result ↔ Exchanged (formula_tree from.now) (formula_tree to.now) (value_tree old.now) (value_tree new.now) }
+{
+    related_formula(from, to, &Exchanging { old, new })
+}
