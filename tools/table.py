@@ -1051,6 +1051,42 @@ module _ (p : Pools) (ts : List ValueTree) where
     return with_steps('\n'.join(out) + '\n')
 
 
+def sorts_file():
+    """The sort of a shape is that of its tree; the last lemma is for the default arm of Shape::sort."""
+    out = ["""-- The sort of a shape is that of its tree.
+use Rattle.std.proofs.Common.{◌≡◌, refl, ap, ℕ, ℤ, List, Option, Some}
+use Rattle.jh_name.specs.declared.place.Sort.TheVariants as Sort
+use Rattle.jh_tree.specs.Tree.{ValueTree}
+use Rattle.jh_tree.specs.Sorts.{tree_sort}
+use Rattle.jh_table.specs.Entries.{Pools, the_value}
+use Rattle.jh_table.specs.Nodes.{shape_tree}
+use Rattle.jh_table.specs.declared.shapes.Shape.{Shape}
+use Rattle.jh_table.specs.declared.shapes.Shape.TheVariants as s
+use Rattle.jh_table.specs.Sorts.{shape_sort}
+
+pub tree-seen : (o : Option ValueTree) (v : ValueTree) → o ≡ Some v → the_value o ≡ v
+unfolding the_value
+tree-seen o v e = ap the_value e
+
+pub sort-same : (p : Pools) (ts : List ValueTree) (x : Shape) → shape_sort x ≡ tree_sort (shape_tree p ts x)
+unfolding shape_sort shape_tree"""]
+    premises, cases = [], []
+    for code, ctor, variant, kinds in shapes():
+        ns = names(kinds)
+        out.append(f"sort-same p ts {shape_of(variant, ns)} = refl")
+        if code != 'P':
+            binders = ' '.join(f"({n} : {arg_type(k)})" for k, n in zip(kinds, ns))
+            premises.append(f"({binders + ' → ' if binders else ''}y ≡ {shape_of(variant, ns).strip('()')} → ⊥)")
+            cases.append((variant, ns))
+    hyps = [f"h{n}" for n in range(len(cases))]
+    out.append(f"\n-- what is no term and no field is a formula\npub formula-sort : (y : Shape) → {' → '.join(premises)} → Sort.Bool ≡ shape_sort y")
+    out.append("unfolding shape_sort")
+    for (variant, ns), h in zip(cases, hyps):
+        out.append(f"formula-sort {shape_of(variant, ns)} {' '.join(hyps)} = absurd ({' '.join([h] + ns)} refl)")
+    out.append(f"formula-sort _ {' '.join(hyps)} = refl")
+    return '\n'.join(out) + '\n'
+
+
 if __name__ == '__main__':
     import os
     import sys
@@ -1073,6 +1109,7 @@ if __name__ == '__main__':
         'proofs/Places.antt': places_file,
         'proofs/ShapeEq.antt': shape_eq_file,
         'proofs/Children.antt': children_file,
+        'proofs/ShapeSorts.antt': sorts_file,
     }
     for path, make in files.items():
         if not which or path in which:

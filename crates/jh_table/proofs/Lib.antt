@@ -10,5 +10,6 @@ pub mod PartSteps
 pub mod Places
 pub mod Putting
 pub mod ShapeEq
+pub mod ShapeSorts
 pub mod Tables
 pub mod Unique

@@ -1,6 +1,6 @@
 -- What a table holds, and what stands at a number of it: a default, which no contract looks at, where
 -- nothing of the sort does.
-use Rattle.std.specs.Prelude.{ℕ, ℤ, pos, Bool, true, false, ◌&&◌, List, [], ◌∷◌, Option, Some, None, slice_get}
+use Rattle.std.specs.Prelude.{ℕ, pos, Bool, true, false, ◌&&◌, List, [], ◌∷◌, Option, Some, None, slice_get}
 use Rattle.jh_name.specs.declared.naming.Name.{Name}
 use Rattle.jh_tree.specs.declared.mark.Mark.{Mark}
 use Rattle.jh_tree.specs.declared.mark.MarkKind.TheVariants as kind

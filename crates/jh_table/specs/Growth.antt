@@ -1,7 +1,6 @@
 -- How a table grows.
-use Rattle.std.specs.Prelude.{◌≡◌, ℕ, ◌<◌, List, Option, Some, slice_get}
-use Rattle.jh_tree.specs.Tree.{ValueTree}
-use Rattle.jh_table.specs.Entries.{Pools, Listing}
+use Rattle.std.specs.Prelude.{◌≡◌, ℕ, List, Some, slice_get}
+use Rattle.jh_table.specs.Entries.{Listing}
 use Rattle.jh_table.specs.Nodes.{nodes}
 
 -- The old list is a prefix of the new one: what stands at a place of it stays there.

@@ -4,3 +4,4 @@ pub mod Measures
 pub mod Nodes
 pub mod Own
 pub mod Parts
+pub mod Sorts

@@ -1,5 +1,5 @@
 -- The sizes that a table keeps beside its nodes.
-use Rattle.std.specs.Prelude.{◌≡◌, ℕ, ◌-◌, ◌^◌, min, Bool, true, List, [], map}
+use Rattle.std.specs.Prelude.{◌≡◌, ◌-◌, ◌^◌, min, true, List, [], map}
 use Rattle.jh_tree.specs.Tree.{ValueTree}
 use Rattle.jh_walk.specs.Sizes.{value_size, value_depth}
 use Rattle.jh_walk.specs.declared.counting.Extent.{Extent}

@@ -8,8 +8,7 @@ mod nodes;
 mod parts;
 mod pools;
 mod shapes;
-#[cfg(test)]
-mod tests;
+mod sorts;
 
 pub use listing::Table;
 pub use shapes::{Own, Shape};
