@@ -580,8 +580,8 @@ VALUE = {'T': 'term_value', 'I': 'int_value', 'S': 'set_value', 'F': 'field_valu
 MEANING_USES = 'Fields, Datum, an_object, a_number, a_truth, a_set, a_field, Interp, count_below, every, some, agree, divides_number, updated, reaches, is_forest, ' + ', '.join(VALUE[c] for c in ORDER + 'L')
 
 
-def meaning_lemma(suffix, statement, leaf, last, part, under):
-    """One function for each type; part(code, name, depth?) the recursive proof at i."""
+def meaning_lemma(suffix, statement, leaf, last, part, under, wrap=lambda code, ctor, kinds, ns, proof: proof):
+    """One function for each type; part(code, name, depth?) the recursive proof at i, which wrap puts into a larger one."""
     out = []
     for code in ORDER:
         f = f"{VALUE[code]}-{suffix}"
@@ -595,7 +595,7 @@ def meaning_lemma(suffix, statement, leaf, last, part, under):
                 continue
             text = MEANING.get(ctor)
             if text is None:
-                out.append(f"{head} = refl")
+                out.append(f"{head} = {wrap(code, ctor, kinds, ns, 'refl')}")
                 continue
             hyps = leaf.split(kinds, ns)
             for kind, n in zip(kinds, ns):
@@ -605,7 +605,8 @@ def meaning_lemma(suffix, statement, leaf, last, part, under):
                     else:
                         text = text.replace('{' + n + '}', part(core(kind), n, hyps.get(n)))
             text = text.replace('{last}', last)
-            out.append(f"{head} = λ i. {text}" if 'i' in text and any(is_part(k) for k in kinds) else f"{head} = refl")
+            proof = f"λ i. {text}" if 'i' in text and any(is_part(k) for k in kinds) else 'refl'
+            out.append(f"{head} = {wrap(code, ctor, kinds, ns, proof)}")
         out.append('')
     return out
 

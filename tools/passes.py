@@ -4,12 +4,17 @@ import os
 import sys
 
 sys.path.insert(0, os.path.dirname(os.path.abspath(__file__)))
-from forms import TYPES  # noqa: E402
+from forms import (MEANING_USES, ORDER, TREES, TYPES, VALUE, apply, core, family, fn_of, is_part, mapped_case,  # noqa: E402
+                   meaning_lemma, names, tree_type)
 
 SORT = {'T': 'object', 'I': 'number', 'S': 'set', 'F': 'field', 'P': 'truth'}
 MAPPED = {'T': 'term', 'I': 'int', 'S': 'set', 'F': 'field', 'P': 'formula'}
 SHAPE = {'true_formula': 'True', 'false_formula': 'False'}
 HERE = os.path.join(os.path.dirname(os.path.abspath(__file__)), '..', 'crates', 'jh_pass')
+
+
+REWRITTEN = 'rewritten_term rewritten_int rewritten_set rewritten_field rewritten_value rewritten_formula'
+OR = 'object_or number_or truth_or set_or field_or'
 
 
 def shape_name(ctor):
@@ -87,13 +92,14 @@ def remake(name, sort, ctor, args):
             index += 1
         else:
             new.append(var)
-    premises = [f"fits p ts {applied('s.' + name, variables)} ≡ true"]
-    names = ['h']
+    whole = f"shape_tree p ts {applied('s.' + name, variables)}"
+    premises = [f"l.whole_at ({whole}) d ≡ None", f"fits p ts {applied('s.' + name, variables)} ≡ true"]
+    names = ['alone', 'h']
     if has_list:
-        premises += ["slice_get q.lists n ≡ Some fs", f"AllMapped l ts {depth} (the_list (slice_get p.lists f)) fs"]
+        premises += ["slice_get q.lists n ≡ Some fs", f"AllRewritten l ts {depth} (the_list (slice_get p.lists f)) fs"]
         names += ['g', 'u']
     if own:
-        premises.append(f"AllMapped l ts {depth} ({own_list}) rs")
+        premises.append(f"AllRewritten l ts {depth} ({own_list}) rs")
         names.append('w')
     extra = (' (rs : List ℕ)' if own else '') + (' (fs : List ℕ)' if has_list else '')
     extra_names = (['rs'] if own else []) + (['fs'] if has_list else [])
@@ -119,10 +125,10 @@ def remake(name, sort, ctor, args):
         elif kind.isupper():
             rest = ' ∷ '.join([v for _, v in own[index + 1:]] + ['[]'])
             before = ' '.join(v for _, v in own[:index + 1])
-            lines.append(f"let {var}1 = {place[index]}-mapped ts l {depth} {before} ({rest}) rs w in")
+            lines.append(f"let {var}1 = {place[index]}-rewritten ts l {depth} {before} ({rest}) rs w in")
             lines.append(f"let {var}2 = {fact(tests, position)} in")
             if kind == 'V':
-                fits.append(f"mapped-there l ts {var} {depth} (slice_index rs {index}) {var}1")
+                fits.append(f"rewritten-there l ts {var} {depth} (slice_index rs {index}) {var}1")
                 tree.append(f"value-is l ts {var} {depth} (slice_index rs {index}) {var}1 i")
             else:
                 fits.append(f"{SORT[kind]}-fits l ts {var} {depth} (slice_index rs {index}) {var}1 {var}2")
@@ -137,20 +143,20 @@ def remake(name, sort, ctor, args):
         for more in fits[1:]:
             proof = f"(both_true {proof} ({more}))"
     value = {'object': 'of_object', 'number': 'of_number', 'set': 'of_set', 'field': 'of_field', 'truth': 'of_truth'}[sort]
-    path = 'refl' if not any(' i' in t or 'marked' in t for t in tree) else \
-        f"λ i. {value} (t.{ctor} {' '.join(f'({t})' if ' ' in t else t for t in tree)})"
+    made = applied(f"t.{ctor}", [f'({t})' if ' ' in t else t for t in tree])
+    path = f"λ i. {value} ({sort}_or (sym alone i) {made})"
     body = '\n      '.join(lines + [f"record {{ fits = {proof}; is = {path} }}"])
     return sig, f"{head} =\n      {body}"
 
 
-HEAD = """-- A shape with the answers for its parts in their places is the mapped shape.
+HEAD = """-- A shape with the answers for its parts in their places is the rewritten shape.
 use Rattle.std.proofs.Common.{◌≡◌, refl, sym, ap, ◌∙◌, ℕ, ◌+◌, Bool, true, false, ◌&&◌, List, [], ◌∷◌, length, slice_get, slice_index, Option, Some, None, is_some, ℤ}
 use Rattle.std.proofs.lemmas.Bool.{true≢false}
 use Rattle.std.specs.Cmp.Derive.{both_true}
 use Rattle.jh_tree.specs.Tree.{ValueTree, of_object, of_number, of_truth, of_set, of_field}
 use Rattle.jh_tree.specs.Tree as t
 use Rattle.jh_tree.proofs.ClosedLemmas.{both-left, both-right}
-use Rattle.jh_walk.specs.Mapped.{LeafMap, mapped_term, mapped_int, mapped_set, mapped_field, mapped_value, mapped_formula, mapped_fields}
+use Rattle.jh_pass.specs.Rewritten.{Rewriting, object_or, number_or, truth_or, set_or, field_or, rewritten_term, rewritten_int, rewritten_set, rewritten_field, rewritten_value, rewritten_formula, rewritten_fields}
 use Rattle.jh_table.specs.Entries.{Pools, the_list, the_mark, is_object, is_number, is_truth, is_set, is_field, the_object, the_number, the_truth, the_set, the_field, the_value, are_fields, fields_at}
 use Rattle.jh_table.specs.Growth.{Grows}
 use Rattle.jh_table.specs.Nodes.{fits, shape_tree}
@@ -158,12 +164,12 @@ use Rattle.jh_table.specs.Parts.{own_parts, list_parts, has_list, binders, put}
 use Rattle.jh_table.specs.declared.shapes.Shape.{Shape}
 use Rattle.jh_table.specs.declared.shapes.Shape.TheVariants as s
 use Rattle.jh_pass.specs.Leaf.{is_leaf}
-use Rattle.jh_pass.specs.Mapping.{IsMapped, AllMapped}
+use Rattle.jh_pass.specs.Walks.{IsRewritten, AllRewritten}
 use Rattle.jh_pass.specs.Staying.{grown}
-use Rattle.jh_pass.proofs.Mappings.{mapped-there}
-use Rattle.jh_pass.proofs.PartMappings.{Remade, first-mapped, second-mapped, third-mapped, object-fits, object-is, number-fits, number-is, truth-fits, truth-is, set-fits, set-is, field-fits, field-is, value-is, fields-fit, fields-are, plain}
+use Rattle.jh_pass.proofs.Rewritings.{rewritten-there}
+use Rattle.jh_pass.proofs.PartRewritings.{Remade, first-rewritten, second-rewritten, third-rewritten, object-fits, object-is, number-fits, number-is, truth-fits, truth-is, set-fits, set-is, field-fits, field-is, value-is, fields-fit, fields-are, plain}
 
-module _ (p q : Pools) (ts : List ValueTree) (l : LeafMap) (d : ℕ) (n : ℕ) (marks : Grows p.marks q.marks) where
+module _ (p q : Pools) (ts : List ValueTree) (l : Rewriting) (d : ℕ) (n : ℕ) (marks : Grows p.marks q.marks) where
 """
 
 
@@ -174,22 +180,22 @@ def remakes():
         variables = [var for _, var, _ in args]
         pattern = applied('s.' + name, variables)
         if is_leaf(ctor):
-            cases.append(f"  remade {pattern} rs fs leaf h g u w = absurd (true≢false leaf)")
+            cases.append(f"  remade {pattern} rs fs leaf alone h g u w = absurd (true≢false leaf)")
             continue
         sig, proof = remake(name, sort, ctor, args)
         out.append(sig)
-        out.append("  unfolding fits shape_tree mapped_term mapped_int mapped_set mapped_field mapped_value mapped_formula")
+        out.append(f"  unfolding fits shape_tree {REWRITTEN} {OR}")
         out.append(proof)
         out.append('')
         own = [var for kind, var, _ in args if kind.isupper() and kind != 'L']
         has_list = any(kind == 'L' for kind, _, _ in args)
         bound = any(b for _, _, b in args)
         w = 'w' if bound else f"(plain ts l d ({' ∷ '.join(own + ['[]'])}) rs w)"
-        words = variables + (['rs'] if own else []) + (['fs'] if has_list else []) + ['h'] + (['(g refl)', '(plain ts l d (the_list (slice_get p.lists f)) fs u)'] if has_list else []) + ([w] if own else [])
-        cases.append(f"  remade {pattern} rs fs leaf h g u w = remade-{name} {' '.join(words)}")
-    out.append("""  pub remade : (x : Shape) (rs fs : List ℕ) → is_leaf x ≡ false → fits p ts x ≡ true →
+        words = variables + (['rs'] if own else []) + (['fs'] if has_list else []) + ['alone', 'h'] + (['(g refl)', '(plain ts l d (the_list (slice_get p.lists f)) fs u)'] if has_list else []) + ([w] if own else [])
+        cases.append(f"  remade {pattern} rs fs leaf alone h g u w = remade-{name} {' '.join(words)}")
+    out.append("""  pub remade : (x : Shape) (rs fs : List ℕ) → is_leaf x ≡ false → l.whole_at (shape_tree p ts x) d ≡ None → fits p ts x ≡ true →
       (has_list x ≡ true → slice_get q.lists n ≡ Some fs) →
-      AllMapped l ts (d + binders x) (list_parts p.lists x) fs → AllMapped l ts (d + binders x) (own_parts x) rs →
+      AllRewritten l ts (d + binders x) (list_parts p.lists x) fs → AllRewritten l ts (d + binders x) (own_parts x) rs →
       Remade p q ts l d x (put n rs x)
   unfolding is_leaf has_list binders list_parts own_parts put""")
     out += cases
@@ -202,29 +208,29 @@ use Rattle.std.proofs.lemmas.Bool.{true≢false}
 use Rattle.std.specs.Cmp.Derive.{both_true}
 use Rattle.jh_tree.specs.Tree.{ValueTree, of_object, of_number, of_truth, of_set, of_field, none, more}
 use Rattle.jh_tree.proofs.ClosedLemmas.{both-left, both-right}
-use Rattle.jh_walk.specs.Mapped.{LeafMap, mapped_term, mapped_int, mapped_set, mapped_field, mapped_value, mapped_formula, mapped_fields}
+use Rattle.jh_pass.specs.Rewritten.{Rewriting, rewritten_term, rewritten_int, rewritten_set, rewritten_field, rewritten_value, rewritten_formula, rewritten_fields}
 use Rattle.jh_table.specs.Entries.{Pools, the_list, is_object, is_number, is_truth, is_set, is_field, the_object, the_number, the_truth, the_set, the_field, the_value, are_fields, fields_at}
 use Rattle.jh_table.specs.Nodes.{fits, shape_tree}
 use Rattle.jh_table.specs.declared.shapes.Shape.{Shape}
-use Rattle.jh_pass.specs.Mapping.{IsMapped, AllMapped}
-use Rattle.jh_pass.proofs.Mappings.{mapped-there}
+use Rattle.jh_pass.specs.Walks.{IsRewritten, AllRewritten}
+use Rattle.jh_pass.proofs.Rewritings.{rewritten-there}
 
--- the new shape fits, and is the old one mapped
-pub record Remade (p q : Pools) (ts : List ValueTree) (l : LeafMap) (d : ℕ) (old new : Shape) : Type 0 where
+-- the new shape fits, and is the old one rewritten
+pub record Remade (p q : Pools) (ts : List ValueTree) (l : Rewriting) (d : ℕ) (old new : Shape) : Type 0 where
   pub fits : fits q ts new ≡ true
-  pub is : shape_tree q ts new ≡ mapped_value (shape_tree p ts old) l d
+  pub is : shape_tree q ts new ≡ rewritten_value (shape_tree p ts old) l d
 
-pub first-mapped : (ts : List ValueTree) (l : LeafMap) (d a : ℕ) (ps rs : List ℕ) → AllMapped l ts d (a ∷ ps) rs → IsMapped l ts a d (slice_index rs 0)
-first-mapped ts l d a ps [] h = absurd h
-first-mapped ts l d a ps (r ∷ rs) h = h.0
+pub first-rewritten : (ts : List ValueTree) (l : Rewriting) (d a : ℕ) (ps rs : List ℕ) → AllRewritten l ts d (a ∷ ps) rs → IsRewritten l ts a d (slice_index rs 0)
+first-rewritten ts l d a ps [] h = absurd h
+first-rewritten ts l d a ps (r ∷ rs) h = h.0
 
-pub second-mapped : (ts : List ValueTree) (l : LeafMap) (d a b : ℕ) (ps rs : List ℕ) → AllMapped l ts d (a ∷ b ∷ ps) rs → IsMapped l ts b d (slice_index rs 1)
-second-mapped ts l d a b ps [] h = absurd h
-second-mapped ts l d a b ps (r ∷ rs) h = first-mapped ts l d b ps rs h.1
+pub second-rewritten : (ts : List ValueTree) (l : Rewriting) (d a b : ℕ) (ps rs : List ℕ) → AllRewritten l ts d (a ∷ b ∷ ps) rs → IsRewritten l ts b d (slice_index rs 1)
+second-rewritten ts l d a b ps [] h = absurd h
+second-rewritten ts l d a b ps (r ∷ rs) h = first-rewritten ts l d b ps rs h.1
 
-pub third-mapped : (ts : List ValueTree) (l : LeafMap) (d a b c : ℕ) (ps rs : List ℕ) → AllMapped l ts d (a ∷ b ∷ c ∷ ps) rs → IsMapped l ts c d (slice_index rs 2)
-third-mapped ts l d a b c ps [] h = absurd h
-third-mapped ts l d a b c ps (r ∷ rs) h = second-mapped ts l d b c ps rs h.1
+pub third-rewritten : (ts : List ValueTree) (l : Rewriting) (d a b c : ℕ) (ps rs : List ℕ) → AllRewritten l ts d (a ∷ b ∷ c ∷ ps) rs → IsRewritten l ts c d (slice_index rs 2)
+third-rewritten ts l d a b c ps [] h = absurd h
+third-rewritten ts l d a b c ps (r ∷ rs) h = second-rewritten ts l d b c ps rs h.1
 
 """
 
@@ -233,35 +239,35 @@ def sort_lemmas():
     out = [PARTS]
     for code in 'TIPSF':
         sort, mapped = SORT[code], MAPPED[code]
-        out.append(f"""{sort}-fits_of : (l : LeafMap) (d : ℕ) (o n : Option ValueTree) → n ≡ option_map (λ v. mapped_value v l d) o → is_{sort} o ≡ true → is_{sort} n ≡ true
-unfolding is_{sort} mapped_value
+        out.append(f"""{sort}-fits_of : (l : Rewriting) (d : ℕ) (o n : Option ValueTree) → n ≡ option_map (λ v. rewritten_value v l d) o → is_{sort} o ≡ true → is_{sort} n ≡ true
+unfolding is_{sort} rewritten_value
 {sort}-fits_of l d (Some (of_{sort} a)) n e h = ap is_{sort} e
 {sort}-fits_of l d _ n e h = absurd (true≢false (sym h))
 
-pub {sort}-fits : (l : LeafMap) (ts : List ValueTree) (k d r : ℕ) → IsMapped l ts k d r → is_{sort} (slice_get ts k) ≡ true → is_{sort} (slice_get ts r) ≡ true
+pub {sort}-fits : (l : Rewriting) (ts : List ValueTree) (k d r : ℕ) → IsRewritten l ts k d r → is_{sort} (slice_get ts k) ≡ true → is_{sort} (slice_get ts r) ≡ true
 {sort}-fits l ts k d r m h = {sort}-fits_of l d (slice_get ts k) (slice_get ts r) m.is h
 
-{sort}-is_of : (l : LeafMap) (d : ℕ) (o n : Option ValueTree) → n ≡ option_map (λ v. mapped_value v l d) o → is_{sort} o ≡ true → the_{sort} n ≡ mapped_{mapped} (the_{sort} o) l d
-unfolding is_{sort} the_{sort} mapped_value
+{sort}-is_of : (l : Rewriting) (d : ℕ) (o n : Option ValueTree) → n ≡ option_map (λ v. rewritten_value v l d) o → is_{sort} o ≡ true → the_{sort} n ≡ rewritten_{mapped} (the_{sort} o) l d
+unfolding is_{sort} the_{sort} rewritten_value
 {sort}-is_of l d (Some (of_{sort} a)) n e h = ap the_{sort} e
 {sort}-is_of l d _ n e h = absurd (true≢false (sym h))
 
-pub {sort}-is : (l : LeafMap) (ts : List ValueTree) (k d r : ℕ) → IsMapped l ts k d r → is_{sort} (slice_get ts k) ≡ true → the_{sort} (slice_get ts r) ≡ mapped_{mapped} (the_{sort} (slice_get ts k)) l d
+pub {sort}-is : (l : Rewriting) (ts : List ValueTree) (k d r : ℕ) → IsRewritten l ts k d r → is_{sort} (slice_get ts k) ≡ true → the_{sort} (slice_get ts r) ≡ rewritten_{mapped} (the_{sort} (slice_get ts k)) l d
 {sort}-is l ts k d r m h = {sort}-is_of l d (slice_get ts k) (slice_get ts r) m.is h
 """)
     out.append("""-- no binders more
-pub plain : (ts : List ValueTree) (l : LeafMap) (d : ℕ) (ps rs : List ℕ) → AllMapped l ts (d + 0) ps rs → AllMapped l ts d ps rs
-plain ts l d ps rs h = subst (λ (q : ℕ). AllMapped l ts q ps rs) (add-zero d) h
+pub plain : (ts : List ValueTree) (l : Rewriting) (d : ℕ) (ps rs : List ℕ) → AllRewritten l ts (d + 0) ps rs → AllRewritten l ts d ps rs
+plain ts l d ps rs h = subst (λ (q : ℕ). AllRewritten l ts q ps rs) (add-zero d) h
 
-value-is_of : (l : LeafMap) (d : ℕ) (o n : Option ValueTree) → n ≡ option_map (λ v. mapped_value v l d) o → is_some o ≡ true → the_value n ≡ mapped_value (the_value o) l d
+value-is_of : (l : Rewriting) (d : ℕ) (o n : Option ValueTree) → n ≡ option_map (λ v. rewritten_value v l d) o → is_some o ≡ true → the_value n ≡ rewritten_value (the_value o) l d
 unfolding the_value
 value-is_of l d (Some a) n e h = ap the_value e
 value-is_of l d None n e h = absurd (true≢false (sym h))
 
-pub value-is : (l : LeafMap) (ts : List ValueTree) (k d r : ℕ) → IsMapped l ts k d r → the_value (slice_get ts r) ≡ mapped_value (the_value (slice_get ts k)) l d
+pub value-is : (l : Rewriting) (ts : List ValueTree) (k d r : ℕ) → IsRewritten l ts k d r → the_value (slice_get ts r) ≡ rewritten_value (the_value (slice_get ts k)) l d
 value-is l ts k d r m = value-is_of l d (slice_get ts k) (slice_get ts r) m.is m.there
 
-all-fit : (ts : List ValueTree) (l : LeafMap) (d : ℕ) (ps rs : List ℕ) → AllMapped l ts d ps rs → are_fields ts ps ≡ true → are_fields ts rs ≡ true
+all-fit : (ts : List ValueTree) (l : Rewriting) (d : ℕ) (ps rs : List ℕ) → AllRewritten l ts d ps rs → are_fields ts ps ≡ true → are_fields ts rs ≡ true
 unfolding are_fields
 all-fit ts l d [] [] u h = refl
 all-fit ts l d [] (r ∷ rs) u h = absurd u
@@ -271,8 +277,8 @@ all-fit ts l d (p ∷ ps) (r ∷ rs) u h =
     (field-fits l ts p d r u.0 (both-left (is_field (slice_get ts p)) (are_fields ts ps) h))
     (all-fit ts l d ps rs u.1 (both-right (is_field (slice_get ts p)) (are_fields ts ps) h))
 
-all-are : (ts : List ValueTree) (l : LeafMap) (d : ℕ) (ps rs : List ℕ) → AllMapped l ts d ps rs → are_fields ts ps ≡ true → fields_at ts rs ≡ mapped_fields (fields_at ts ps) l d
-unfolding are_fields fields_at mapped_fields
+all-are : (ts : List ValueTree) (l : Rewriting) (d : ℕ) (ps rs : List ℕ) → AllRewritten l ts d ps rs → are_fields ts ps ≡ true → fields_at ts rs ≡ rewritten_fields (fields_at ts ps) l d
+unfolding are_fields fields_at rewritten_fields
 all-are ts l d [] [] u h = refl
 all-are ts l d [] (r ∷ rs) u h = absurd u
 all-are ts l d (p ∷ ps) [] u h = absurd u
@@ -282,19 +288,19 @@ all-are ts l d (p ∷ ps) (r ∷ rs) u h = λ i.
     (all-are ts l d ps rs u.1 (both-right (is_field (slice_get ts p)) (are_fields ts ps) h) i)
 
 -- the answers for a list of fields, which has the number n
-pub fields-fit : (q : Pools) (ts : List ValueTree) (l : LeafMap) (d n : ℕ) (fs ps : List ℕ) → slice_get q.lists n ≡ Some fs →
-    AllMapped l ts d ps fs → are_fields ts ps ≡ true → are_fields ts (the_list (slice_get q.lists n)) ≡ true
+pub fields-fit : (q : Pools) (ts : List ValueTree) (l : Rewriting) (d n : ℕ) (fs ps : List ℕ) → slice_get q.lists n ≡ Some fs →
+    AllRewritten l ts d ps fs → are_fields ts ps ≡ true → are_fields ts (the_list (slice_get q.lists n)) ≡ true
 unfolding the_list
 fields-fit q ts l d n fs ps g u h = ap (λ o. are_fields ts (the_list o)) g ∙ all-fit ts l d ps fs u h
 
-pub fields-are : (q : Pools) (ts : List ValueTree) (l : LeafMap) (d n : ℕ) (fs ps : List ℕ) → slice_get q.lists n ≡ Some fs →
-    AllMapped l ts d ps fs → are_fields ts ps ≡ true → fields_at ts (the_list (slice_get q.lists n)) ≡ mapped_fields (fields_at ts ps) l d
+pub fields-are : (q : Pools) (ts : List ValueTree) (l : Rewriting) (d n : ℕ) (fs ps : List ℕ) → slice_get q.lists n ≡ Some fs →
+    AllRewritten l ts d ps fs → are_fields ts ps ≡ true → fields_at ts (the_list (slice_get q.lists n)) ≡ rewritten_fields (fields_at ts ps) l d
 unfolding the_list
 fields-are q ts l d n fs ps g u h = ap (λ o. fields_at ts (the_list o)) g ∙ all-are ts l d ps fs u h
 
 -- the answers for parts that stand one list after the other
-pub all-split : (ts : List ValueTree) (l : LeafMap) (d : ℕ) (ps qs fs gs : List ℕ) → AllMapped l ts d (ps ++ qs) (fs ++ gs) → length fs ≡ length ps →
-    AllMapped l ts d ps fs × AllMapped l ts d qs gs
+pub all-split : (ts : List ValueTree) (l : Rewriting) (d : ℕ) (ps qs fs gs : List ℕ) → AllRewritten l ts d (ps ++ qs) (fs ++ gs) → length fs ≡ length ps →
+    AllRewritten l ts d ps fs × AllRewritten l ts d qs gs
 all-split ts l d [] qs [] gs h e = (tt, h)
 all-split ts l d [] qs (f ∷ fs) gs h e = absurd (omega arith)
 all-split ts l d (p ∷ ps) qs [] gs h e = absurd (omega arith)
@@ -434,37 +440,186 @@ name-within xs n h = some-name xs n (slice_get xs n) refl h
 module _ (p : Pools)""", 1)
 
 
-def sort_of():
-    out = ["""-- The sort of a shape is that of its tree.
-use Rattle.std.proofs.Common.{◌≡◌, refl, ℕ, ℤ, List}
-use Rattle.jh_name.specs.declared.place.Sort.TheVariants as Sort
-use Rattle.jh_tree.specs.Tree.{ValueTree}
-use Rattle.jh_form.specs.Substituted.{tree_sort}
-use Rattle.jh_table.specs.Entries.{Pools}
-use Rattle.jh_table.specs.Nodes.{shape_tree}
-use Rattle.jh_table.specs.declared.shapes.Shape.{Shape}
-use Rattle.jh_table.specs.declared.shapes.Shape.TheVariants as s
-use Rattle.jh_pass.specs.Leaf.{shape_sort}
+LEAF = {'free_object': 'object_at', 'free_number': 'number_at', 'free_set': 'set_at', 'free_field': 'field_at', 'free_truth': 'truth_at'}
 
-pub sort-same : (p : Pools) (ts : List ValueTree) (x : Shape) → shape_sort x ≡ tree_sort (shape_tree p ts x)
-unfolding shape_sort shape_tree"""]
-    premises, cases, names = [], [], []
+
+def rewritten_of(code):
+    return f"rewritten_{fn_of(code)}"
+
+
+def inner(ctor, kinds, ns):
+    """The part of a constructor with its own parts rewritten."""
+    words = [f"({rewritten_of(core(kind))} {n} l {'(d + 1)' if kind.endswith('+') else 'd'})" if is_part(kind) else n
+             for kind, n in zip(kinds, ns)]
+    return apply(f"t.{ctor}", words)
+
+
+def rewritten_case(code, ctor, kinds, ns):
+    if ctor in LEAF:
+        return f"l.leaves.{LEAF[ctor]} x d"
+    if ctor == 'bound':
+        return "l.leaves.bound_at k d"
+    if code == 'V':
+        return inner(ctor, kinds, ns)[1:-1]
+    sort = SORT[code]
+    return f"{sort}_or (l.whole_at (t.of_{sort} {apply('t.' + ctor, ns)}) d) {inner(ctor, kinds, ns)}"
+
+
+def rewritten_file():
+    out = [f"""-- A tree with each leaf exchanged for what a map of leaves gives for it, and some whole parts for what
+-- stands for them.
+use Rattle.std.specs.Prelude.{{◌≡◌, ℕ, ◌+◌, ◌≤◌, List, length, Option, Some, None}}
+use Rattle.jh_tree.specs.Tree.{{{TREES}}}
+use Rattle.jh_tree.specs.Tree as t
+use Rattle.jh_tree.specs.Meaning.{{Interp, datum}}
+use Rattle.jh_walk.specs.Mapped.{{LeafMap}}
+
+-- What stands for each leaf and, where there is anything, for a whole part that is no leaf, at the number
+-- of binders that were passed on the way to it. What is of another sort than the part doesn't count.
+pub record Rewriting : Type 0 where
+  pub leaves : LeafMap
+  pub whole_at : ValueTree → ℕ → Option ValueTree
+
+-- only leaves are exchanged
+abbrev pub leaves_alone : LeafMap → Rewriting
+leaves_alone l = record {{ leaves = l; whole_at = λ v d. None }}
+
+-- What stands for a whole part means in m what the part means in n; the objects of the bound variables
+-- are e after the rewriting, and `view d e` before it.
+pub record KeepsWholes (l : Rewriting) (m n : Interp) (view : ℕ → List ℕ → List ℕ) : Type 0 where
+  pub whole : (v w : ValueTree) (d : ℕ) (e : List ℕ) → d ≤ length e → l.whole_at v d ≡ Some w → datum w m e ≡ datum v n (view d e)
+
+-- what stands for a whole part, or else the part given
+"""]
+    for code in 'TIPSF':
+        sort, tree = SORT[code], tree_type(code)
+        out.append(f"""unfoldable pub {sort}_or : Option ValueTree → {tree} → {tree}
+{sort}_or (Some (t.of_{sort} a)) b = a
+{sort}_or _ b = b
+
+""")
+    out.append(family(rewritten_of, lambda code: f"Rewriting → ℕ → {tree_type(code)}", rewritten_case, ' l d', 't.none',
+                      't.more (rewritten_field f l d) (rewritten_fields fs l d)'))
+    return ''.join(out)
+
+
+def wholes_file():
+    """Where only leaves are exchanged, a rewritten tree is the mapped one; and what a whole part becomes."""
+    out = [f"""-- Where only leaves are exchanged, the rewritten tree is the mapped one; and a whole part becomes what
+-- stands for it.
+use Rattle.std.proofs.Common.{{◌≡◌, refl, sym, ap, ◌∙◌, ℕ, ℤ, ◌+◌, true, false, List, slice_get, Option, Some, None}}
+use Rattle.std.proofs.lemmas.Bool.{{true≢false}}
+use Rattle.jh_name.specs.declared.place.Sort.TheVariants as Sort
+use Rattle.jh_tree.specs.Tree.{{{TREES}, of_object, of_number, of_truth, of_set, of_field}}
+use Rattle.jh_tree.specs.Tree as t
+use Rattle.jh_tree.specs.Sorts.{{tree_sort}}
+use Rattle.jh_walk.specs.Mapped.{{LeafMap, {', '.join('mapped_' + fn_of(c) for c in ORDER + 'L')}}}
+use Rattle.jh_table.specs.Entries.{{Pools}}
+use Rattle.jh_table.specs.Nodes.{{shape_tree}}
+use Rattle.jh_table.specs.declared.shapes.Shape.{{Shape}}
+use Rattle.jh_table.specs.declared.shapes.Shape.TheVariants as s
+use Rattle.jh_pass.specs.Leaf.{{is_leaf}}
+use Rattle.jh_pass.specs.Rewritten.{{Rewriting, leaves_alone, {OR.replace(' ', ', ')}, {', '.join(rewritten_of(c) for c in ORDER + 'L')}}}
+
+module _ (l : LeafMap) where
+  mutual
+    unfolding {' '.join(rewritten_of(c) for c in ORDER + 'L')} {OR} {' '.join('mapped_' + fn_of(c) for c in ORDER + 'L')}
+"""]
+    for code in ORDER:
+        fn = fn_of(code)
+        out.append(f"    pub {fn}-alone : (a : {tree_type(code)}) (d : ℕ) → rewritten_{fn} a (leaves_alone l) d ≡ mapped_{fn} a l d")
+        for _, ctor, kinds in TYPES[code][3]:
+            ns = names(kinds)
+            words = [f"({fn_of(core(kind))}-alone {n} {'(d + 1)' if kind.endswith('+') else 'd'} i)" if is_part(kind) else n
+                     for kind, n in zip(kinds, ns)]
+            proof = f"λ i. t.{ctor} {' '.join(words)}" if any(is_part(k) for k in kinds) else 'refl'
+            out.append(f"    {fn}-alone {apply('t.' + ctor, ns)} d = {proof}")
+        out.append('')
+    out.append("""    pub fields-alone : (fs : FieldTrees) (d : ℕ) → rewritten_fields fs (leaves_alone l) d ≡ mapped_fields fs l d
+    fields-alone t.none d = refl
+    fields-alone (t.more f fs) d = λ i. t.more (field-alone f d i) (fields-alone fs d i)
+""")
+    for code in 'TIPSF':
+        sort, tree = SORT[code], tree_type(code)
+        out.append(f"""pub {sort}-taken : (o : Option ValueTree) (y : ValueTree) (a : {tree}) → o ≡ Some y → tree_sort y ≡ Sort.{WORD[sort]} → of_{sort} ({sort}_or o a) ≡ y
+unfolding {sort}_or""")
+        for other in 'TIPSF':
+            proof = f"ap (λ q. of_{sort} ({sort}_or q a)) e" if other == code else 'absurd (cc)'
+            out.append(f"{sort}-taken o (of_{SORT[other]} b) a e same = {proof}")
+        out.append('')
+    out.append(f"""-- a whole part becomes what stands for it
+pub whole-taken : (l : Rewriting) (p : Pools) (ts : List ValueTree) (d : ℕ) (x : Shape) (y : ValueTree) → is_leaf x ≡ false →
+    l.whole_at (shape_tree p ts x) d ≡ Some y → tree_sort y ≡ tree_sort (shape_tree p ts x) → rewritten_value (shape_tree p ts x) l d ≡ y
+unfolding is_leaf shape_tree {REWRITTEN}""")
     for name, sort, ctor, args in shapes():
         variables = [var for _, var, _ in args]
-        out.append(f"sort-same p ts {applied('s.' + name, variables)} = refl")
-        if sort != 'truth':
-            kinds = {'z': 'ℤ'}
-            binders = ' '.join(f"({var} : {kinds.get(kind, 'ℕ')})" for kind, var, _ in args)
-            premises.append(f"({binders + ' → ' if binders else ''}y ≡ {applied('s.' + name, variables).strip('()')} → ⊥)")
-            cases.append((name, variables))
-            names.append(f"h{len(names)}")
-    out.append(f"\n-- what is no term and no field is a formula\npub formula-sort : (y : Shape) → {' → '.join(premises)} → Sort.Bool ≡ shape_sort y")
-    out.append("unfolding shape_sort")
-    for (name, variables), h in zip(cases, names):
-        out.append(f"formula-sort {applied('s.' + name, variables)} {' '.join(names)} = absurd ({' '.join([h] + variables)} refl)")
-    out.append(f"formula-sort _ {' '.join(names)} = refl")
-    sort_of.answer = ' '.join(f"c.in_default.not-{name}" for name, _ in cases)
+        head = f"whole-taken l p ts d {applied('s.' + name, variables)} y leaf e same"
+        out.append(f"{head} = absurd (true≢false leaf)" if is_leaf(ctor) else f"{head} = {sort}-taken _ y _ e same")
     return '\n'.join(out) + '\n'
+
+
+WORD = {'object': 'Obj', 'number': 'Int', 'truth': 'Bool', 'set': 'Set', 'field': 'Field'}
+RANGE = {'object': 'ℕ', 'number': 'ℤ', 'truth': 'Bool', 'set': '(ℕ → Bool)', 'field': 'Fields'}
+ZERO = {'object': '0', 'number': 'pos 0', 'truth': 'false', 'set': 'λ x. false'}
+
+
+def rewriting_meanings():
+    def leaf(code, ctor, kinds, ns):
+        field = {'free_object': 'object', 'free_number': 'number', 'free_set': 'set', 'free_field': 'field', 'free_truth': 'truth'}.get(ctor)
+        if field:
+            return f"keeps.{field} x d e h"
+        if ctor == 'bound':
+            return "keeps.bound k d e h"
+        return None
+    leaf.args = 'd e h'
+    leaf.split = lambda kinds, ns: {}
+
+    def wrap(code, ctor, kinds, ns, proof):
+        if code == 'V':
+            return proof
+        sort, tree = SORT[code], apply('t.' + ctor, ns)
+        return (f"{sort}_or-means (l.whole_at (t.of_{sort} {tree}) d) {inner(ctor, kinds, ns)} m e ({VALUE[code]} {tree} n (view d e)) "
+                f"(λ w q. wholes.whole (t.of_{sort} {tree}) w d e h q) ({proof})")
+    part = lambda c, n, hyp: f"{VALUE[c]}-rewritten {n} d e h i"
+    under = lambda c, n, hyp: f"({VALUE[c]}-rewritten {n} (d + 1) (x ∷ e) (deeper d e x h) ∙ ap (λ g. {VALUE[c]} {n} n g) (keeps.under d e x)) i"
+    lines = meaning_lemma('rewritten', lambda c: f"(a : {tree_type(c)}) (d : ℕ) (e : List ℕ) → d ≤ length e → {VALUE[c]} (rewritten_{fn_of(c)} a l d) m e ≡ {VALUE[c]} a n (view d e)",
+                          leaf, '(keeps.last i)', part, under, wrap)
+    helpers = []
+    for code in 'TIPSF':
+        sort = SORT[code]
+        datum = {'object': 'an_object', 'number': 'a_number', 'truth': 'a_truth', 'set': 'a_set', 'field': 'a_field'}[sort]
+        helpers.append(f"""{sort}_of : Datum → {RANGE[sort]} → {RANGE[sort]}
+{sort}_of ({datum} z) b = z
+{sort}_of _ b = b
+
+pub {sort}_or-means : (o : Option ValueTree) (plain : {tree_type(code)}) (m : Interp) (e : List ℕ) (b : {RANGE[sort]}) →
+    ((w : ValueTree) → o ≡ Some w → datum w m e ≡ {datum} b) → {VALUE[code]} plain m e ≡ b → {VALUE[code]} ({sort}_or o plain) m e ≡ b
+unfolding {sort}_or {sort}_of
+{sort}_or-means None plain m e b h same = same""")
+        for other in 'TIPSF':
+            proof = f"ap (λ z. {sort}_of z b) (h (t.of_{sort} a) refl)" if other == code else 'same'
+            helpers.append(f"{sort}_or-means (Some (t.of_{SORT[other]} a)) plain m e b h same = {proof}")
+        helpers.append('')
+    return f"""-- The meaning of a rewritten tree: where what stands for each leaf and each whole part keeps its meaning,
+-- the whole does.
+use Rattle.std.proofs.Common.{{◌≡◌, refl, ap, ◌∙◌, ℕ, suc, ◌+◌, ◌≤◌, ◌==◌, Bool, not, ◌&&◌, ◌||◌, List, [], ◌∷◌, length, ℤ, pos, ◌+ℤ◌, ◌-ℤ◌, ◌*ℤ◌, neg_ℤ, int_lt, int_le, Option, Some, None}}
+use Rattle.std.specs.Ordering.{{int_eq}}
+use Rattle.jh_tree.specs.Tree.{{{TREES}}}
+use Rattle.jh_tree.specs.Tree as t
+use Rattle.jh_tree.specs.Meaning.{{{MEANING_USES}}}
+use Rattle.jh_walk.specs.Kept.{{Keeps}}
+use Rattle.jh_walk.proofs.Meanings.{{deeper}}
+use Rattle.jh_pass.specs.Rewritten.{{Rewriting, KeepsWholes, {OR.replace(' ', ', ')}, {', '.join(rewritten_of(c) for c in ORDER + 'L')}}}
+
+""" + '\n'.join(helpers) + f"""
+module _ (l : Rewriting) (m n : Interp) (view : ℕ → List ℕ → List ℕ) (keeps : Keeps l.leaves m n view) (wholes : KeepsWholes l m n view) where
+  mutual
+    unfolding {' '.join(rewritten_of(c) for c in ORDER + 'L')}
+""" + '\n'.join(('  ' + x if x else x) for x in lines) + """
+    pub fields_value-rewritten : (fs : FieldTrees) (d : ℕ) (e : List ℕ) → d ≤ length e → fields_value (rewritten_fields fs l d) m e ≡ fields_value fs n (view d e)
+    fields_value-rewritten t.none d e h = refl
+    fields_value-rewritten (t.more f fs) d e h = λ i. field_value-rewritten f d e h i ∷ fields_value-rewritten fs d e h i
+"""
 
 
 def substitution():
@@ -477,8 +632,9 @@ use Rattle.jh_tree.specs.Tree.{ValueTree, of_object, of_number, of_truth, of_set
 use Rattle.jh_tree.specs.Tree as t
 use Rattle.jh_tree.specs.Passing.{name_equal}
 use Rattle.jh_tree.proofs.Names.{name_equal-same, name_equal-true}
-use Rattle.jh_walk.specs.Mapped.{LeafMap, mapped_value, mapped_term, mapped_int, mapped_set, mapped_field, mapped_formula}
-use Rattle.jh_form.specs.Substituted.{substituting, tree_sort}
+use Rattle.jh_pass.specs.Rewritten.{leaves_alone, rewritten_value, rewritten_term, rewritten_int, rewritten_set, rewritten_field, rewritten_formula}
+use Rattle.jh_subst.specs.Substituted.{substituting}
+use Rattle.jh_tree.specs.Sorts.{tree_sort}
 use Rattle.jh_table.specs.Entries.{Pools, the_name}
 use Rattle.jh_table.specs.Nodes.{fits, shape_tree}
 use Rattle.jh_table.specs.declared.shapes.Shape.{Shape}
@@ -497,16 +653,16 @@ pub other : {X : Type 0} (y x : Name) (a c : X) → (y ≡ x → ⊥) → (if na
 other y x a c differs = unless y x a c (name_equal y x) refl differs
 
 -- the value stands for the name
-pub free-exchanged : (x : Name) (v : ValueTree) (d : ℕ) → mapped_value (free_value x v) (substituting x v) d ≡ v
-unfolding mapped_value mapped_term mapped_int mapped_set mapped_field mapped_formula"""]
+pub free-exchanged : (x : Name) (v : ValueTree) (d : ℕ) → rewritten_value (free_value x v) (leaves_alone (substituting x v)) d ≡ v
+unfolding rewritten_value rewritten_term rewritten_int rewritten_set rewritten_field rewritten_formula"""]
     values = [('object', 'FreeObject', 'free_object'), ('number', 'FreeNumber', 'free_number'), ('truth', 'FreeTruth', 'free_truth'), ('set', 'FreeSet', 'free_set'), ('field', 'FreeField', 'free_field')]
     for sort, _, ctor in values:
         out.append(f"free-exchanged x (of_{sort} a) d = ap of_{sort} (chosen x a (t.{ctor} x))")
     out.append("""
 -- another leaf stays
 pub other-kept : (p : Pools) (ts : List ValueTree) (x : Name) (d : ℕ) (y : Shape) (v : ValueTree) → is_leaf y ≡ true → (shape_tree p ts y ≡ free_value x v → ⊥) →
-    mapped_value (shape_tree p ts y) (substituting x v) d ≡ shape_tree p ts y
-unfolding is_leaf shape_tree mapped_value mapped_term mapped_int mapped_set mapped_field mapped_formula""")
+    rewritten_value (shape_tree p ts y) (leaves_alone (substituting x v)) d ≡ shape_tree p ts y
+unfolding is_leaf shape_tree rewritten_value rewritten_term rewritten_int rewritten_set rewritten_field rewritten_formula""")
     for sort, _, _ in values:
         out.append(f"other-kept p ts x d (s.Bound k) (of_{sort} a) leaf differs = refl")
     for own, shape, ctor in values:
@@ -538,11 +694,13 @@ if __name__ == '__main__':
         out.write(substitution())
     with open(os.path.join(HERE, 'proofs', 'Passings.antt'), 'w') as out:
         out.write(passings())
-    with open(os.path.join(HERE, 'proofs', 'ShapeSorts.antt'), 'w') as out:
-        out.write(sort_of())
-    if '--answers' in sys.argv:
-        print(sort_of.answer)
-    with open(os.path.join(HERE, 'proofs', 'PartMappings.antt'), 'w') as out:
+    with open(os.path.join(HERE, 'specs', 'Rewritten.antt'), 'w') as out:
+        out.write(rewritten_file())
+    with open(os.path.join(HERE, 'proofs', 'Wholes.antt'), 'w') as out:
+        out.write(wholes_file())
+    with open(os.path.join(HERE, 'proofs', 'Meanings.antt'), 'w') as out:
+        out.write(rewriting_meanings())
+    with open(os.path.join(HERE, 'proofs', 'PartRewritings.antt'), 'w') as out:
         out.write(sort_lemmas())
     with open(os.path.join(HERE, 'proofs', 'Remakes.antt'), 'w') as out:
         out.write(remakes())

@@ -1,12 +1,13 @@
-pub mod Mappings
-pub mod PartMappings
+pub mod Rewritings
+pub mod PartRewritings
+pub mod Wholes
+pub mod Meanings
 pub mod Remakes
 pub mod Makings
 pub mod Sorted
 pub mod OpeningRules
 pub mod Passings
 pub mod Passes
-pub mod ShapeSorts
 pub mod SubstitutionRules
 pub mod Substituted
-pub mod Samples
+pub mod Exchanges

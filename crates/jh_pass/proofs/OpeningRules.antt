@@ -1,22 +1,22 @@
 -- The rules of an opening, over a table.
-use Rattle.std.proofs.Common.{◌≡◌, refl, sym, ap, ◌∙◌, ℕ, ◌-◌, ◌<◌, ◌==◌, nat_lt, true, false, if◌then◌else◌, List, slice_get, Option, Some, is_some, arith}
+use Rattle.std.proofs.Common.{◌≡◌, refl, sym, ap, ◌∙◌, ℕ, ◌-◌, ◌<◌, ◌==◌, nat_lt, true, if◌then◌else◌, List, slice_get, Some, arith}
 use Rattle.std.proofs.lemmas.Bool.{true≢false}
 use Rattle.std.proofs.lemmas.Bool.Decides.{nat_tests}
 use Rattle.jh_tree.specs.Tree.{TermTree, ValueTree, of_object, of_truth}
 use Rattle.jh_tree.specs.Tree as t
-use Rattle.jh_walk.specs.Mapped.{LeafMap, mapped_value, mapped_term, mapped_int, mapped_set, mapped_field, mapped_formula}
-use Rattle.jh_form.specs.Opened.{opening}
+use Rattle.jh_pass.specs.Rewritten.{leaves_alone, rewritten_value, rewritten_term, rewritten_int, rewritten_set, rewritten_field, rewritten_formula}
+use Rattle.jh_subst.specs.Opened.{opening}
 use Rattle.jh_table.specs.Entries.{Pools}
 use Rattle.jh_table.specs.Nodes.{shape_tree}
 use Rattle.jh_table.specs.declared.shapes.Shape.{Shape}
 use Rattle.jh_table.specs.declared.shapes.Shape.TheVariants as s
 use Rattle.jh_pass.specs.Leaf.{is_leaf}
-use Rattle.jh_pass.specs.Mapping.{IsMapped}
-use Rattle.jh_pass.proofs.Sorted.{stays-mapped, exchanged-mapped}
+use Rattle.jh_pass.specs.Walks.{IsRewritten}
+use Rattle.jh_pass.proofs.Sorted.{stays-rewritten, exchanged-rewritten}
 
 module _ (p : Pools) (us ts : List ValueTree) (w : TermTree) (d : ℕ) where
-  kept : (x : Shape) → is_leaf x ≡ true → ((k : ℕ) → x ≡ s.Bound k → ⊥) → mapped_value (shape_tree p us x) (opening w) d ≡ shape_tree p us x
-  unfolding is_leaf shape_tree mapped_value mapped_term mapped_int mapped_set mapped_field mapped_formula
+  kept : (x : Shape) → is_leaf x ≡ true → ((k : ℕ) → x ≡ s.Bound k → ⊥) → rewritten_value (shape_tree p us x) (leaves_alone (opening w)) d ≡ shape_tree p us x
+  unfolding is_leaf shape_tree rewritten_value rewritten_term rewritten_int rewritten_set rewritten_field rewritten_formula
   kept (s.Bound k) leaf other = absurd (other k refl)
   kept (s.FreeObject n) leaf other = refl
   kept (s.FreeNumber n) leaf other = refl
@@ -26,11 +26,11 @@ module _ (p : Pools) (us ts : List ValueTree) (w : TermTree) (d : ℕ) where
   kept _ leaf other = absurd (true≢false (sym leaf))
 
   -- a free name stays
-  pub opening-name : (x : Shape) (n : ℕ) → is_leaf x ≡ true → ((k : ℕ) → x ≡ s.Bound k → ⊥) → slice_get ts n ≡ Some (shape_tree p us x) → IsMapped (opening w) ts n d n
-  opening-name x n leaf other e = stays-mapped ts (opening w) n d (shape_tree p us x) e (kept x leaf other)
+  pub opening-name : (x : Shape) (n : ℕ) → is_leaf x ≡ true → ((k : ℕ) → x ≡ s.Bound k → ⊥) → slice_get ts n ≡ Some (shape_tree p us x) → IsRewritten (leaves_alone (opening w)) ts n d n
+  opening-name x n leaf other e = stays-rewritten ts (leaves_alone (opening w)) n d (shape_tree p us x) e (kept x leaf other)
 
-  chosen : (k : ℕ) → mapped_value (shape_tree p us (s.Bound k)) (opening w) d ≡ of_object (if nat_lt k d then t.bound k else (if k == d then w else t.bound (k - 1)))
-  unfolding shape_tree mapped_value mapped_term
+  chosen : (k : ℕ) → rewritten_value (shape_tree p us (s.Bound k)) (leaves_alone (opening w)) d ≡ of_object (if nat_lt k d then t.bound k else (if k == d then w else t.bound (k - 1)))
+  unfolding shape_tree rewritten_value rewritten_term
   chosen k = refl
 
   if-below : (k : ℕ) → k < d → (if nat_lt k d then t.bound k else (if k == d then w else t.bound (k - 1))) ≡ t.bound k
@@ -43,16 +43,16 @@ module _ (p : Pools) (us ts : List ValueTree) (w : TermTree) (d : ℕ) where
   if-beyond k lt = grind (arith, nat_tests)
 
   -- a variable of an inner binder stays
-  pub opening-below : (k n : ℕ) → k < d → slice_get ts n ≡ Some (shape_tree p us (s.Bound k)) → IsMapped (opening w) ts n d n
+  pub opening-below : (k n : ℕ) → k < d → slice_get ts n ≡ Some (shape_tree p us (s.Bound k)) → IsRewritten (leaves_alone (opening w)) ts n d n
   unfolding shape_tree
-  opening-below k n lt e = exchanged-mapped ts (opening w) n d n (of_object (t.bound k)) (of_object (t.bound k)) e e (chosen k ∙ ap of_object (if-below k lt))
+  opening-below k n lt e = exchanged-rewritten ts (leaves_alone (opening w)) n d n (of_object (t.bound k)) (of_object (t.bound k)) e e (chosen k ∙ ap of_object (if-below k lt))
 
   -- the binder's own is exchanged
-  pub opening-at : (k n r : ℕ) → k ≡ d → slice_get ts n ≡ Some (shape_tree p us (s.Bound k)) → slice_get ts r ≡ Some (of_object w) → IsMapped (opening w) ts n d r
+  pub opening-at : (k n r : ℕ) → k ≡ d → slice_get ts n ≡ Some (shape_tree p us (s.Bound k)) → slice_get ts r ≡ Some (of_object w) → IsRewritten (leaves_alone (opening w)) ts n d r
   unfolding shape_tree
-  opening-at k n r same e f = exchanged-mapped ts (opening w) n d r (of_object (t.bound k)) (of_object w) e f (chosen k ∙ ap of_object (if-at k same))
+  opening-at k n r same e f = exchanged-rewritten ts (leaves_alone (opening w)) n d r (of_object (t.bound k)) (of_object w) e f (chosen k ∙ ap of_object (if-at k same))
 
   -- one beyond falls by one
-  pub opening-beyond : (k n r : ℕ) → d < k → slice_get ts n ≡ Some (shape_tree p us (s.Bound k)) → slice_get ts r ≡ Some (shape_tree p us (s.Bound (k - 1))) → IsMapped (opening w) ts n d r
+  pub opening-beyond : (k n r : ℕ) → d < k → slice_get ts n ≡ Some (shape_tree p us (s.Bound k)) → slice_get ts r ≡ Some (shape_tree p us (s.Bound (k - 1))) → IsRewritten (leaves_alone (opening w)) ts n d r
   unfolding shape_tree
-  opening-beyond k n r lt e f = exchanged-mapped ts (opening w) n d r (of_object (t.bound k)) (of_object (t.bound (k - 1))) e f (chosen k ∙ ap of_object (if-beyond k lt))
+  opening-beyond k n r lt e f = exchanged-rewritten ts (leaves_alone (opening w)) n d r (of_object (t.bound k)) (of_object (t.bound (k - 1))) e f (chosen k ∙ ap of_object (if-beyond k lt))

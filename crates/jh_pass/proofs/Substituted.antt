@@ -1,44 +1,38 @@
 -- The node that a substitution answers.
-use Rattle.std.proofs.Common.{◌≡◌, refl, sym, ap, ◌∙◌, subst, ℕ, ◌<◌, Bool, true, false, List, length, slice_get, Option, Some, None, is_some}
-use Rattle.std.proofs.lemmas.Bool.{true≢false}
+use Rattle.std.proofs.Common.{◌≡◌, sym, ap, ◌∙◌, ℕ, ◌<◌, true, length, slice_get, Some, is_some}
 use Rattle.jh_name.specs.declared.naming.Name.{Name}
-use Rattle.jh_name.specs.declared.place.Sort.{Sort}
-use Rattle.jh_tree.specs.Tree.{ValueTree, of_truth}
-use Rattle.jh_walk.specs.Mapped.{LeafMap, mapped_value}
-use Rattle.jh_form.specs.Substituted.{substituting, substituted, tree_sort}
-use Rattle.jh_table.specs.Entries.{Pools, Listing, is_truth, the_name, the_value, the_truth}
-use Rattle.jh_table.specs.Growth.{Grows, Extends, AreDifferent}
+use Rattle.jh_tree.specs.Tree.{of_truth}
+use Rattle.jh_pass.specs.Rewritten.{leaves_alone, rewritten_value}
+use Rattle.jh_tree.specs.Sorts.{tree_sort}
+use Rattle.jh_subst.specs.Substituted.{substituting, substituted}
+use Rattle.jh_table.specs.Entries.{Listing, is_truth, the_name, the_value, the_truth}
+use Rattle.jh_table.specs.Growth.{Extends, AreDifferent}
 use Rattle.jh_table.specs.Nodes.{nodes, tree_in}
 use Rattle.jh_table.specs.declared.shapes.Shape.{Shape}
 use Rattle.jh_table.proofs.Listed.{extends-trans}
 use Rattle.jh_pass.specs.Leaf.{is_leaf, free_shape, free_value}
-use Rattle.jh_pass.specs.Mapping.{IsMapped}
+use Rattle.jh_pass.specs.Walks.{IsRewritten}
 use Rattle.jh_pass.specs.Staying.{grown}
 use Rattle.jh_pass.specs.Substitution.{IsReady}
-use Rattle.jh_pass.proofs.Sorted.{stays-mapped, exchanged-mapped, truth-some, mapped-truth, there-within, within-some}
+use Rattle.jh_pass.proofs.Sorted.{stays-rewritten, exchanged-rewritten, truth-some, rewritten-truth, within-some, value-listed}
 use Rattle.jh_pass.proofs.SubstitutionRules.{free-exchanged, other-kept, free-tree}
-
-value-listed : (o : Option ValueTree) → is_some o ≡ true → o ≡ Some (the_value o)
-unfolding the_value
-value-listed (Some v) h = refl
-value-listed None h = absurd (true≢false (sym h))
 
 module _ (t : Listing) (name leaf value d : ℕ) (ready : IsReady name leaf value t) where
   -- the leaf itself is exchanged
-  pub leaf-mapped : (n : ℕ) → n ≡ leaf →
-      IsMapped (substituting (the_name (slice_get t.pools.names name)) (the_value (slice_get (nodes t) value))) (nodes t) n d value
-  leaf-mapped n e =
+  pub leaf-rewritten : (n : ℕ) → n ≡ leaf →
+      IsRewritten (leaves_alone (substituting (the_name (slice_get t.pools.names name)) (the_value (slice_get (nodes t) value)))) (nodes t) n d value
+  leaf-rewritten n e =
       let here : slice_get (nodes t) n ≡ Some (free_value (the_name (slice_get t.pools.names name)) (the_value (slice_get (nodes t) value))) = ap (slice_get (nodes t)) e ∙ ready.free in
-      exchanged-mapped (nodes t) (substituting (the_name (slice_get t.pools.names name)) (the_value (slice_get (nodes t) value))) n d value
+      exchanged-rewritten (nodes t) (leaves_alone (substituting (the_name (slice_get t.pools.names name)) (the_value (slice_get (nodes t) value)))) n d value
       (free_value (the_name (slice_get t.pools.names name)) (the_value (slice_get (nodes t) value)))
       (the_value (slice_get (nodes t) value)) here (value-listed (slice_get (nodes t) value) ready.valued)
       (free-exchanged (the_name (slice_get t.pools.names name)) (the_value (slice_get (nodes t) value)) d)
 
   -- any other leaf stays
-  pub other-mapped : (n : ℕ) (x : Shape) → AreDifferent (nodes t) → is_leaf x ≡ true → slice_get (nodes t) n ≡ Some (tree_in t x) → (n ≡ leaf → ⊥) →
-      IsMapped (substituting (the_name (slice_get t.pools.names name)) (the_value (slice_get (nodes t) value))) (nodes t) n d n
-  other-mapped n x differ is e elsewhere =
-      stays-mapped (nodes t) (substituting (the_name (slice_get t.pools.names name)) (the_value (slice_get (nodes t) value))) n d (tree_in t x) e
+  pub other-rewritten : (n : ℕ) (x : Shape) → AreDifferent (nodes t) → is_leaf x ≡ true → slice_get (nodes t) n ≡ Some (tree_in t x) → (n ≡ leaf → ⊥) →
+      IsRewritten (leaves_alone (substituting (the_name (slice_get t.pools.names name)) (the_value (slice_get (nodes t) value)))) (nodes t) n d n
+  other-rewritten n x differ is e elsewhere =
+      stays-rewritten (nodes t) (leaves_alone (substituting (the_name (slice_get t.pools.names name)) (the_value (slice_get (nodes t) value)))) n d (tree_in t x) e
       (other-kept t.pools (nodes t) (the_name (slice_get t.pools.names name)) d x (the_value (slice_get (nodes t) value)) is
       (λ same. elsewhere (differ n leaf (free_value (the_name (slice_get t.pools.names name)) (the_value (slice_get (nodes t) value))) (e ∙ ap Some same) ready.free)))
 
@@ -58,12 +52,12 @@ made-ready t u v n leaf value x g h pools named lt made =
 -- the answer of the walk, said of the table before the name was put into it
 pub made-substituted : (t v w : Listing) (n value formula made : ℕ) (x : Name) → Extends t v → slice_get v.pools.names n ≡ Some x →
     value < length (nodes t) → is_truth (slice_get (nodes t) formula) ≡ true →
-    slice_get (nodes w) made ≡ Some (mapped_value (the_value (slice_get (nodes v) formula)) (substituting (the_name (slice_get v.pools.names n)) (the_value (slice_get (nodes v) value))) 0) →
+    slice_get (nodes w) made ≡ Some (rewritten_value (the_value (slice_get (nodes v) formula)) (leaves_alone (substituting (the_name (slice_get v.pools.names n)) (the_value (slice_get (nodes v) value)))) 0) →
     slice_get (nodes w) made ≡ Some (of_truth (substituted (the_truth (slice_get (nodes t) formula)) x (the_value (slice_get (nodes t) value))))
 unfolding the_name
 made-substituted t v w n value formula made x g named lt truth e =
     let values : slice_get (nodes v) value ≡ slice_get (nodes t) value = grown (nodes t) (nodes v) value g.nodes (within-some (nodes t) value lt) in
     let formulas : slice_get (nodes v) formula ≡ slice_get (nodes t) formula = grown (nodes t) (nodes v) formula g.nodes (truth-some (slice_get (nodes t) formula) truth) in
     e
-    ∙ (λ i. Some (mapped_value (the_value (formulas i)) (substituting (the_name (named i)) (the_value (values i))) 0))
-    ∙ mapped-truth (substituting x (the_value (slice_get (nodes t) value))) 0 (slice_get (nodes t) formula) truth
+    ∙ (λ i. Some (rewritten_value (the_value (formulas i)) (leaves_alone (substituting (the_name (named i)) (the_value (values i)))) 0))
+    ∙ rewritten-truth (substituting x (the_value (slice_get (nodes t) value))) 0 (slice_get (nodes t) formula) truth

@@ -1,5 +1,5 @@
 -- The rules of a substitution, over a table.
-use Rattle.std.proofs.Common.{◌≡◌, refl, sym, ap, ◌∙◌, subst, ℕ, Bool, true, false, if◌then◌else◌, List, slice_get, Option, Some, is_some}
+use Rattle.std.proofs.Common.{◌≡◌, refl, sym, ap, ℕ, Bool, true, false, if◌then◌else◌, List, slice_get, is_some}
 use Rattle.std.proofs.lemmas.Bool.{true≢false}
 use Rattle.jh_name.specs.declared.naming.Name.{Name}
 use Rattle.jh_name.specs.declared.place.Sort as place
@@ -8,8 +8,9 @@ use Rattle.jh_tree.specs.Tree.{ValueTree, of_object, of_number, of_truth, of_set
 use Rattle.jh_tree.specs.Tree as t
 use Rattle.jh_tree.specs.Passing.{name_equal}
 use Rattle.jh_tree.proofs.Names.{name_equal-same, name_equal-true}
-use Rattle.jh_walk.specs.Mapped.{LeafMap, mapped_value, mapped_term, mapped_int, mapped_set, mapped_field, mapped_formula}
-use Rattle.jh_form.specs.Substituted.{substituting, tree_sort}
+use Rattle.jh_pass.specs.Rewritten.{leaves_alone, rewritten_value, rewritten_term, rewritten_int, rewritten_set, rewritten_field, rewritten_formula}
+use Rattle.jh_subst.specs.Substituted.{substituting}
+use Rattle.jh_tree.specs.Sorts.{tree_sort}
 use Rattle.jh_table.specs.Entries.{Pools, the_name}
 use Rattle.jh_table.specs.Nodes.{fits, shape_tree}
 use Rattle.jh_table.specs.declared.shapes.Shape.{Shape}
@@ -28,8 +29,8 @@ pub other : {X : Type 0} (y x : Name) (a c : X) → (y ≡ x → ⊥) → (if na
 other y x a c differs = unless y x a c (name_equal y x) refl differs
 
 -- the value stands for the name
-pub free-exchanged : (x : Name) (v : ValueTree) (d : ℕ) → mapped_value (free_value x v) (substituting x v) d ≡ v
-unfolding mapped_value mapped_term mapped_int mapped_set mapped_field mapped_formula
+pub free-exchanged : (x : Name) (v : ValueTree) (d : ℕ) → rewritten_value (free_value x v) (leaves_alone (substituting x v)) d ≡ v
+unfolding rewritten_value rewritten_term rewritten_int rewritten_set rewritten_field rewritten_formula
 free-exchanged x (of_object a) d = ap of_object (chosen x a (t.free_object x))
 free-exchanged x (of_number a) d = ap of_number (chosen x a (t.free_number x))
 free-exchanged x (of_truth a) d = ap of_truth (chosen x a (t.free_truth x))
@@ -38,8 +39,8 @@ free-exchanged x (of_field a) d = ap of_field (chosen x a (t.free_field x))
 
 -- another leaf stays
 pub other-kept : (p : Pools) (ts : List ValueTree) (x : Name) (d : ℕ) (y : Shape) (v : ValueTree) → is_leaf y ≡ true → (shape_tree p ts y ≡ free_value x v → ⊥) →
-    mapped_value (shape_tree p ts y) (substituting x v) d ≡ shape_tree p ts y
-unfolding is_leaf shape_tree mapped_value mapped_term mapped_int mapped_set mapped_field mapped_formula
+    rewritten_value (shape_tree p ts y) (leaves_alone (substituting x v)) d ≡ shape_tree p ts y
+unfolding is_leaf shape_tree rewritten_value rewritten_term rewritten_int rewritten_set rewritten_field rewritten_formula
 other-kept p ts x d (s.Bound k) (of_object a) leaf differs = refl
 other-kept p ts x d (s.Bound k) (of_number a) leaf differs = refl
 other-kept p ts x d (s.Bound k) (of_truth a) leaf differs = refl

@@ -18,34 +18,6 @@ is_leaf (s.FreeSet x) = true
 is_leaf (s.FreeField x) = true
 is_leaf _ = false
 
--- the sort of a shape
-unfoldable pub shape_sort : Shape → place.Sort
-shape_sort (s.Bound k) = Sort.Obj
-shape_sort (s.FreeObject n) = Sort.Obj
-shape_sort s.Null = Sort.Obj
-shape_sort (s.ReadObject a b) = Sort.Obj
-shape_sort (s.Const z) = Sort.Int
-shape_sort (s.FreeNumber n) = Sort.Int
-shape_sort (s.ReadNumber a b) = Sort.Int
-shape_sort (s.Add a b) = Sort.Int
-shape_sort (s.Sub a b) = Sort.Int
-shape_sort (s.Neg a) = Sort.Int
-shape_sort (s.Scale z a) = Sort.Int
-shape_sort (s.Card a) = Sort.Int
-shape_sort (s.FreeSet n) = Sort.Set
-shape_sort (s.ReadSet a b) = Sort.Set
-shape_sort s.Empty = Sort.Set
-shape_sort s.Univ = Sort.Set
-shape_sort (s.Single a) = Sort.Set
-shape_sort (s.Union a b) = Sort.Set
-shape_sort (s.Inter a b) = Sort.Set
-shape_sort (s.Diff a b) = Sort.Set
-shape_sort (s.Compl a) = Sort.Set
-shape_sort (s.Compr a) = Sort.Set
-shape_sort (s.FreeField n) = Sort.Field
-shape_sort (s.Update a b c) = Sort.Field
-shape_sort _ = Sort.Bool
-
 -- the shape of the free name of this number and sort
 unfoldable pub free_shape : ℕ → place.Sort → Shape
 free_shape n Sort.Obj = s.FreeObject n

@@ -1,7 +1,9 @@
 pub mod Leaf
-pub mod Mapping
+pub mod Rewritten
+pub mod Walks
 pub mod Memos
 pub mod Passed
 pub mod Seen
 pub mod Substitution
+pub mod Exchanging
 pub mod Staying

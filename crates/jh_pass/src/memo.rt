@@ -37,7 +37,8 @@ impl Memo {
 
     /// Notes the answer for the key. The other answers stay.
     pub fn note(&mut self, key: Key, answer: usize) -> Result<(), NoMemory>
-        ensures { OnOk result ((k : Key) (r : ℕ) → found self.new.answers k ≡ Some r → ((k ≡ key) × (r ≡ answer)) ⊎ (found self.old.answers k ≡ Some r)) }
+        ensures noted { OnOk result (found self.new.answers key ≡ Some answer) }
+        ensures others { OnOk result ((k : Key) (r : ℕ) → found self.new.answers k ≡ Some r → ((k ≡ key) × (r ≡ answer)) ⊎ (found self.old.answers k ≡ Some r)) }
     {
         self.answers.insert(key, answer)?;
         Ok(())

@@ -5,8 +5,9 @@ ghost use Rattle.jh_tree.specs.Meaning.{Interp, truth, term_value};
 ghost use Rattle.jh_table.specs.Entries.{Listing, is_object, is_truth, the_object, the_truth};
 ghost use Rattle.jh_table.specs.Growth.{Extends};
 ghost use Rattle.jh_table.specs.Nodes.{nodes, tree_in};
-ghost use Rattle.jh_form.specs.Opened.{opened, opening};
-ghost use Rattle.jh_pass.specs.Mapping.{IsMapped};
+ghost use Rattle.jh_subst.specs.Opened.{opened, opening};
+ghost use Rattle.jh_pass.specs.Rewritten.{leaves_alone};
+ghost use Rattle.jh_pass.specs.Walks.{IsRewritten};
 ghost use Rattle.jh_pass.specs.Staying.{opening-stays};
 
 use crate::rules::LeafRules;
@@ -21,7 +22,7 @@ struct Opening {
 }
 
 impl LeafRules for Opening {
-    ghost leaves = { λ rules t. opening (the_object (slice_get (nodes t) rules.with)) };
+    ghost rewriting = { λ rules t. leaves_alone (opening (the_object (slice_get (nodes t) rules.with))) };
 
     ghost ready = { λ rules t. is_object (slice_get (nodes t) rules.with) ≡ true };
 
@@ -38,6 +39,16 @@ impl LeafRules for Opening {
         }
     }
 
+    fn whole(
+        &self,
+        _table: &mut Table,
+        _node: usize,
+        _shape: Shape,
+        _depth: u32,
+    ) -> Result<Option<usize>, NoMemory> {
+        Ok(None)
+    }
+
     ghost stays = { λ rules. opening-stays rules.with };
 }
 
@@ -52,7 +63,7 @@ fn bound(
 ) -> Result<usize, NoMemory>
     requires there { slice_get (nodes table.old) node ≡ Some (tree_in table.old (Shape.Bound number)) }
     requires with { is_object (slice_get (nodes table.old) with) ≡ true }
-    ensures node { IfOk result (λ made. IsMapped (opening (the_object (slice_get (nodes table.new) with))) (nodes table.new) node depth made) }
+    ensures node { IfOk result (λ made. IsRewritten (leaves_alone (opening (the_object (slice_get (nodes table.new) with)))) (nodes table.new) node depth made) }
     ensures grows { Extends table.old table.new }
 {
     if number < depth {

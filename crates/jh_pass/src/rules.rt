@@ -1,18 +1,19 @@
-ghost use Rattle.std.specs.Prelude.{◌≡◌, true, Some, IfOk, slice_get, ℕ};
-ghost use Rattle.jh_walk.specs.Mapped.{LeafMap};
+ghost use Rattle.std.specs.Prelude.{◌≡◌, true, false, Some, IfOk, slice_get};
 ghost use Rattle.jh_table.specs.Entries.{Listing};
 ghost use Rattle.jh_table.specs.Growth.{Extends};
 ghost use Rattle.jh_table.specs.Nodes.{nodes, tree_in, fits_in};
-ghost use Rattle.jh_pass.specs.Mapping.{IsMapped, Stays};
+ghost use Rattle.jh_pass.specs.Walks.{IsRewritten, StandsFor, Stays};
+ghost use Rattle.jh_pass.specs.Rewritten.{Rewriting};
 ghost use Rattle.jh_pass.specs.Leaf.{is_leaf};
 
 use jh_name::NoMemory;
 use jh_table::{Shape, Table};
 
-/// What stands for the leaves of a tree: for its free names and its bound variables. A set of rules
-/// names nodes by number, so its leaves hang on the table; they stay while the table grows.
+/// What stands for the leaves of a tree, which are its free names and its bound variables, and for some
+/// of its whole parts. A set of rules names nodes by number, so what it says hangs on the table; it
+/// stays while the table grows.
 pub trait LeafRules {
-    ghost leaves: { Self → Listing → LeafMap };
+    ghost rewriting: { Self → Listing → Rewriting };
 
     ghost ready: { Self → Listing → Type 0 };
 
@@ -29,8 +30,24 @@ pub trait LeafRules {
         requires there { slice_get (nodes table.old) node ≡ Some (tree_in table.old shape) }
         requires fits { fits_in table.old shape ≡ true }
         requires leaf { is_leaf shape ≡ true }
-        ensures node { IfOk result (λ made. IsMapped (leaves self.now table.new) (nodes table.new) node depth made) }
+        ensures node { IfOk result (λ made. IsRewritten (rewriting self.now table.new) (nodes table.new) node depth made) }
         ensures grows { Extends table.old table.new };
 
-    ghost stays: { (rules : Self) → Stays (ready rules) (leaves rules) };
+    /// The node that stands for all of a part that is no leaf, or none where the walk is to go into its
+    /// parts.
+    fn whole(
+        &self,
+        table: &mut Table,
+        node: usize,
+        shape: Shape,
+        depth: u32,
+    ) -> Result<Option<usize>, NoMemory>
+        requires ready { ready self.now table.old }
+        requires there { slice_get (nodes table.old) node ≡ Some (tree_in table.old shape) }
+        requires fits { fits_in table.old shape ≡ true }
+        requires inner { is_leaf shape ≡ false }
+        ensures node { IfOk result (λ made. StandsFor (rewriting self.now table.new) (nodes table.new) node depth made) }
+        ensures grows { Extends table.old table.new };
+
+    ghost stays: { (rules : Self) → Stays (ready rules) (rewriting rules) };
 }

@@ -1,4 +1,4 @@
-ghost use Rattle.std.specs.Prelude.{◌≡◌, true, ℕ, ◌⊎◌};
+ghost use Rattle.std.specs.Prelude.{◌≡◌, true, ℕ, ◌⊎◌, OnOk};
 ghost use Rattle.jh_pass.specs.Seen.{has};
 
 use indexmap::IndexSet;
@@ -30,7 +30,8 @@ impl Seen {
 
     /// Marks the node as seen.
     pub fn add(&mut self, node: usize) -> Result<(), NoMemory>
-        ensures { (n : ℕ) → has self.new.nodes n ≡ true → (n ≡ node) ⊎ (has self.old.nodes n ≡ true) }
+        ensures added { OnOk result (has self.new.nodes node ≡ true) }
+        ensures others { (n : ℕ) → has self.new.nodes n ≡ true → (n ≡ node) ⊎ (has self.old.nodes n ≡ true) }
     {
         self.nodes.insert(node)?;
         Ok(())

@@ -7,17 +7,18 @@ ghost use Rattle.jh_tree.specs.Assigned.{assigned};
 ghost use Rattle.jh_table.specs.Entries.{is_truth, the_name, the_value, the_truth};
 ghost use Rattle.jh_table.specs.Growth.{Extends};
 ghost use Rattle.jh_table.specs.Nodes.{nodes};
-ghost use Rattle.jh_form.specs.Substituted.{substituted, substituting, tree_sort, stands_only_at};
+ghost use Rattle.jh_tree.specs.Sorts.{tree_sort};
+ghost use Rattle.jh_subst.specs.Substituted.{substituted, substituting, stands_only_at};
 ghost use Rattle.jh_pass.specs.Leaf.{free_shape};
+ghost use Rattle.jh_pass.specs.Rewritten.{leaves_alone};
 ghost use Rattle.jh_pass.specs.Substitution.{IsReady};
 ghost use Rattle.jh_pass.specs.Staying.{substituting-stays};
 
 use crate::naming::names;
 use crate::rules::LeafRules;
-use crate::sorts::sort_at;
 use crate::walking::walked;
-use jh_form::{FormFault, StandsOnlyAt};
 use jh_name::{Name, NoMemory, Sort};
+use jh_subst::{FormFault, StandsOnlyAt};
 use jh_table::{Shape, Table};
 
 /// The rules by which a node stands for a free name of its sort: the name's number, its node at that
@@ -30,7 +31,7 @@ struct Substituting {
 }
 
 impl LeafRules for Substituting {
-    ghost leaves = { λ rules t. substituting (the_name (slice_get t.pools.names rules.name)) (the_value (slice_get (nodes t) rules.value)) };
+    ghost rewriting = { λ rules t. leaves_alone (substituting (the_name (slice_get t.pools.names rules.name)) (the_value (slice_get (nodes t) rules.value))) };
 
     ghost ready = { λ rules t. IsReady rules.name rules.leaf rules.value t };
 
@@ -47,6 +48,16 @@ impl LeafRules for Substituting {
         } else {
             Ok(node)
         }
+    }
+
+    fn whole(
+        &self,
+        _table: &mut Table,
+        _node: usize,
+        _shape: Shape,
+        _depth: u32,
+    ) -> Result<Option<usize>, NoMemory> {
+        Ok(None)
     }
 
     ghost stays = { λ rules. substituting-stays rules.name rules.leaf rules.value };
@@ -84,7 +95,7 @@ pub fn subst(
     ensures sorted { IfOk result (λ made. formula_passes (the_truth (slice_get (nodes table.old) formula)) (stands_only_at name.now (tree_sort (the_value (slice_get (nodes table.old) value)))) ≡ true) }
     ensures grows { Extends table.old table.new }
 {
-    let sort = sort_at(table, value);
+    let sort = table.sort(value);
     match names(table, formula, &StandsOnlyAt { name, sort }) {
         Ok(true) => match exchanged(table, formula, name, sort, value) {
             Ok(made) => Ok(made),

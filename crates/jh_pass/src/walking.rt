@@ -1,12 +1,12 @@
-ghost use Rattle.std.specs.Prelude.{◌≡◌, ◌+◌, ◌<◌, true, false, Some, IfOk, OnOk, length, slice_get};
-ghost use Rattle.jh_walk.specs.Mapped.{mapped_value};
+ghost use Rattle.std.specs.Prelude.{◌≡◌, ◌+◌, ◌<◌, true, false, Some, None, IfOk, OnOk, length, slice_get};
 ghost use Rattle.jh_table.specs.Entries.{the_value};
 ghost use Rattle.jh_table.specs.Growth.{Extends};
 ghost use Rattle.jh_table.specs.Nodes.{nodes, tree_in, fits_in};
-ghost use Rattle.jh_table.specs.Parts.{parts, binders};
-ghost use Rattle.jh_pass.specs.Mapping.{IsMapped, AllMapped, Holds, KeepsMeaning};
+ghost use Rattle.jh_table.specs.Parts.{parts, binders, ArePartsBelow};
+ghost use Rattle.jh_pass.specs.Walks.{IsRewritten, AllRewritten, Holds, KeepsMeaning};
 ghost use Rattle.jh_pass.specs.Leaf.{is_leaf};
 ghost use Rattle.jh_pass.specs.Memos.{found};
+ghost use Rattle.jh_pass.specs.Rewritten.{rewritten_value};
 
 use crate::leaves::is_leaf;
 use crate::memo::{Key, Memo};
@@ -25,8 +25,8 @@ fn below(depth: u32, shape: Shape) -> Result<u32, NoMemory>
 }
 
 /// The answer for a node that was met before, or else that of its shape, which is noted.
-#[cycle(mapped)]
-fn mapped<R: LeafRules>(
+#[cycle(rewritten)]
+fn rewritten<R: LeafRules>(
     table: &mut Table,
     rules: &R,
     memo: &mut Memo,
@@ -34,25 +34,26 @@ fn mapped<R: LeafRules>(
     depth: u32,
 ) -> Result<usize, NoMemory>
     requires inside { node < length (nodes table.old) }
-    requires memo { Holds (R.ready rules.now) (R.leaves rules.now) table.old (found memo.old.answers) }
-    ensures node { IfOk result (λ made. IsMapped (R.leaves rules.now table.new) (nodes table.new) node depth made) }
+    requires memo { Holds (R.ready rules.now) (R.rewriting rules.now) table.old (found memo.old.answers) }
+    ensures node { IfOk result (λ made. IsRewritten (R.rewriting rules.now table.new) (nodes table.new) node depth made) }
     ensures grows { Extends table.old table.new }
-    ensures memo { OnOk result (Holds (R.ready rules.now) (R.leaves rules.now) table.new (found memo.new.answers)) }
+    ensures memo { OnOk result (Holds (R.ready rules.now) (R.rewriting rules.now) table.new (found memo.new.answers)) }
 {
     let key = Key { node, depth };
     match memo.known(key) {
         Some(answer) => Ok(answer),
         None => {
-            let answer = mapped_shape(table, rules, memo, node, depth)?;
+            let answer = rewritten_shape(table, rules, memo, node, depth)?;
             memo.note(key, answer)?;
             Ok(answer)
         }
     }
 }
 
-/// The answer for a node by its shape: a leaf's rule, or the shape with the answers for its parts.
-#[cycle(mapped)]
-fn mapped_shape<R: LeafRules>(
+/// The answer for a node by its shape: a leaf's rule, what stands for the whole of it, or the shape with
+/// the answers for its parts.
+#[cycle(rewritten)]
+fn rewritten_shape<R: LeafRules>(
     table: &mut Table,
     rules: &R,
     memo: &mut Memo,
@@ -60,28 +61,54 @@ fn mapped_shape<R: LeafRules>(
     depth: u32,
 ) -> Result<usize, NoMemory>
     requires inside { node < length (nodes table.old) }
-    requires memo { Holds (R.ready rules.now) (R.leaves rules.now) table.old (found memo.old.answers) }
-    ensures node { IfOk result (λ made. IsMapped (R.leaves rules.now table.new) (nodes table.new) node depth made) }
+    requires memo { Holds (R.ready rules.now) (R.rewriting rules.now) table.old (found memo.old.answers) }
+    ensures node { IfOk result (λ made. IsRewritten (R.rewriting rules.now table.new) (nodes table.new) node depth made) }
     ensures grows { Extends table.old table.new }
-    ensures memo { OnOk result (Holds (R.ready rules.now) (R.leaves rules.now) table.new (found memo.new.answers)) }
+    ensures memo { OnOk result (Holds (R.ready rules.now) (R.rewriting rules.now) table.new (found memo.new.answers)) }
 {
     let shape = table.shape(node);
     if is_leaf(shape) {
         return rules.leaf(table, node, shape, depth);
     }
+    match rules.whole(table, node, shape, depth)? {
+        Some(whole) => Ok(whole),
+        None => rewritten_parts(table, rules, memo, node, shape, depth),
+    }
+}
+
+/// The shape of a node, for which nothing stands as a whole, with the answers for its parts.
+#[cycle(rewritten)]
+fn rewritten_parts<R: LeafRules>(
+    table: &mut Table,
+    rules: &R,
+    memo: &mut Memo,
+    node: usize,
+    shape: Shape,
+    depth: u32,
+) -> Result<usize, NoMemory>
+    requires there { slice_get (nodes table.old) node ≡ Some (tree_in table.old shape) }
+    requires fits { fits_in table.old shape ≡ true }
+    requires below { ArePartsBelow node table.old.pools.lists shape }
+    requires inner { is_leaf shape ≡ false }
+    requires alone { (R.rewriting rules.now table.old).whole_at (tree_in table.old shape) depth ≡ None }
+    requires memo { Holds (R.ready rules.now) (R.rewriting rules.now) table.old (found memo.old.answers) }
+    ensures node { IfOk result (λ made. IsRewritten (R.rewriting rules.now table.new) (nodes table.new) node depth made) }
+    ensures grows { Extends table.old table.new }
+    ensures memo { OnOk result (Holds (R.ready rules.now) (R.rewriting rules.now) table.new (found memo.new.answers)) }
+{
     let below = below(depth, shape)?;
     let mut answers = Vec::new(table.alloc());
     for index in 0..table.count(shape) {
         let part = table.part(shape, index);
-        let answer = mapped(table, rules, memo, part, below)?;
+        let answer = rewritten(table, rules, memo, part, below)?;
         answers.push(answer)?;
     }
     let made = table.with_parts(shape, answers.as_slice())?;
     table.make(made)
 }
 
-/// The node of the tree of a node in which each leaf is exchanged for what stands for it by the rules,
-/// where `depth` binders count as passed. What the table held stays in its place, after any answer. The
+/// The node of the tree of a node in which each leaf, and each whole part that has one, is exchanged for
+/// what stands for it by the rules, where `depth` binders count as passed. What the table held stays in its place, after any answer. The
 /// time is in proportion to the parts, each counted once for each depth at which it is met. Where a depth
 /// leaves u32 the answer is want of memory.
 pub fn walked<R: LeafRules>(
@@ -92,10 +119,10 @@ pub fn walked<R: LeafRules>(
 ) -> Result<usize, NoMemory>
     requires inside { node < length (nodes table.old) }
     requires ready { R.ready rules.now table.old }
-    ensures tree { IfOk result (λ made. slice_get (nodes table.new) made ≡ Some (mapped_value (the_value (slice_get (nodes table.old) node)) (R.leaves rules.now table.old) depth)) }
-    ensures meaning { IfOk result (λ made. KeepsMeaning (R.leaves rules.now table.old) depth (slice_get (nodes table.old) node) (slice_get (nodes table.new) made)) }
+    ensures tree { IfOk result (λ made. slice_get (nodes table.new) made ≡ Some (rewritten_value (the_value (slice_get (nodes table.old) node)) (R.rewriting rules.now table.old) depth)) }
+    ensures meaning { IfOk result (λ made. KeepsMeaning (R.rewriting rules.now table.old) depth (slice_get (nodes table.old) node) (slice_get (nodes table.new) made)) }
     ensures grows { Extends table.old table.new }
 {
     let mut memo = Memo::new(table.alloc());
-    mapped(table, rules, &mut memo, node, depth)
+    rewritten(table, rules, &mut memo, node, depth)
 }

@@ -1,4 +1,4 @@
-use Rattle.std.proofs.Common.{◌≡◌, ◌∙◌, sym, ap, ◌<◌, ◌+◌, true, false, ◌&&◌, drop, length, slice_get, Some, arith, rules}
+use Rattle.std.proofs.Common.{◌≡◌, ◌∙◌, sym, ap, ◌+◌, true, false, ◌&&◌, drop, slice_get, arith, rules}
 use Rattle.jh_tree.specs.Passing.{value_passes}
 use Rattle.jh_table.specs.Entries.{the_value}
 use Rattle.jh_table.specs.Nodes.{nodes, tree_in}

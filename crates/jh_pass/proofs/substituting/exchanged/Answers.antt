@@ -1,10 +1,9 @@
-use Rattle.std.proofs.Common.{◌≡◌, ◌∙◌, sym, ap, Some, true, slice_get, is_some}
+use Rattle.std.proofs.Common.{◌≡◌, ◌∙◌, ap, Some, slice_get, is_some}
 use Rattle.std.proofs.lemmas.Result.{IfOk-weaker}
 use Rattle.jh_tree.specs.Tree.{of_truth}
-use Rattle.jh_walk.specs.Mapped.{mapped_value}
-use Rattle.jh_form.specs.Substituted.{substituting, substituted, tree_sort}
+use Rattle.jh_pass.specs.Rewritten.{leaves_alone, rewritten_value}
+use Rattle.jh_subst.specs.Substituted.{substituting, substituted}
 use Rattle.jh_table.specs.Entries.{the_name, the_truth, the_value}
-use Rattle.jh_table.specs.Growth.{Extends}
 use Rattle.jh_table.specs.Nodes.{nodes, fits_in, tree_in}
 use Rattle.jh_table.proofs.Listed.{extends-trans}
 use Rattle.jh_pass.specs.Leaf.{free_shape}
@@ -31,7 +30,7 @@ pub returns-clause-tree : goal.returns-clause-tree
 returns-clause-tree c =
     IfOk-weaker
     c.walked.result
-    (λ made. slice_get (nodes c.walked.new.table) made ≡ Some (mapped_value (the_value (slice_get (nodes c.make.new.self) c.args.formula)) (substituting (the_name (slice_get c.make.new.self.pools.names c.in_ok-number.number)) (the_value (slice_get (nodes c.make.new.self) c.args.value))) 0))
+    (λ made. slice_get (nodes c.walked.new.table) made ≡ Some (rewritten_value (the_value (slice_get (nodes c.make.new.self) c.args.formula)) (leaves_alone (substituting (the_name (slice_get c.make.new.self.pools.names c.in_ok-number.number)) (the_value (slice_get (nodes c.make.new.self) c.args.value)))) 0))
     (λ made. slice_get (nodes c.walked.new.table) made ≡ Some (of_truth (substituted (the_truth (slice_get (nodes c.args.table.now) c.args.formula)) c.args.name.now (the_value (slice_get (nodes c.args.table.now) c.args.value)))))
     (λ made e. made-substituted c.args.table.now c.make.new.self c.walked.new.table c.in_ok-number.number c.args.value c.args.formula made c.args.name.now (extends-trans c.args.table.now c.name.new.self c.make.new.self c.name.ensures.grows c.make.ensures.grows) (ap (λ p. slice_get p.names c.in_ok-number.number) c.make.ensures.pools ∙ c.in_ok-number.ensures.number) c.requires.value c.requires.formula e)
     c.walked.ensures.tree

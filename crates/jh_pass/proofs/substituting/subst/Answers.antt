@@ -1,8 +1,9 @@
-use Rattle.std.proofs.Common.{◌≡◌, ◌∙◌, sym, ap, ℕ, List, [], true, false, Some, slice_get, rules}
-use Rattle.jh_tree.specs.Passing.{value_passes, formula_passes}
+use Rattle.std.proofs.Common.{◌≡◌, ◌∙◌, sym, ap, true, false, slice_get, rules}
+use Rattle.jh_tree.specs.Passing.{value_passes}
 use Rattle.jh_tree.specs.Meaning.{truth}
-use Rattle.jh_form.specs.Substituted.{substituted, tree_sort, stands_only_at}
-use Rattle.jh_form.proofs.Substitutions.{truth-substituted}
+use Rattle.jh_tree.specs.Sorts.{tree_sort}
+use Rattle.jh_subst.specs.Substituted.{substituted, stands_only_at}
+use Rattle.jh_subst.proofs.Substitutions.{truth-substituted}
 use Rattle.jh_table.specs.Entries.{the_truth, the_value}
 use Rattle.jh_table.specs.Nodes.{nodes}
 use Rattle.jh_pass.proofs.Passings.{truth-passes}
@@ -19,14 +20,14 @@ returns-in-Ok-clause-meaning c = λ m env.
 
 pub returns-in-Ok-clause-sorted : goal.returns-in-Ok-clause-sorted
 returns-in-Ok-clause-sorted c =
-    let asked : true ≡ value_passes (the_value (slice_get (nodes c.args.table.now) c.args.formula)) (stands_only_at c.args.name.now c.sort_at-sort.result) = search rules in
+    let asked : true ≡ value_passes (the_value (slice_get (nodes c.args.table.now) c.args.formula)) (stands_only_at c.args.name.now c.sort-sort.result) = search rules in
     truth-passes (stands_only_at c.args.name.now (tree_sort (the_value (slice_get (nodes c.args.table.now) c.args.value)))) (slice_get (nodes c.args.table.now) c.args.formula) c.requires.formula
-    ∙ ap (λ s. value_passes (the_value (slice_get (nodes c.args.table.now) c.args.formula)) (stands_only_at c.args.name.now s)) (sym c.sort_at-sort.ensures)
+    ∙ ap (λ s. value_passes (the_value (slice_get (nodes c.args.table.now) c.args.formula)) (stands_only_at c.args.name.now s)) (sym c.sort-sort.ensures)
     ∙ sym asked
 
 pub returns-in-Ok-false-clause-ill_sorted : goal.returns-in-Ok-false-clause-ill_sorted
 returns-in-Ok-false-clause-ill_sorted c = λ same.
-    let asked : false ≡ value_passes (the_value (slice_get (nodes c.args.table.now) c.args.formula)) (stands_only_at c.args.name.now c.sort_at-sort.result) = search rules in
+    let asked : false ≡ value_passes (the_value (slice_get (nodes c.args.table.now) c.args.formula)) (stands_only_at c.args.name.now c.sort-sort.result) = search rules in
     truth-passes (stands_only_at c.args.name.now (tree_sort (the_value (slice_get (nodes c.args.table.now) c.args.value)))) (slice_get (nodes c.args.table.now) c.args.formula) c.requires.formula
-    ∙ ap (λ s. value_passes (the_value (slice_get (nodes c.args.table.now) c.args.formula)) (stands_only_at c.args.name.now s)) (sym c.sort_at-sort.ensures)
+    ∙ ap (λ s. value_passes (the_value (slice_get (nodes c.args.table.now) c.args.formula)) (stands_only_at c.args.name.now s)) (sym c.sort-sort.ensures)
     ∙ sym asked

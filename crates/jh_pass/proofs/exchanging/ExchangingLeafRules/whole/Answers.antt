@@ -1,0 +1,11 @@
+use Rattle.jh_table.specs.Nodes.{tree_in}
+use Rattle.jh_pass.proofs.Exchanges.{old-whole, other-whole}
+use Rattle.jh_pass.proofs.exchanging.ExchangingLeafRules.whole.Goals as goal
+
+pub returns-then-node-self-clause-node : goal.returns-then-node-self-clause-node
+returns-then-node-self-clause-node c =
+    old-whole c.args.table.now c.args.self.now.old c.args.self.now.new c.args._depth c.requires.ready c.args.node c.if-node-self.true
+
+pub returns-else-node-self-clause-node : goal.returns-else-node-self-clause-node
+returns-else-node-self-clause-node c =
+    other-whole c.args.table.now c.args.self.now.old c.args.self.now.new c.args._depth c.requires.ready c.args.node (tree_in c.args.table.now c.args._shape) c.nodes_differ.ensures.different c.if-node-self.false c.requires.there
