@@ -1,5 +1,5 @@
 -- Lists of fields that are entered one after another.
-use Rattle.std.proofs.Common.{◌≡◌, refl, sym, ap, ◌∙◌, ℕ, ◌+◌, ◌<◌, ◌≤◌, Bool, true, ◌&&◌, List, [], ◌∷◌, ◌++◌, length, slice_get, Some, Ok, Err, drop, get_or, subst}
+use Rattle.std.proofs.Common.{◌≡◌, refl, sym, ap, ◌∙◌, ℕ, ◌+◌, ◌<◌, ◌≤◌, true, ◌&&◌, List, [], ◌∷◌, ◌++◌, length, slice_get, Some, Ok, Err, drop, get_or, subst}
 use Rattle.std.specs.Prelude.{Result, IfOk}
 use Rattle.jh_name.specs.declared.memory.NoMemory.{NoMemory}
 use Rattle.jh_tree.specs.declared.form.FieldTerm.{FieldTerm}
@@ -11,10 +11,9 @@ use Rattle.jh_walk.proofs.Rows.{rest_at, rest_end}
 use Rattle.jh_table.specs.declared.shapes.Shape.TheVariants as s
 use Rattle.jh_table.specs.Entries.{Listing, is_field, the_field, are_fields, fields_at}
 use Rattle.jh_table.specs.Nodes.{nodes, fits_in, tree_in}
-use Rattle.jh_table.specs.Growth.{Grows, Extends}
+use Rattle.jh_table.specs.Growth.{Extends}
 use Rattle.jh_table.proofs.NodeSteps.{fits-Reach, tree-Reach, fits-Tree, tree-Tree}
 use Rattle.jh_table.proofs.Growing.{fields-stay, are_fields-stay}
-use Rattle.jh_table.proofs.Listed.{grows-refl}
 use Rattle.jh_door.specs.Entered.{IsList}
 
 pub fits-listed-Reach : (table : Listing) (l a b : ℕ) (fs : FieldTrees) (u v : TermTree) → IsList table l fs → slice_get (nodes table) a ≡ Some (of_object u) → slice_get (nodes table) b ≡ Some (of_object v) → fits_in table (s.Reach l a b) ≡ true

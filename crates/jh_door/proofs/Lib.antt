@@ -1,2 +1,3 @@
 pub mod DoorSteps
 pub mod Fields
+pub mod Keeping

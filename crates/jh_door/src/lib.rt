@@ -2,8 +2,6 @@
 #![tactic(auto)]
 
 mod entering;
-#[cfg(test)]
-mod tests;
 
 pub use entering::{
     enter_field, enter_formula, enter_int, enter_set, enter_term, enter_value as enter,
