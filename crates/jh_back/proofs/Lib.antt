@@ -1,0 +1,4 @@
+pub mod BackSteps
+pub mod FieldLists
+pub mod Places
+pub mod Values

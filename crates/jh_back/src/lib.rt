@@ -1,0 +1,11 @@
+//! Taking boxed formulas out of a table of nodes.
+#![tactic(auto)]
+
+mod making;
+mod standing;
+mod taking;
+
+pub use taking::{
+    MOST_LEVELS, MOST_NODES, boxed_field, boxed_formula, boxed_int, boxed_set, boxed_term,
+    boxed_value as value,
+};
