@@ -1,21 +1,21 @@
-//! Formulas: their types, what they mean, and putting terms and values into them.
+//! Formulas, as callers see them: their types, what they mean, putting terms and values into them, and
+//! formulas as shared nodes of a table. All of it is made in the crates below and given out here.
 #![tactic(auto)]
 
-mod comparing;
-mod exchange;
-mod faults;
-mod laws;
-mod marks;
-mod opening;
-mod replacing;
-mod same_formulas;
-mod sameness;
-mod sorts;
-mod substituting;
+#[cfg(test)]
+mod examples;
+mod formulas;
+#[cfg(test)]
+mod table_tests;
 #[cfg(test)]
 mod tests;
 
-pub use faults::FormFault;
+pub use formulas::Formulas;
+pub use jh_back::{MOST_LEVELS, MOST_NODES};
+pub use jh_compare::{exchange_keeps_meaning, replaces, same};
+pub use jh_pass::{LeafRules, walked};
+pub use jh_subst::{FormFault, StandsOnlyAt, open, sort_of, subst};
+pub use jh_table::{Own, Shape, Table};
 pub use jh_tree::{
     FieldTerm, Formula, IntTerm, Mark, MarkKind, SetTerm, Term, Value, closed_means_the_same,
     names_decide_meaning,
@@ -24,9 +24,3 @@ pub use jh_walk::{
     Extent, Leaves, NameTest, Unchanged, Walk, copy, copy_mark, copy_names, map_keeps_meaning,
     part_is_smaller,
 };
-pub use laws::exchange_keeps_meaning;
-pub use opening::open;
-pub use replacing::replaces;
-pub use same_formulas::same;
-pub use sorts::{StandsOnlyAt, sort_of};
-pub use substituting::subst;

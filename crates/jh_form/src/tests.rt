@@ -1,23 +1,14 @@
 #![tactic(auto, using(jh_tree::proofs::Steps::tree_steps, jh_tree::proofs::ClosedSteps::closed_steps))]
 
+use crate::examples::{all, free, negations, updates};
 use crate::{
     FieldTerm, FormFault, Formula, SetTerm, Term, Value, Walk, copy, open, replaces, same, subst,
 };
-use jh_name::{Name, NoMemory, name};
+use jh_name::{NoMemory, name};
 use jh_walk::{boxed, boxed_three, boxed_two};
 use std::alloc::Global;
 use std::process::Abort;
 use std::test::Fail;
-
-fn free(alloc: Global, text: &str) -> Result<Term, NoMemory> {
-    let name = name(alloc, text, 0)?;
-    Ok(Term::Free(name))
-}
-
-fn all(alloc: Global, body: Formula) -> Result<Formula, NoMemory> {
-    let body = boxed(alloc, body)?;
-    Ok(Formula::All(body))
-}
 
 /// The read of an object field at an object, after a write of another object there.
 fn read_updated(alloc: Global, at: Term, with: Term, read_at: Term) -> Result<Term, NoMemory> {
@@ -34,16 +25,6 @@ fn under_two(alloc: Global, a: Term, b: Term, c: Term) -> Result<Formula, NoMemo
     all(alloc, inner)
 }
 
-/// `count` levels of negations over true.
-fn negations(alloc: Global, count: u32) -> Result<Formula, NoMemory> {
-    let mut made = Formula::True;
-    for _ in 0..count {
-        let inner = boxed(alloc, made)?;
-        made = Formula::Not(inner);
-    }
-    Ok(made)
-}
-
 /// `count` pairs of levels, which bind a variable each: `ALL x. null : {y | ..}`.
 fn binders(alloc: Global, count: u32) -> Result<Formula, NoMemory> {
     let mut made = Formula::True;
@@ -51,23 +32,6 @@ fn binders(alloc: Global, count: u32) -> Result<Formula, NoMemory> {
         let inner = boxed(alloc, made)?;
         let inner = boxed(alloc, Formula::Member(Term::Null, SetTerm::Compr(inner)))?;
         made = Formula::All(inner);
-    }
-    Ok(made)
-}
-
-/// `count` reads of a field after a write of a truth: `next[null := ..](null) = null`.
-fn updates(alloc: Global, count: u32) -> Result<Formula, NoMemory> {
-    let mut made = Formula::True;
-    for _ in 0..count {
-        let next = name(alloc, "next", 0)?;
-        let (field, at, with) = boxed_three(
-            alloc,
-            FieldTerm::Free(next),
-            Term::Null,
-            Value::Bool(made),
-        )?;
-        let (field, at) = boxed_two(alloc, FieldTerm::Update(field, at, with), Term::Null)?;
-        made = Formula::EqObj(Term::Read(field, at), Term::Null);
     }
     Ok(made)
 }
