@@ -1,0 +1,4 @@
+pub mod ExprSteps
+pub mod StmtSteps
+pub mod FormSteps
+pub mod Moves
