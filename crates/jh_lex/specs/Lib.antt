@@ -3,6 +3,7 @@ pub mod Ends
 pub mod Lexemes
 pub mod Lexes
 pub mod Lengths
+pub mod Numbers
 pub mod Places
 pub mod Reports
 pub mod Shapes

@@ -1,4 +1,5 @@
 ghost use Rattle.std.specs.Prelude.{◌≡◌};
+ghost use Rattle.jh_lex.specs.Numbers.{symbol_number};
 ghost use Rattle.jh_lex.specs.Symbols.{text_of};
 
 /// A token whose text is fixed: a sign or a reserved word.
@@ -157,6 +158,13 @@ pub enum Symbol {
 }
 
 impl Symbol {
+    /// Its number, from 0, in the order of the declaration: two symbols are the same where their numbers are.
+    pub fn number(self) -> u8
+        ensures { result ≡ symbol_number self }
+    {
+        self as u8
+    }
+
     /// The text.
     pub fn text(self) -> &'static str
         ensures { result.now ≡ text_of self }

@@ -1,3 +1,6 @@
+ghost use Rattle.std.specs.Prelude.{◌≡◌};
+ghost use Rattle.jh_lex.specs.Numbers.{kind_number};
+
 use crate::Symbol;
 use jh_name::{Name, Place};
 
@@ -30,4 +33,24 @@ pub enum TokenKind {
     QuoteClose,
     /// The end of the source. It is the last token, and the only one of its kind.
     End,
+}
+
+impl TokenKind {
+    /// A number that tells the kinds apart: that of the symbol below 75, and from there a number for each kind with
+    /// other texts or none.
+    pub fn number(&self) -> u8
+        ensures { result ≡ kind_number self.now }
+    {
+        match self {
+            TokenKind::Symbol(symbol) => symbol.number(),
+            TokenKind::Word(_) => 75,
+            TokenKind::Qualified(_) => 76,
+            TokenKind::Number(_) => 77,
+            TokenKind::SpecOpen => 78,
+            TokenKind::SpecClose => 79,
+            TokenKind::QuoteOpen => 80,
+            TokenKind::QuoteClose => 81,
+            TokenKind::End => 82,
+        }
+    }
 }
