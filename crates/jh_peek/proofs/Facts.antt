@@ -112,3 +112,10 @@ name-other ts i n w e d f = by_kind (kind_at ts i == 75) refl (name-kind ts i w 
 -- no name stands where another kind does
 pub kind-no_name : (ts : List Token) (i m : ℕ) → (kind_at ts i == m) ≡ true → (m == 75) ≡ false → (m == 76) ≡ false → is_name_at ts i ≡ false
 kind-no_name ts i m e d f = ap (λ b. b || (kind_at ts i == 76)) (kinds-apart ts i m 75 e d) ∙ kinds-apart ts i m 76 e f
+
+-- no number is read where another kind stands
+pub kind-no_number : (ts : List Token) (i m : ℕ) → (kind_at ts i == m) ≡ true → (m == 77) ≡ false → number_at ts i ≡ None
+kind-no_number ts i m e d = by_number (number_at ts i) refl where
+  by_number : (o : Option ℤ) → number_at ts i ≡ o → o ≡ None
+  by_number None h = refl
+  by_number (Some z) h = absurd (false≢true (sym (kinds-apart ts i m 77 e d) ∙ number-kind ts i z h))

@@ -1,0 +1,3 @@
+pub mod Operators
+pub mod Formulas
+pub mod Reading

@@ -1,0 +1,6 @@
+//! The parser of specifications.
+#![tactic(auto)]
+
+mod error;
+
+pub use error::ParseError;
