@@ -1,4 +1,4 @@
--- A value whose place is exchanged.
+-- The place of a value, and a value whose place is exchanged.
 use Rattle.std.proofs.Common.{◌≡◌, refl}
 use Rattle.jh_name.specs.declared.place.Place.{Place}
 use Rattle.jh_ast.specs.declared.expr.ExprBody.{ExprBody}
@@ -43,3 +43,27 @@ expr-moved p o (x.Member' i q a w) = refl
 expr-moved p o (x.Not' i q a) = refl
 expr-moved p o (x.Minus' i q a) = refl
 expr-moved p o (x.Binary' op i q a j r b) = refl
+
+pub form-place : (p : Place) (b : SpecBody) → form.place_of (form_body_tree p b) ≡ p
+unfolding form_body_tree
+form-place p y.Null = refl
+form-place p y.True = refl
+form-place p y.False = refl
+form-place p y.Univ = refl
+form-place p (y.Number n) = refl
+form-place p (y.Name w) = refl
+form-place p (y.Member' i q a w) = refl
+form-place p (y.Not' i q a) = refl
+form-place p (y.Minus' i q a) = refl
+form-place p (y.Old' i q a) = refl
+form-place p (y.Card' i q a) = refl
+form-place p (y.Binary' op i q a j r b) = refl
+form-place p (y.Dvd' n i q a) = refl
+form-place p (y.All' ws i q a) = refl
+form-place p (y.Ex' ws i q a) = refl
+form-place p (y.Tree ws) = refl
+form-place p (y.Rtrancl' u v i q a j r b k t c) = refl
+form-place p (y.Braces' shape fs) = refl
+form-place p (y.Compr' w i q a) = refl
+
+pub ruleset place_steps = (form-place)

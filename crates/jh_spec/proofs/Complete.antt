@@ -117,6 +117,7 @@ module _ (ts : List Token) where
       dots = ap (λ k. is_at ts k symbol.DotDot) two ∙ other ts (i + 2) symbol.Dot symbol.DotDot d refl;
       between = λ r. at_dot r (i + 1 + 1) (operator_at ts r (i + 1 + 1)) refl (ap (λ k. is_at ts k symbol.Dot) two ∙ d);
     }
+
     next_is : {ms : FormTrees} {j : ℕ} → is_plain_word_at ts (i + 1) ≡ true → Is ts (i + 2) symbol.Dot → Members ts (i + 1) ms j → (s : Symbol) → (symbol_number symbol.Dot == symbol_number s) ≡ false → Is ts j s → (symbol_number symbol.Dot == symbol_number symbol.Comma) ≡ false → ⊥
     next_is e d (grammar.last_member p) s n q m = let two : i + 1 + 1 ≡ i + 2 = omega arith in
         let far : _ ≡ i + 1 + 1 = operand-alone ts (alone e d) (ap (λ k. is_at ts k symbol.Dvd) two ∙ other ts (i + 2) symbol.Dot symbol.Dvd d refl) p in
@@ -124,6 +125,7 @@ module _ (ts : List Token) where
     next_is e d (grammar.more_members p k r) s n q m = let two : i + 1 + 1 ≡ i + 2 = omega arith in
         let far : _ ≡ i + 1 + 1 = operand-alone ts (alone e d) (ap (λ k. is_at ts k symbol.Dvd) two ∙ other ts (i + 2) symbol.Dot symbol.Dvd d refl) p in
         false≢true (sym (other ts (i + 2) symbol.Dot symbol.Comma d m) ∙ ap (λ k. is_at ts k symbol.Comma) (sym (far ∙ two)) ∙ k)
+
     by_dot : (b : Bool) → is_at ts (i + 2) symbol.Dot ≡ b → is_plain_word_at ts (i + 1) ≡ true → is_at ts (i + 2) symbol.Dot ≡ false
     by_dot false d w = d
     by_dot true d w = absurd (next_is w d p symbol.RightBrace refl c refl)
@@ -136,6 +138,7 @@ module _ (ts : List Token) where
       dots = other ts (i + 1) symbol.Dvd symbol.DotDot d refl;
       between = λ r. at_dvd r (i + 1) (operator_at ts r (i + 1)) refl d;
     }
+
     by_dvd : (b : Bool) → is_at ts (i + 1) symbol.Dvd ≡ b → is_number_at ts i ≡ true → is_at ts (i + 1) symbol.Dvd ≡ false
     by_dvd false d w = d
     by_dvd true d w = absurd (false≢true (sym c ∙ ap (λ k. is_at ts k symbol.Dvd) (left-alone ts (alone w d) p) ∙ d))
@@ -146,6 +149,7 @@ module _ (ts : List Token) where
 
   mutual
     unfolding operand_of quantified_of right_of compared_of divides_of left_of prefix_of signed_of forest_of rtrancl_of pair_at postfix_of atom_of simple_at bracket_of set_of compr_of braces_of members_of
+
     operand-complete : {n i j : ℕ} {t : FormTree} → Operand ts n i t j → 4 + n < rank_at ts j → (k : ℕ) → k ≤ length ts → j ≤ i + k → operand_of ts (inside ts k) n i ≡ Some (t, j)
     operand-complete (grammar.plain p) stop k small h = choose_off _ (right-start ts p).all (choose_off _ (right-start ts p).ex (right-complete p stop k small h))
     operand-complete {i = i} {j = l} (grammar.all {j = j} {ws = ws} s b t p c) stop k small h = choose_on _ s (then_is _ (bound-complete (i + 1) b (typed-word t)) (then_is _ (typed-complete t)
@@ -218,5 +222,6 @@ pub at_most_one : (ts : List Token) (i j k : ℕ) (t u : FormTree) → Spelled t
 at_most_one ts i j k t u p q = pair_is (some_one (sym (formula-complete ts i j t p) ∙ formula-complete ts i k u q)) where
   some_one : {a b : FormTree × ℕ} → Some a ≡ Some b → a ≡ b
   some_one {a = a} e = ap (λ (o : Option (FormTree × ℕ)). option_map_or (λ x. x) o a) e
+
   pair_is : {a b : FormTree × ℕ} → a ≡ b → (a.0 ≡ b.0) × (a.1 ≡ b.1)
   pair_is e = (ap (λ (x : FormTree × ℕ). x.0) e, ap (λ (x : FormTree × ℕ). x.1) e)

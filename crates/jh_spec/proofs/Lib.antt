@@ -3,3 +3,6 @@ pub mod Ends
 pub mod Starts
 pub mod Sound
 pub mod Complete
+mod Levels
+mod Turns
+mod Members

@@ -20,7 +20,6 @@ pub record Sound (ts : List Token) (inside : Inside) : Type 0 where
   pub chain : (n : ℕ) (a : FormTree) (i : ℕ) → Holds (λ r. Chain ts n a i r.0 r.1) (inside.chain n a i)
   pub members : (i : ℕ) → Holds (λ r. Members ts i r.0 r.1) (inside.members i)
 
-
 words-sound : (ts : List Token) (k i : ℕ) → Holds (λ r. Words ts i r.0 r.1 × (length r.0 ≤ k)) (words_at ts k i)
 unfolding words_at
 words-sound ts zero i = found (refl, omega arith)
@@ -123,9 +122,9 @@ module _ (ts : List Token) (inside : Inside) (sound : Sound ts inside) where
   compared-sound i = choose_holds
       (λ d. then_found (λ z e. then_holds (left-sound 2 (i + 2)) (λ a p. found (grammar.divides e (second _ _ d) p))))
       (λ _. then_holds (left-sound 2 i) (λ a p. given_holds (λ o e. then_holds (left-sound 2 (a.1 + 1)) (λ b q. found (grammar.both p e q))) (λ e. found (grammar.single p)))) where
-    second : (a b : Bool) → (a && b) ≡ true → b ≡ true
-    second true b e = e
-    second false b e = absurd (false≢true e)
+        second : (a b : Bool) → (a && b) ≡ true → b ≡ true
+        second true b e = e
+        second false b e = absurd (false≢true e)
 
   right-sound : (n i : ℕ) → Holds (λ r. Right ts n i r.0 r.1) (right_of ts inside n i)
   unfolding right_of

@@ -1,3 +1,4 @@
 pub mod Operators
 pub mod Formulas
 pub mod Reading
+pub mod Reads

@@ -30,8 +30,8 @@ bound_at ts i = words_at ts 8 i >>= λ ws. choose (length ws.0 == 0) None (Some 
 unfoldable pub typed_at : List Token → ℕ → Option ℕ
 typed_at ts i =
     choose (is_at ts i symbol.ColonColon)
-      (choose (is_word_at ts (i + 1) (codes "obj")) (behind ts (i + 2) symbol.Dot) None)
-      (behind ts i symbol.Dot)
+    (choose (is_word_at ts (i + 1) (codes "obj")) (behind ts (i + 2) symbol.Dot) None)
+    (behind ts i symbol.Dot)
 
 unfoldable pub names_at : List Token → ℕ → ℕ → Option (List Word × ℕ)
 names_at ts zero i = None

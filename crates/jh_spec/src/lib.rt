@@ -2,5 +2,7 @@
 #![tactic(auto)]
 
 mod error;
+mod formulas;
+mod operators;
 
 pub use error::ParseError;

@@ -1,0 +1,26 @@
+-- What the readers of formulas answer, seen as trees.
+use Rattle.std.specs.Prelude.{ℕ, Option, Result, List, [], ◌∷◌}
+use Rattle.jh_ast.specs.declared.spec.SpecTree.{SpecTree}
+use Rattle.jh_ast.specs.declared.word.Word.{Word}
+use Rattle.jh_ast.specs.Bare.{form_tree}
+use Rattle.jh_ast.specs.Forms.{FormTree, FormTrees}
+use Rattle.jh_ast.specs.Forms as form
+use Rattle.jh_peek.specs.declared.error.ReadError.{ReadError}
+use Rattle.jh_peek.specs.Answers.{Gives}
+
+-- these trees, and then the rest
+abbrev pub before : List SpecTree → FormTrees → FormTrees
+before [] rest = rest
+before (t ∷ ts) rest = form.more (form_tree t) (before ts rest)
+
+-- the answer is a tree and the place after it
+abbrev pub GivesForm : Option (FormTree × ℕ) → Result (SpecTree × ℕ) ReadError → Type 0
+GivesForm wanted result = Gives (λ r. (form_tree r.0, r.1)) wanted result
+
+-- the answer is the place after the words, which are then these
+abbrev pub GivesWords : List Word → Option (List Word × ℕ) → Result ℕ ReadError → Type 0
+GivesWords made wanted result = Gives (λ next. (made, next)) wanted result
+
+-- likewise the formulas
+abbrev pub GivesForms : FormTrees → Option (FormTrees × ℕ) → Result ℕ ReadError → Type 0
+GivesForms made wanted result = Gives (λ next. (made, next)) wanted result

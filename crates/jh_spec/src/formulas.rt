@@ -1,0 +1,747 @@
+//! Formulas: what is read at a place of the tokens, in the order of the grammar from what stands inside to what binds
+//! loosest. `room` is a number of levels that is more than enough; the nesting of a source is what bounds the recursion.
+ghost use Rattle.std.specs.Prelude.{◌≡◌, ◌+◌, ◌≤◌, ◌<◌, ◌++◌, length, IfOk, IsTrue, Some};
+ghost use Rattle.jh_peek.specs.Answers.{Gives, IsWithin};
+ghost use Rattle.jh_peek.specs.Choices.{and_then};
+ghost use Rattle.jh_peek.specs.Standing.{place_at};
+ghost use Rattle.jh_spec.specs.Reading as read;
+ghost use Rattle.jh_spec.specs.Reads.{GivesForm, GivesForms, GivesWords, before};
+ghost use Rattle.jh_spec.specs.Formulas.{binary_of};
+ghost use Rattle.jh_ast.specs.Bare.{form_body_tree, form_tree, form_trees};
+ghost use Rattle.jh_ast.specs.Forms as form;
+
+use crate::operators::{closes, constant, operator};
+use jh_ast::{SpecBody, SpecOp, SpecTree, Word};
+use jh_lex::{Symbol, Token};
+use jh_name::{NoMemory, Row};
+use jh_peek::{
+    ReadError, behind, boxed, boxed_three, boxed_two, is_name, is_number, is_plain_word, is_symbol,
+    is_word, name, number, place, word,
+};
+use std::alloc::Global;
+
+#[tactic(auto, using(jh_ast::proofs::FormSteps::form_steps))]
+fn at_place(tokens: &[Token], at: usize, body: SpecBody) -> SpecTree
+    ensures { form_tree result ≡ form_body_tree (place_at tokens.now at) body }
+{
+    SpecTree {
+        place: place(tokens, at),
+        body,
+    }
+}
+
+#[tactic(auto, using(jh_ast::proofs::FormSteps::form_steps, jh_ast::proofs::Moves::place_steps))]
+fn binary(
+    alloc: Global,
+    operator: SpecOp,
+    left: SpecTree,
+    right: SpecTree,
+) -> Result<SpecTree, NoMemory>
+    ensures { IfOk result (λ made. form_tree made ≡ binary_of operator (form_tree left) (form_tree right)) }
+{
+    let place = left.place;
+    let (left, right) = boxed_two(alloc, left, right)?;
+    Ok(SpecTree {
+        place,
+        body: SpecBody::Binary(operator, left, right),
+    })
+}
+
+#[tactic(auto, using(jh_ast::proofs::FormSteps::form_steps, jh_ast::proofs::Moves::place_steps))]
+fn member(alloc: Global, left: SpecTree, word: Word) -> Result<SpecTree, NoMemory>
+    ensures { IfOk result (λ made. form_tree made ≡ form.member (form.place_of (form_tree left)) (form_tree left) word) }
+{
+    let place = left.place;
+    let left = boxed(alloc, left)?;
+    Ok(SpecTree {
+        place,
+        body: SpecBody::Member(left, word),
+    })
+}
+
+/// Names with commas between them, after those that are there.
+#[tactic(auto, using(crate::proofs::Turns::turn_steps), unfolding(crate::specs::Reading::names_at, jh_peek::specs::Choices::and_then, jh_peek::specs::Choices::choose, jh_peek::specs::Choices::given))]
+fn names(
+    alloc: Global,
+    tokens: &[Token],
+    room: usize,
+    made: &mut Vec<Word>,
+    at: usize,
+) -> Result<usize, ReadError>
+    requires { at ≤ length tokens.now }
+    ensures value { GivesWords made.new.items (and_then (read.names_at tokens.now room at) (λ r. Some (made.old.items ++ r.0, r.1))) result }
+    ensures within { IfOk result (IsWithin (length tokens.now) at) }
+{
+    if room == 0 {
+        return Err(ReadError::Refused(at));
+    }
+    let word = name(alloc, tokens, at)?;
+    made.push(word)?;
+    if is_symbol(tokens, at + 1, Symbol::Comma) {
+        return names(alloc, tokens, room - 1, made, at + 2);
+    }
+    Ok(at + 1)
+}
+
+/// So many words at most, after those that are there.
+#[tactic(auto, using(crate::proofs::Turns::turn_steps), unfolding(crate::specs::Reading::words_at, jh_peek::specs::Choices::and_then, jh_peek::specs::Choices::choose, jh_peek::specs::Choices::given))]
+fn words(
+    alloc: Global,
+    tokens: &[Token],
+    room: u8,
+    made: &mut Vec<Word>,
+    at: usize,
+) -> Result<usize, ReadError>
+    requires { at ≤ length tokens.now }
+    ensures value { GivesWords made.new.items (and_then (read.words_at tokens.now room at) (λ r. Some (made.old.items ++ r.0, r.1))) result }
+    ensures within { IfOk result (λ next. (at ≤ next) × (next ≤ length tokens.now)) }
+{
+    if room == 0 {
+        return Ok(at);
+    }
+    if !is_plain_word(tokens, at) {
+        return Ok(at);
+    }
+    let word = word(alloc, tokens, at)?;
+    made.push(word)?;
+    words(alloc, tokens, room - 1, made, at + 1)
+}
+
+/// The names that a quantifier binds.
+#[tactic(auto, using(jh_ast::proofs::FormSteps::form_steps), unfolding(crate::specs::Reading::bound_at, jh_peek::specs::Choices::and_then, jh_peek::specs::Choices::choose, jh_peek::specs::Choices::given))]
+fn bound(alloc: Global, tokens: &[Token], at: usize) -> Result<(Vec<Word>, usize), ReadError>
+    requires { at ≤ length tokens.now }
+    ensures value { Gives (λ read. (read.0.items, read.1)) (read.bound_at tokens.now at) result }
+    ensures within { IfOk result (λ read. (at ≤ read.1) × (read.1 ≤ length tokens.now)) }
+{
+    let mut made = Vec::new(alloc);
+    let next = words(alloc, tokens, 8, &mut made, at)?;
+    if made.len() == 0 {
+        return Err(ReadError::Refused(at));
+    }
+    Ok((made, next))
+}
+
+/// The dot after bound names, with a type before it or none.
+#[tactic(auto, unfolding(crate::specs::Reading::typed_at, jh_peek::specs::Choices::and_then, jh_peek::specs::Choices::choose, jh_peek::specs::Choices::given))]
+fn typed(tokens: &[Token], at: usize) -> Result<usize, ReadError>
+    requires { at ≤ length tokens.now }
+    ensures value { Gives (λ next. next) (read.typed_at tokens.now at) result }
+    ensures within { IfOk result (λ next. (at < next) × (next ≤ length tokens.now)) }
+{
+    if !is_symbol(tokens, at, Symbol::ColonColon) {
+        return behind(tokens, at, Symbol::Dot);
+    }
+    if !is_word(tokens, at + 1, "obj") {
+        return Err(ReadError::Refused(at + 1));
+    }
+    behind(tokens, at + 2, Symbol::Dot)
+}
+
+/// Reads of fields after what is read.
+#[tactic(auto, using(jh_ast::proofs::FormSteps::form_steps, crate::proofs::Turns::turn_steps), unfolding(crate::specs::Reading::dots_at, jh_peek::specs::Choices::and_then, jh_peek::specs::Choices::choose, jh_peek::specs::Choices::given))]
+fn dots(
+    alloc: Global,
+    tokens: &[Token],
+    room: usize,
+    left: SpecTree,
+    at: usize,
+) -> Result<(SpecTree, usize), ReadError>
+    requires { at ≤ length tokens.now }
+    ensures value { GivesForm (read.dots_at tokens.now room (form_tree left) at) result }
+    ensures within { IfOk result (λ read. (at ≤ read.1) × (read.1 ≤ length tokens.now)) }
+{
+    if room == 0 {
+        return Err(ReadError::Refused(at));
+    }
+    if !is_symbol(tokens, at, Symbol::DotDot) {
+        return Ok((left, at));
+    }
+    let word = name(alloc, tokens, at + 1)?;
+    let left = member(alloc, left, word)?;
+    dots(alloc, tokens, room - 1, left, at + 2)
+}
+
+/// A name, a number or a constant.
+#[tactic(auto, using(jh_ast::proofs::FormSteps::form_steps), unfolding(crate::specs::Reading::simple_at, jh_peek::specs::Choices::and_then, jh_peek::specs::Choices::choose, jh_peek::specs::Choices::given))]
+fn simple(alloc: Global, tokens: &[Token], at: usize) -> Result<(SpecTree, usize), ReadError>
+    requires { at ≤ length tokens.now }
+    ensures value { GivesForm (read.simple_at tokens.now at) result }
+    ensures within { IfOk result (λ read. IsWithin (length tokens.now) at read.1) }
+{
+    if is_name(tokens, at) {
+        let word = name(alloc, tokens, at)?;
+        return Ok((at_place(tokens, at, SpecBody::Name(word)), at + 1));
+    }
+    if let Some(number) = number(tokens, at) {
+        return Ok((at_place(tokens, at, SpecBody::Number(number)), at + 1));
+    }
+    match constant(tokens, at) {
+        Some(body) => Ok((at_place(tokens, at, body), at + 1)),
+        None => Err(ReadError::Refused(at)),
+    }
+}
+
+/// `tree` and its fields.
+#[tactic(auto, using(jh_ast::proofs::FormSteps::form_steps), unfolding(crate::specs::Reading::forest_of, jh_peek::specs::Choices::and_then, jh_peek::specs::Choices::choose, jh_peek::specs::Choices::given))]
+fn forest(alloc: Global, tokens: &[Token], at: usize) -> Result<(SpecTree, usize), ReadError>
+    requires { at < length tokens.now }
+    ensures value { GivesForm (read.forest_of tokens.now at) result }
+    ensures within { IfOk result (λ read. IsWithin (length tokens.now) at read.1) }
+{
+    let _opening = behind(tokens, at + 1, Symbol::LeftBracket)?;
+    let mut made = Vec::new(alloc);
+    let next = names(alloc, tokens, tokens.len() + 1, &mut made, at + 2)?;
+    let next = behind(tokens, next, Symbol::RightBracket)?;
+    let fields = Row::of(made);
+    Ok((at_place(tokens, at, SpecBody::Tree(fields)), next))
+}
+
+/// `( % x y .` after a place.
+#[tactic(auto, unfolding(crate::specs::Reading::pair_at, jh_peek::specs::Choices::and_then, jh_peek::specs::Choices::choose, jh_peek::specs::Choices::given))]
+fn pair(alloc: Global, tokens: &[Token], at: usize) -> Result<(Word, Word), ReadError>
+    requires { at < length tokens.now }
+    ensures value { Gives (λ read. read) (read.pair_at tokens.now at) result }
+    ensures within { IfOk result (λ _. at + 6 ≤ length tokens.now) }
+{
+    let _opening = behind(tokens, at + 1, Symbol::LeftParenthesis)?;
+    let _percent = behind(tokens, at + 2, Symbol::Percent)?;
+    let first = word(alloc, tokens, at + 3)?;
+    let second = word(alloc, tokens, at + 4)?;
+    let _dot = behind(tokens, at + 5, Symbol::Dot)?;
+    Ok((first, second))
+}
+
+#[tactic(auto, using(jh_ast::proofs::FormSteps::form_steps))]
+fn moved(tokens: &[Token], at: usize, inner: SpecTree) -> SpecTree
+    ensures { form_tree result ≡ form.moved (place_at tokens.now at) (form_tree inner) }
+{
+    SpecTree {
+        place: place(tokens, at),
+        body: inner.body,
+    }
+}
+
+fn is_dvd(tokens: &[Token], at: usize) -> bool
+    requires { at ≤ length tokens.now }
+    ensures value { result ≡ read.is_dvd_at tokens.now at }
+    ensures within { IsTrue result → at + 2 ≤ length tokens.now }
+{
+    is_number(tokens, at) && is_symbol(tokens, at + 1, Symbol::Dvd)
+}
+
+fn is_compr(tokens: &[Token], at: usize) -> bool
+    requires { at < length tokens.now }
+    ensures value { result ≡ read.is_compr_at tokens.now at }
+    ensures within { IsTrue result → at + 3 ≤ length tokens.now }
+{
+    is_plain_word(tokens, at + 1) && is_symbol(tokens, at + 2, Symbol::Dot)
+}
+
+/// An operand, in front of which a quantifier may stand.
+#[cycle(reading)]
+#[tactic(auto, using(jh_ast::proofs::FormSteps::form_steps, crate::proofs::Turns::turn_steps, crate::proofs::Levels::level_steps), unfolding(jh_peek::specs::Choices::and_then, jh_peek::specs::Choices::choose, jh_peek::specs::Choices::given))]
+fn operand(
+    alloc: Global,
+    tokens: &[Token],
+    room: usize,
+    level: u8,
+    at: usize,
+) -> Result<(SpecTree, usize), ReadError>
+    requires at_place { at ≤ length tokens.now }
+    requires level { level ≤ 3 }
+    ensures value { GivesForm ((read.inside tokens.now room).operand level at) result }
+    ensures within { IfOk result (λ read. IsWithin (length tokens.now) at read.1) }
+{
+    if room == 0 {
+        return Err(ReadError::Refused(at));
+    }
+    open_operand(alloc, tokens, room - 1, level, at)
+}
+
+/// An operand.
+#[cycle(reading)]
+#[tactic(auto, using(jh_ast::proofs::FormSteps::form_steps, crate::proofs::Turns::turn_steps, crate::proofs::Levels::level_steps), unfolding(crate::specs::Reading::operand_of, jh_peek::specs::Choices::and_then, jh_peek::specs::Choices::choose, jh_peek::specs::Choices::given))]
+pub fn open_operand(
+    alloc: Global,
+    tokens: &[Token],
+    room: usize,
+    level: u8,
+    at: usize,
+) -> Result<(SpecTree, usize), ReadError>
+    requires at_place { at ≤ length tokens.now }
+    requires level { level ≤ 3 }
+    ensures value { GivesForm (read.operand_of tokens.now (read.inside tokens.now room) level at) result }
+    ensures within { IfOk result (λ read. IsWithin (length tokens.now) at read.1) }
+{
+    if is_symbol(tokens, at, Symbol::All) {
+        return all(alloc, tokens, room, at);
+    }
+    if is_symbol(tokens, at, Symbol::Ex) {
+        return ex(alloc, tokens, room, at);
+    }
+    right(alloc, tokens, room, level, at)
+}
+
+/// A quantifier.
+#[cycle(reading)]
+#[tactic(auto, using(jh_ast::proofs::FormSteps::form_steps, crate::proofs::Turns::turn_steps, crate::proofs::Levels::level_steps), unfolding(crate::specs::Reading::quantified_of, jh_peek::specs::Choices::and_then, jh_peek::specs::Choices::choose, jh_peek::specs::Choices::given))]
+fn all(
+    alloc: Global,
+    tokens: &[Token],
+    room: usize,
+    at: usize,
+) -> Result<(SpecTree, usize), ReadError>
+    requires at_place { at < length tokens.now }
+    ensures value { GivesForm (read.quantified_of tokens.now (read.inside tokens.now room) form.all at) result }
+    ensures within { IfOk result (λ read. IsWithin (length tokens.now) at read.1) }
+{
+    let (names, next) = bound(alloc, tokens, at + 1)?;
+    let next = typed(tokens, next)?;
+    let (body, next) = operand(alloc, tokens, room, 3, next)?;
+    if !closes(tokens, next) {
+        return Err(ReadError::Refused(next));
+    }
+    let body = boxed(alloc, body)?;
+    let names = Row::of(names);
+    Ok((at_place(tokens, at, SpecBody::All(names, body)), next))
+}
+
+/// A quantifier.
+#[cycle(reading)]
+#[tactic(auto, using(jh_ast::proofs::FormSteps::form_steps, crate::proofs::Turns::turn_steps, crate::proofs::Levels::level_steps), unfolding(crate::specs::Reading::quantified_of, jh_peek::specs::Choices::and_then, jh_peek::specs::Choices::choose, jh_peek::specs::Choices::given))]
+fn ex(
+    alloc: Global,
+    tokens: &[Token],
+    room: usize,
+    at: usize,
+) -> Result<(SpecTree, usize), ReadError>
+    requires at_place { at < length tokens.now }
+    ensures value { GivesForm (read.quantified_of tokens.now (read.inside tokens.now room) form.ex at) result }
+    ensures within { IfOk result (λ read. IsWithin (length tokens.now) at read.1) }
+{
+    let (names, next) = bound(alloc, tokens, at + 1)?;
+    let next = typed(tokens, next)?;
+    let (body, next) = operand(alloc, tokens, room, 3, next)?;
+    if !closes(tokens, next) {
+        return Err(ReadError::Refused(next));
+    }
+    let body = boxed(alloc, body)?;
+    let names = Row::of(names);
+    Ok((at_place(tokens, at, SpecBody::Ex(names, body)), next))
+}
+
+/// A negation or a comparison; at each level operators that group to the right.
+#[cycle(reading)]
+#[tactic(auto, using(jh_ast::proofs::FormSteps::form_steps, crate::proofs::Turns::turn_steps, crate::proofs::Levels::level_steps), unfolding(crate::specs::Reading::right_of, jh_peek::specs::Choices::and_then, jh_peek::specs::Choices::choose, jh_peek::specs::Choices::given))]
+fn right(
+    alloc: Global,
+    tokens: &[Token],
+    room: usize,
+    level: u8,
+    at: usize,
+) -> Result<(SpecTree, usize), ReadError>
+    requires at_place { at ≤ length tokens.now }
+    requires level { level ≤ 3 }
+    ensures value { GivesForm (read.right_of tokens.now (read.inside tokens.now room) level at) result }
+    ensures within { IfOk result (λ read. IsWithin (length tokens.now) at read.1) }
+{
+    if level == 0 {
+        return negation(alloc, tokens, room, at);
+    }
+    let (left, next) = right(alloc, tokens, room, level - 1, at)?;
+    match operator(tokens, 4 + level, next) {
+        None => Ok((left, next)),
+        Some(operator) => {
+            let (right, next) = operand(alloc, tokens, room, level, next + 1)?;
+            let both = binary(alloc, operator, left, right)?;
+            Ok((both, next))
+        }
+    }
+}
+
+/// A negation or a comparison.
+#[cycle(reading)]
+#[tactic(auto, using(jh_ast::proofs::FormSteps::form_steps, crate::proofs::Turns::turn_steps, crate::proofs::Levels::level_steps), unfolding(crate::specs::Reading::right_of, jh_peek::specs::Choices::and_then, jh_peek::specs::Choices::choose, jh_peek::specs::Choices::given))]
+fn negation(
+    alloc: Global,
+    tokens: &[Token],
+    room: usize,
+    at: usize,
+) -> Result<(SpecTree, usize), ReadError>
+    requires at_place { at ≤ length tokens.now }
+    ensures value { GivesForm (read.right_of tokens.now (read.inside tokens.now room) 0 at) result }
+    ensures within { IfOk result (λ read. IsWithin (length tokens.now) at read.1) }
+{
+    if !is_symbol(tokens, at, Symbol::Tilde) {
+        return compared(alloc, tokens, room, at);
+    }
+    let (inner, next) = operand(alloc, tokens, room, 0, at + 1)?;
+    let inner = boxed(alloc, inner)?;
+    Ok((at_place(tokens, at, SpecBody::Not(inner)), next))
+}
+
+/// A comparison or what stands alone.
+#[cycle(reading)]
+#[tactic(auto, using(jh_ast::proofs::FormSteps::form_steps, crate::proofs::Turns::turn_steps, crate::proofs::Levels::level_steps), unfolding(crate::specs::Reading::compared_of, jh_peek::specs::Choices::and_then, jh_peek::specs::Choices::choose, jh_peek::specs::Choices::given))]
+fn compared(
+    alloc: Global,
+    tokens: &[Token],
+    room: usize,
+    at: usize,
+) -> Result<(SpecTree, usize), ReadError>
+    requires at_place { at ≤ length tokens.now }
+    ensures value { GivesForm (read.compared_of tokens.now (read.inside tokens.now room) at) result }
+    ensures within { IfOk result (λ read. IsWithin (length tokens.now) at read.1) }
+{
+    if is_dvd(tokens, at) {
+        return divides(alloc, tokens, room, at);
+    }
+    let (first, next) = left(alloc, tokens, room, 2, at)?;
+    match operator(tokens, 4, next) {
+        None => Ok((first, next)),
+        Some(operator) => {
+            let (second, next) = left(alloc, tokens, room, 2, next + 1)?;
+            let both = binary(alloc, operator, first, second)?;
+            Ok((both, next))
+        }
+    }
+}
+
+/// A number that divides.
+#[cycle(reading)]
+#[tactic(auto, using(jh_ast::proofs::FormSteps::form_steps, crate::proofs::Turns::turn_steps, crate::proofs::Levels::level_steps), unfolding(crate::specs::Reading::divides_of, jh_peek::specs::Choices::and_then, jh_peek::specs::Choices::choose, jh_peek::specs::Choices::given))]
+fn divides(
+    alloc: Global,
+    tokens: &[Token],
+    room: usize,
+    at: usize,
+) -> Result<(SpecTree, usize), ReadError>
+    requires at_place { at + 2 ≤ length tokens.now }
+    ensures value { GivesForm (read.divides_of tokens.now (read.inside tokens.now room) at) result }
+    ensures within { IfOk result (λ read. IsWithin (length tokens.now) at read.1) }
+{
+    match number(tokens, at) {
+        None => Err(ReadError::Refused(at)),
+        Some(number) => {
+            let (inner, next) = left(alloc, tokens, room, 2, at + 2)?;
+            let inner = boxed(alloc, inner)?;
+            Ok((at_place(tokens, at, SpecBody::Dvd(number, inner)), next))
+        }
+    }
+}
+
+/// At each level operators that group to the left.
+#[cycle(reading)]
+#[tactic(auto, using(jh_ast::proofs::FormSteps::form_steps, crate::proofs::Turns::turn_steps, crate::proofs::Levels::level_steps), unfolding(crate::specs::Reading::left_of, jh_peek::specs::Choices::and_then, jh_peek::specs::Choices::choose, jh_peek::specs::Choices::given))]
+fn left(
+    alloc: Global,
+    tokens: &[Token],
+    room: usize,
+    level: u8,
+    at: usize,
+) -> Result<(SpecTree, usize), ReadError>
+    requires at_place { at ≤ length tokens.now }
+    requires level { level ≤ 3 }
+    ensures value { GivesForm (read.left_of tokens.now (read.inside tokens.now room) level at) result }
+    ensures within { IfOk result (λ read. IsWithin (length tokens.now) at read.1) }
+{
+    if level == 0 {
+        return prefix(alloc, tokens, room, at);
+    }
+    let (first, next) = left(alloc, tokens, room, level - 1, at)?;
+    chain(alloc, tokens, room, level - 1, first, next)
+}
+
+/// Operators and operands after an operand.
+#[cycle(reading)]
+#[tactic(auto, using(jh_ast::proofs::FormSteps::form_steps, crate::proofs::Turns::turn_steps, crate::proofs::Levels::level_steps), unfolding(crate::specs::Reading::chain_of, jh_peek::specs::Choices::and_then, jh_peek::specs::Choices::choose, jh_peek::specs::Choices::given))]
+fn chain(
+    alloc: Global,
+    tokens: &[Token],
+    room: usize,
+    level: u8,
+    first: SpecTree,
+    at: usize,
+) -> Result<(SpecTree, usize), ReadError>
+    requires at_place { at ≤ length tokens.now }
+    requires level { level ≤ 3 }
+    ensures value { GivesForm (read.chain_of tokens.now (read.inside tokens.now room) level (form_tree first) at) result }
+    ensures within { IfOk result (λ read. (at ≤ read.1) × (read.1 ≤ length tokens.now)) }
+{
+    match operator(tokens, 2 + level, at) {
+        None => Ok((first, at)),
+        Some(operator) => {
+            let (second, next) = left(alloc, tokens, room, level, at + 1)?;
+            let both = binary(alloc, operator, first, second)?;
+            if room == 0 {
+                return Err(ReadError::Refused(next));
+            }
+            chain(alloc, tokens, room - 1, level, both, next)
+        }
+    }
+}
+
+/// An operand with a sign or a word before it.
+#[cycle(reading)]
+#[tactic(auto, using(jh_ast::proofs::FormSteps::form_steps, crate::proofs::Turns::turn_steps, crate::proofs::Levels::level_steps), unfolding(crate::specs::Reading::prefix_of, jh_peek::specs::Choices::and_then, jh_peek::specs::Choices::choose, jh_peek::specs::Choices::given))]
+fn prefix(
+    alloc: Global,
+    tokens: &[Token],
+    room: usize,
+    at: usize,
+) -> Result<(SpecTree, usize), ReadError>
+    requires at_place { at ≤ length tokens.now }
+    ensures value { GivesForm (read.prefix_of tokens.now (read.inside tokens.now room) at) result }
+    ensures within { IfOk result (λ read. IsWithin (length tokens.now) at read.1) }
+{
+    if is_symbol(tokens, at, Symbol::Minus) {
+        return minus(alloc, tokens, room, at);
+    }
+    if is_symbol(tokens, at, Symbol::Old) {
+        return old(alloc, tokens, room, at);
+    }
+    if is_symbol(tokens, at, Symbol::Card) {
+        return card(alloc, tokens, room, at);
+    }
+    if is_symbol(tokens, at, Symbol::Tree) {
+        return forest(alloc, tokens, at);
+    }
+    if is_symbol(tokens, at, Symbol::RtranclPt) {
+        return rtrancl(alloc, tokens, room, at);
+    }
+    postfix(alloc, tokens, room, at)
+}
+
+/// A negated operand.
+#[cycle(reading)]
+#[tactic(auto, using(jh_ast::proofs::FormSteps::form_steps, crate::proofs::Turns::turn_steps, crate::proofs::Levels::level_steps), unfolding(crate::specs::Reading::signed_of, jh_peek::specs::Choices::and_then, jh_peek::specs::Choices::choose, jh_peek::specs::Choices::given))]
+fn minus(
+    alloc: Global,
+    tokens: &[Token],
+    room: usize,
+    at: usize,
+) -> Result<(SpecTree, usize), ReadError>
+    requires at_place { at < length tokens.now }
+    ensures value { GivesForm (read.signed_of tokens.now (read.inside tokens.now room) form.minus at) result }
+    ensures within { IfOk result (λ read. IsWithin (length tokens.now) at read.1) }
+{
+    if room == 0 {
+        return Err(ReadError::Refused(at));
+    }
+    let (inner, next) = prefix(alloc, tokens, room - 1, at + 1)?;
+    let inner = boxed(alloc, inner)?;
+    Ok((at_place(tokens, at, SpecBody::Minus(inner)), next))
+}
+
+/// `old` and its operand.
+#[cycle(reading)]
+#[tactic(auto, using(jh_ast::proofs::FormSteps::form_steps, crate::proofs::Turns::turn_steps, crate::proofs::Levels::level_steps), unfolding(crate::specs::Reading::signed_of, jh_peek::specs::Choices::and_then, jh_peek::specs::Choices::choose, jh_peek::specs::Choices::given))]
+fn old(
+    alloc: Global,
+    tokens: &[Token],
+    room: usize,
+    at: usize,
+) -> Result<(SpecTree, usize), ReadError>
+    requires at_place { at < length tokens.now }
+    ensures value { GivesForm (read.signed_of tokens.now (read.inside tokens.now room) form.old at) result }
+    ensures within { IfOk result (λ read. IsWithin (length tokens.now) at read.1) }
+{
+    if room == 0 {
+        return Err(ReadError::Refused(at));
+    }
+    let (inner, next) = prefix(alloc, tokens, room - 1, at + 1)?;
+    let inner = boxed(alloc, inner)?;
+    Ok((at_place(tokens, at, SpecBody::Old(inner)), next))
+}
+
+/// `card` and its operand.
+#[cycle(reading)]
+#[tactic(auto, using(jh_ast::proofs::FormSteps::form_steps, crate::proofs::Turns::turn_steps, crate::proofs::Levels::level_steps), unfolding(crate::specs::Reading::signed_of, jh_peek::specs::Choices::and_then, jh_peek::specs::Choices::choose, jh_peek::specs::Choices::given))]
+fn card(
+    alloc: Global,
+    tokens: &[Token],
+    room: usize,
+    at: usize,
+) -> Result<(SpecTree, usize), ReadError>
+    requires at_place { at < length tokens.now }
+    ensures value { GivesForm (read.signed_of tokens.now (read.inside tokens.now room) form.card at) result }
+    ensures within { IfOk result (λ read. IsWithin (length tokens.now) at read.1) }
+{
+    if room == 0 {
+        return Err(ReadError::Refused(at));
+    }
+    let (inner, next) = prefix(alloc, tokens, room - 1, at + 1)?;
+    let inner = boxed(alloc, inner)?;
+    Ok((at_place(tokens, at, SpecBody::Card(inner)), next))
+}
+
+/// A path: the two names, the step, and the two ends.
+#[cycle(reading)]
+#[tactic(auto, using(jh_ast::proofs::FormSteps::form_steps, crate::proofs::Turns::turn_steps, crate::proofs::Levels::level_steps), unfolding(crate::specs::Reading::rtrancl_of, jh_peek::specs::Choices::and_then, jh_peek::specs::Choices::choose, jh_peek::specs::Choices::given))]
+fn rtrancl(
+    alloc: Global,
+    tokens: &[Token],
+    room: usize,
+    at: usize,
+) -> Result<(SpecTree, usize), ReadError>
+    requires at_place { at < length tokens.now }
+    ensures value { GivesForm (read.rtrancl_of tokens.now (read.inside tokens.now room) at) result }
+    ensures within { IfOk result (λ read. IsWithin (length tokens.now) at read.1) }
+{
+    let (first, second) = pair(alloc, tokens, at)?;
+    let (body, next) = operand(alloc, tokens, room, 3, at + 6)?;
+    let next = behind(tokens, next, Symbol::RightParenthesis)?;
+    let (from, next) = postfix(alloc, tokens, room, next)?;
+    let (to, next) = postfix(alloc, tokens, room, next)?;
+    let (body, from, to) = boxed_three(alloc, body, from, to)?;
+    Ok((
+        at_place(tokens, at, SpecBody::Rtrancl(first, second, body, from, to)),
+        next,
+    ))
+}
+
+/// An operand and reads of fields after it.
+#[cycle(reading)]
+#[tactic(auto, using(jh_ast::proofs::FormSteps::form_steps, crate::proofs::Turns::turn_steps, crate::proofs::Levels::level_steps), unfolding(crate::specs::Reading::postfix_of, jh_peek::specs::Choices::and_then, jh_peek::specs::Choices::choose, jh_peek::specs::Choices::given))]
+fn postfix(
+    alloc: Global,
+    tokens: &[Token],
+    room: usize,
+    at: usize,
+) -> Result<(SpecTree, usize), ReadError>
+    requires at_place { at ≤ length tokens.now }
+    ensures value { GivesForm (read.postfix_of tokens.now (read.inside tokens.now room) at) result }
+    ensures within { IfOk result (λ read. IsWithin (length tokens.now) at read.1) }
+{
+    let (first, next) = atom(alloc, tokens, room, at)?;
+    dots(alloc, tokens, tokens.len() + 1, first, next)
+}
+
+/// An operand without parts outside brackets.
+#[cycle(reading)]
+#[tactic(auto, using(jh_ast::proofs::FormSteps::form_steps, crate::proofs::Turns::turn_steps, crate::proofs::Levels::level_steps), unfolding(crate::specs::Reading::atom_of, jh_peek::specs::Choices::and_then, jh_peek::specs::Choices::choose, jh_peek::specs::Choices::given))]
+fn atom(
+    alloc: Global,
+    tokens: &[Token],
+    room: usize,
+    at: usize,
+) -> Result<(SpecTree, usize), ReadError>
+    requires at_place { at ≤ length tokens.now }
+    ensures value { GivesForm (read.atom_of tokens.now (read.inside tokens.now room) at) result }
+    ensures within { IfOk result (λ read. IsWithin (length tokens.now) at read.1) }
+{
+    if is_symbol(tokens, at, Symbol::LeftParenthesis) {
+        return bracket(alloc, tokens, room, at);
+    }
+    if is_symbol(tokens, at, Symbol::LeftBrace) {
+        return set(alloc, tokens, room, at);
+    }
+    simple(alloc, tokens, at)
+}
+
+/// A formula in brackets.
+#[cycle(reading)]
+#[tactic(auto, using(jh_ast::proofs::FormSteps::form_steps, crate::proofs::Turns::turn_steps, crate::proofs::Levels::level_steps), unfolding(crate::specs::Reading::bracket_of, jh_peek::specs::Choices::and_then, jh_peek::specs::Choices::choose, jh_peek::specs::Choices::given))]
+fn bracket(
+    alloc: Global,
+    tokens: &[Token],
+    room: usize,
+    at: usize,
+) -> Result<(SpecTree, usize), ReadError>
+    requires at_place { at < length tokens.now }
+    ensures value { GivesForm (read.bracket_of tokens.now (read.inside tokens.now room) at) result }
+    ensures within { IfOk result (λ read. IsWithin (length tokens.now) at read.1) }
+{
+    let (inner, next) = operand(alloc, tokens, room, 3, at + 1)?;
+    let next = behind(tokens, next, Symbol::RightParenthesis)?;
+    Ok((moved(tokens, at, inner), next))
+}
+
+/// A set in braces.
+#[cycle(reading)]
+#[tactic(auto, using(jh_ast::proofs::FormSteps::form_steps, crate::proofs::Turns::turn_steps, crate::proofs::Levels::level_steps), unfolding(crate::specs::Reading::set_of, jh_peek::specs::Choices::and_then, jh_peek::specs::Choices::choose, jh_peek::specs::Choices::given))]
+fn set(
+    alloc: Global,
+    tokens: &[Token],
+    room: usize,
+    at: usize,
+) -> Result<(SpecTree, usize), ReadError>
+    requires at_place { at < length tokens.now }
+    ensures value { GivesForm (read.set_of tokens.now (read.inside tokens.now room) at) result }
+    ensures within { IfOk result (λ read. IsWithin (length tokens.now) at read.1) }
+{
+    if is_symbol(tokens, at + 1, Symbol::RightBrace) {
+        let members = Row::of(Vec::new(alloc));
+        return Ok((at_place(tokens, at, SpecBody::Braces(members)), at + 2));
+    }
+    if is_compr(tokens, at) {
+        return compr(alloc, tokens, room, at);
+    }
+    braces(alloc, tokens, room, at)
+}
+
+/// The set of the objects that a formula is true of.
+#[cycle(reading)]
+#[tactic(auto, using(jh_ast::proofs::FormSteps::form_steps, crate::proofs::Turns::turn_steps, crate::proofs::Levels::level_steps), unfolding(crate::specs::Reading::compr_of, jh_peek::specs::Choices::and_then, jh_peek::specs::Choices::choose, jh_peek::specs::Choices::given))]
+fn compr(
+    alloc: Global,
+    tokens: &[Token],
+    room: usize,
+    at: usize,
+) -> Result<(SpecTree, usize), ReadError>
+    requires at_place { at + 3 ≤ length tokens.now }
+    ensures value { GivesForm (read.compr_of tokens.now (read.inside tokens.now room) at) result }
+    ensures within { IfOk result (λ read. IsWithin (length tokens.now) at read.1) }
+{
+    let name = word(alloc, tokens, at + 1)?;
+    let (inner, next) = operand(alloc, tokens, room, 3, at + 3)?;
+    let next = behind(tokens, next, Symbol::RightBrace)?;
+    let inner = boxed(alloc, inner)?;
+    Ok((at_place(tokens, at, SpecBody::Compr(name, inner)), next))
+}
+
+/// A set of listed members.
+#[cycle(reading)]
+#[tactic(auto, using(jh_ast::proofs::FormSteps::form_steps, crate::proofs::Turns::turn_steps, crate::proofs::Levels::level_steps), unfolding(crate::specs::Reading::braces_of, jh_peek::specs::Choices::and_then, jh_peek::specs::Choices::choose, jh_peek::specs::Choices::given))]
+fn braces(
+    alloc: Global,
+    tokens: &[Token],
+    room: usize,
+    at: usize,
+) -> Result<(SpecTree, usize), ReadError>
+    requires at_place { at < length tokens.now }
+    ensures value { GivesForm (read.braces_of tokens.now (read.inside tokens.now room) at) result }
+    ensures within { IfOk result (λ read. IsWithin (length tokens.now) at read.1) }
+{
+    let mut made = Vec::new(alloc);
+    let next = members(alloc, tokens, room, &mut made, at + 1)?;
+    let next = behind(tokens, next, Symbol::RightBrace)?;
+    let members = Row::of(made);
+    Ok((at_place(tokens, at, SpecBody::Braces(members)), next))
+}
+
+/// Members with commas between them, after those that are there.
+#[cycle(reading)]
+#[tactic(auto, using(jh_ast::proofs::FormSteps::form_steps, crate::proofs::Turns::turn_steps, crate::proofs::Levels::level_steps), unfolding(crate::specs::Reading::members_of, jh_peek::specs::Choices::and_then, jh_peek::specs::Choices::choose, jh_peek::specs::Choices::given))]
+fn members(
+    alloc: Global,
+    tokens: &[Token],
+    room: usize,
+    made: &mut Vec<SpecTree>,
+    at: usize,
+) -> Result<usize, ReadError>
+    requires at_place { at ≤ length tokens.now }
+    ensures value { GivesForms (form_trees made.new.items) (and_then ((read.inside tokens.now room).members at) (λ r. Some (before made.old.items r.0, r.1))) result }
+    ensures within { IfOk result (IsWithin (length tokens.now) at) }
+{
+    if room == 0 {
+        return Err(ReadError::Refused(at));
+    }
+    let (member, next) = operand(alloc, tokens, room - 1, 3, at)?;
+    made.push(member)?;
+    if is_symbol(tokens, next, Symbol::Comma) {
+        return members(alloc, tokens, room - 1, made, next + 1);
+    }
+    Ok(next)
+}
