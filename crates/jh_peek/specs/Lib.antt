@@ -1,4 +1,5 @@
 pub mod Choices
 pub mod Answers
 pub mod Lists
+pub mod Modifiers
 pub mod Standing

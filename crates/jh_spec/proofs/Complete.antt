@@ -193,7 +193,7 @@ module _ (ts : List Token) where
         (then_is _ (postfix-complete b stop k small (omega (arith, h, postfix-end ts a, operand-end ts p))) refl)))))))))
     prefix-complete (grammar.postfix p) stop k small h = let s : AtomStart ts _ = postfix-start ts p in choose_off _ s.minus (choose_off _ s.old (choose_off _ s.card (choose_off _ s.forest (choose_off _ s.rtrancl (postfix-complete p stop k small h)))))
 
-    postfix-complete : {i j : ℕ} {t : FormTree} → Postfix ts i t j → 1 < rank_at ts j → (k : ℕ) → k ≤ length ts → j ≤ i + k → postfix_of ts (inside ts k) i ≡ Some (t, j)
+    pub postfix-complete : {i j : ℕ} {t : FormTree} → Postfix ts i t j → 1 < rank_at ts j → (k : ℕ) → k ≤ length ts → j ≤ i + k → postfix_of ts (inside ts k) i ≡ Some (t, j)
     postfix-complete (grammar.reads p d) stop k small h = then_is _ (atom-complete p k small (omega (arith, h, dots-end ts d))) (dots-complete (suc (length ts)) d stop (omega (arith, h, small, atom-end ts p)))
 
     atom-complete : {i j : ℕ} {t : FormTree} → Atom ts i t j → (k : ℕ) → k ≤ length ts → j ≤ i + k → atom_of ts (inside ts k) i ≡ Some (t, j)

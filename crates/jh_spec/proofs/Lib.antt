@@ -3,6 +3,8 @@ pub mod Ends
 pub mod Starts
 pub mod Sound
 pub mod Complete
+pub mod PartSound
+pub mod PartComplete
 mod Levels
 mod Turns
 mod Members

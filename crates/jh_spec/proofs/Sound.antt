@@ -83,7 +83,7 @@ module _ (ts : List Token) (inside : Inside) (sound : Sound ts inside) where
   unfolding atom_of
   atom-sound i = choose_holds (λ opens. bracket-sound i opens) (λ n. choose_holds (λ opens. set-sound i opens) (λ m. simple-sound i))
 
-  postfix-sound : (i : ℕ) → Holds (λ r. Postfix ts i r.0 r.1) (postfix_of ts inside i)
+  pub postfix-sound : (i : ℕ) → Holds (λ r. Postfix ts i r.0 r.1) (postfix_of ts inside i)
   unfolding postfix_of
   postfix-sound i = then_holds (atom-sound i) (λ a p. holds_by (dots-sound ts (suc (length ts)) a.0 a.1) (λ r q. grammar.reads p q))
 
@@ -138,7 +138,7 @@ module _ (ts : List Token) (inside : Inside) (sound : Sound ts inside) where
       choose_holds (λ s. then_holds (bound-sound ts (i + 1)) (λ ws b. then_holds (typed-sound ts ws.1) (λ j t. then_holds (sound.operand 3 j) (λ a p. choose_holds (λ c. found (grammar.ex s b t p c)) (λ _. nothing))))) (λ _.
       holds_by (right-sound n i) (λ r p. grammar.plain p)))
 
-inside-sound : (ts : List Token) (k : ℕ) → Sound ts (inside ts k)
+pub inside-sound : (ts : List Token) (k : ℕ) → Sound ts (inside ts k)
 unfolding inside
 inside-sound ts zero = record { operand = λ n i. nothing; prefix = λ i. nothing; chain = λ n a i. nothing; members = λ i. nothing }
 inside-sound ts (suc k) = record {

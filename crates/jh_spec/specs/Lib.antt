@@ -1,4 +1,6 @@
 pub mod Operators
 pub mod Formulas
+pub mod Parts
+pub mod PartReading
 pub mod Reading
 pub mod Reads

@@ -1,0 +1,132 @@
+-- What is read of a specification at a place of a list of tokens, with the place after it: the grammar of specifications as a
+-- function, which the code follows. That it is the grammar is proved in proofs/PartSound and proofs/PartComplete.
+use Rattle.std.specs.Prelude.{ℕ, zero, suc, ◌+◌, ◌&&◌, ◌||◌, Bool, List, [], ◌∷◌, length, Option, None, Some, codes}
+use Rattle.jh_name.specs.declared.place.Kind.{Kind}
+use Rattle.jh_name.specs.declared.place.Kind.TheVariants as sort
+use Rattle.jh_lex.specs.declared.symbol.Symbol.{Symbol}
+use Rattle.jh_lex.specs.declared.symbol.Symbol.TheVariants as symbol
+use Rattle.jh_lex.specs.declared.token.Token.{Token}
+use Rattle.jh_name.specs.declared.place.Place.{Place}
+use Rattle.jh_ast.specs.declared.word.Word.{Word}
+use Rattle.jh_ast.specs.Forms.{FormTree, SpecPart, LabelledPart}
+use Rattle.jh_ast.specs.Forms as form
+use Rattle.jh_ast.specs.Stmts.{StmtTree}
+use Rattle.jh_ast.specs.Stmts as stmt
+use Rattle.jh_peek.specs.Choices.{◌>>=◌, choose}
+use Rattle.jh_peek.specs.Lists.{Found, many_at}
+use Rattle.jh_peek.specs.Modifiers.{modifiers_at, has}
+use Rattle.jh_peek.specs.Standing.{is_at, is_word_at, is_spec_close_at, is_quote_open_at, is_quote_close_at, is_plain_word_at, place_at, word_at, name_at, behind}
+use Rattle.jh_spec.specs.Parts.{ItemTree, variable, definition, invariant, numbered, of_variables}
+use Rattle.jh_spec.specs.Reading.{formula_at, postfix_of, inside}
+
+-- a formula in quotes and the place after it
+unfoldable pub quoted_at : List Token → ℕ → ℕ → Option (SpecPart × ℕ)
+quoted_at ts n i = choose (is_quote_open_at ts i) (formula_at ts (i + 1) >>= λ t. Some (numbered ts i n t.0, t.1 + 1)) None
+
+unfoldable pub label_at : List Token → ℕ → Option (Option Word × ℕ)
+label_at ts i = choose (is_plain_word_at ts i && is_at ts (i + 1) symbol.Colon) (word_at ts i >>= λ w. Some (Some w, i + 2)) (Some (None, i))
+
+unfoldable pub semicolon_at : List Token → ℕ → ℕ
+semicolon_at ts i = choose (is_at ts i symbol.Semicolon) (i + 1) i
+
+unfoldable pub clause_at : List Token → Symbol → ℕ → ℕ → Option (Found (Option SpecPart))
+clause_at ts s n i = choose (is_at ts i s) (quoted_at ts n (i + 1) >>= λ q. Some (Some q.0, q.1, n + 1)) (Some (None, i, n))
+
+unfoldable pub modifies_item_at : List Token → ℕ → Option (Word × ℕ)
+modifies_item_at ts i =
+    choose (is_quote_open_at ts i)
+      (name_at ts (i + 1) >>= λ w. choose (is_quote_close_at ts (i + 2)) (Some (w, i + 3)) None)
+      (name_at ts i >>= λ w. Some (w, i + 1))
+
+-- words with commas between them, each read by a reader, no more than k
+unfoldable pub separated_at : List Token → (ℕ → Option (Word × ℕ)) → ℕ → ℕ → Option (List Word × ℕ)
+separated_at ts one zero i = None
+separated_at ts one (suc k) i = one i >>= λ w.
+    choose (is_at ts w.1 symbol.Comma) (separated_at ts one k (w.1 + 1) >>= λ r. Some (w.0 ∷ r.0, r.1)) (Some (w.0 ∷ [], w.1))
+
+-- words with commas between them after a symbol, and none where it doesn't stand there
+unfoldable pub words_after : List Token → Symbol → (ℕ → Option (Word × ℕ)) → ℕ → Option (List Word × ℕ)
+words_after ts s one i = choose (is_at ts i s) (separated_at ts one (length ts) (i + 1)) (Some ([], i))
+
+unfoldable pub contract_at : List Token → ℕ → ℕ → Option (Found (Option SpecPart × List Word × Option SpecPart))
+contract_at ts n i = clause_at ts symbol.Requires n i >>= λ pre. words_after ts symbol.Modifies (modifies_item_at ts) pre.1 >>= λ ws.
+    clause_at ts symbol.Ensures pre.2 ws.1 >>= λ post. Some ((pre.0, ws.0, post.0), post.1, post.2)
+
+unfoldable pub kind_of_at : List Token → ℕ → Option (Kind × ℕ)
+kind_of_at ts i =
+    choose (is_word_at ts i (codes "obj")) (Some (sort.Obj, i + 1))
+    (choose (is_at ts i symbol.Int) (Some (sort.Int, i + 1))
+    (choose (is_word_at ts i (codes "bool")) (Some (sort.Bool, i + 1))
+    (choose (is_word_at ts i (codes "objset")) (Some (sort.Set, i + 1))
+    (choose (is_quote_open_at ts i && (is_word_at ts (i + 1) (codes "obj") && (is_word_at ts (i + 2) (codes "set") && is_quote_close_at ts (i + 3)))) (Some (sort.Set, i + 4)) None))))
+
+unfoldable pub variable_at : List Token → ℕ → ℕ → Option (Found ItemTree)
+variable_at ts n i = modifiers_at ts of_variables (suc (length ts)) [] i >>= λ ms. behind ts ms.1 symbol.Specvar >>= λ a. word_at ts (ms.1 + 1) >>= λ w. behind ts (ms.1 + 2) symbol.ColonColon >>= λ b.
+    kind_of_at ts (ms.1 + 3) >>= λ k. clause_at ts symbol.Equal n k.1 >>= λ init. behind ts init.1 symbol.Semicolon >>= λ j.
+    Some (variable (record { name = w; kind = k.0; fixed = has ms.0 symbol.Static; is_ghost = has ms.0 symbol.Ghost; init = init.0 }), j, init.2)
+
+unfoldable pub definition_at : List Token → ℕ → ℕ → Option (Found ItemTree)
+definition_at ts n i = choose (is_quote_open_at ts (i + 1)) (word_at ts (i + 2) >>= λ w. behind ts (i + 3) symbol.EqualEqual >>= λ a. formula_at ts (i + 4) >>= λ t.
+    behind ts (t.1 + 1) symbol.Semicolon >>= λ j. Some (definition (record { name = w; spec = numbered ts (i + 1) n t.0 }), j, n + 1)) None
+
+-- an invariant that begins at i, with its word `invariant` at a
+unfoldable pub invariant_at : List Token → ℕ → ℕ → Option (Found ItemTree)
+invariant_at ts n a = label_at ts (a + 1) >>= λ l. quoted_at ts n l.1 >>= λ q. behind ts q.1 symbol.Semicolon >>= λ j.
+    Some (invariant (record { label = l.0; spec = q.0; from = [] }), j, n + 1)
+
+-- whether an invariant begins there with a word that says who may see it
+abbrev pub is_seen_invariant_at : List Token → ℕ → Bool
+is_seen_invariant_at ts i = (is_at ts i symbol.Public || is_at ts i symbol.Private) && is_at ts (i + 1) symbol.Invariant
+
+unfoldable pub item_at : List Token → ℕ → ℕ → Option (Found ItemTree)
+item_at ts n i =
+    choose (is_at ts i symbol.Vardefs) (definition_at ts n i)
+    (choose (is_at ts i symbol.Invariant) (invariant_at ts n i)
+    (choose (is_seen_invariant_at ts i) (invariant_at ts n (i + 1)) (variable_at ts n i)))
+
+unfoldable pub loop_item_at : List Token → ℕ → ℕ → Option (Found LabelledPart)
+loop_item_at ts n i = behind ts i symbol.Inv >>= λ a. label_at ts (i + 1) >>= λ l. quoted_at ts n l.1 >>= λ q.
+    Some (record { label = l.0; spec = q.0; from = [] }, semicolon_at ts q.1, n + 1)
+
+abbrev pub word_reader : List Token → ℕ → Option (Word × ℕ)
+word_reader ts i = word_at ts i >>= λ w. Some (w, i + 1)
+
+unfoldable pub spoken_at : List Token → ℕ → ℕ → Option (LabelledPart × ℕ)
+spoken_at ts n i = label_at ts i >>= λ l. quoted_at ts n l.1 >>= λ q. words_after ts symbol.From (word_reader ts) q.1 >>= λ ws.
+    Some (record { label = l.0; spec = q.0; from = ws.0 }, ws.1)
+
+unfoldable pub target_at : List Token → ℕ → ℕ → Option (SpecPart × ℕ)
+target_at ts n i =
+    choose (is_quote_open_at ts i)
+      (postfix_of ts (inside ts (length ts)) (i + 1) >>= λ t. choose (is_quote_close_at ts t.1) (Some (numbered ts i n t.0, t.1 + 1)) None)
+      (name_at ts i >>= λ w. Some (numbered ts i n (form.name (place_at ts i) w), i + 1))
+
+unfoldable pub ghost_at : List Token → ℕ → ℕ → Option (Found StmtTree)
+ghost_at ts n i = target_at ts n i >>= λ v. behind ts v.1 symbol.ColonEqual >>= λ a. quoted_at ts (n + 1) (v.1 + 1) >>= λ q.
+    Some (stmt.ghost (place_at ts i) v.0 q.0, semicolon_at ts q.1, n + 2)
+
+-- after `assert` or `note`
+unfoldable pub said_at : List Token → (Place → LabelledPart → StmtTree) → ℕ → ℕ → Option (Found StmtTree)
+said_at ts said n i = spoken_at ts n (i + 1) >>= λ l. Some (said (place_at ts i) l.0, semicolon_at ts l.1, n + 1)
+
+unfoldable pub statement_at : List Token → ℕ → ℕ → Option (Found StmtTree)
+statement_at ts n i =
+    choose (is_at ts i symbol.Assert) (said_at ts stmt.assert n i)
+    (choose (is_at ts i symbol.Note) (said_at ts stmt.note n i) (ghost_at ts n i))
+
+-- the lists of parts, up to the token that closes the specification
+abbrev pub items_at : List Token → ℕ → ℕ → Option (Found (List ItemTree))
+items_at ts n i = many_at (is_spec_close_at ts) (item_at ts) (length ts) n i
+
+abbrev pub loop_at : List Token → ℕ → ℕ → Option (Found (List LabelledPart))
+loop_at ts n i = many_at (is_spec_close_at ts) (loop_item_at ts) (length ts) n i
+
+abbrev pub statements_at : List Token → ℕ → ℕ → Option (Found (List StmtTree))
+statements_at ts n i = many_at (is_spec_close_at ts) (statement_at ts) (length ts) n i
+
+-- a contract up to the token that closes the specification
+unfoldable pub contracted_at : List Token → ℕ → ℕ → Option (Found (Option SpecPart × List Word × Option SpecPart))
+contracted_at ts n i = contract_at ts n i >>= λ c. choose (is_spec_close_at ts c.1) (Some c) None
+
+unfoldable pub claimed_at : List Token → ℕ → Option (Word × ℕ)
+claimed_at ts i = behind ts i symbol.ClaimedBy >>= λ a. word_at ts (i + 1) >>= λ w. choose (is_spec_close_at ts (i + 2)) (Some (w, i + 2)) None
