@@ -13,15 +13,15 @@ use Rattle.jh_ast.specs.Stmts.{StmtTree}
 use Rattle.jh_ast.specs.Stmts as stmt
 use Rattle.jh_peek.specs.Modifiers.{has, ModifiersAfter, Modifiers, allowed_at}
 use Rattle.jh_peek.specs.Modifiers as modifier
-use Rattle.jh_peek.specs.Standing.{Is, kind_at, is_at, is_spec_close_at, is_quote_open_at, place_at, word_at}
+use Rattle.jh_peek.specs.Standing.{Is, kind_at, is_at, is_spec_close_at, is_quote_open_at, place_at}
 use Rattle.jh_peek.proofs.Facts.{kinds-apart, within, kind-within, word-kind, name-other}
 use Rattle.jh_peek.proofs.Lists.{many-complete}
 use Rattle.jh_peek.proofs.Modifiers.{modifiers-complete, modifiers-end}
 use Rattle.jh_peek.proofs.Options.{Holds, nothing, found, choose_holds, of_found, then_is, choose_on, choose_off, behind_on}
 use Rattle.jh_peek.proofs.Words.{text-kind, text-other, kind-no_text}
-use Rattle.jh_spec.specs.Parts.{ItemTree, Quoted, Label, MaybeSemicolon, Clause, ModifiesItem, ModifiesItems, Modifies, Contract, SpecType, Visibility, Item, LoopItem, FromWords, From, Spoken, Target, Statement, Items, Loop, Statements, Contracted, Claimed, of_variables}
+use Rattle.jh_spec.specs.Parts.{ItemTree, Quoted, Label, MaybeSemicolon, Clause, ModifiesItem, ModifiesItems, Modifies, Contract, SpecType, Declared, Visibility, Item, LoopItem, FromWords, From, Spoken, Target, Statement, Items, Loop, Statements, Contracted, Claimed, of_variables}
 use Rattle.jh_spec.specs.Parts as part
-use Rattle.jh_spec.specs.PartReading.{quoted_at, label_at, semicolon_at, clause_at, modifies_item_at, separated_at, words_after, contract_at, kind_of_at, variable_at, definition_at, invariant_at, is_seen_invariant_at, item_at, loop_item_at, word_reader, spoken_at, target_at, ghost_at, said_at, statement_at, items_at, loop_at, statements_at, contracted_at, claimed_at}
+use Rattle.jh_spec.specs.PartReading.{quoted_at, label_at, semicolon_at, clause_at, modifies_item_at, separated_at, words_after, contract_at, kind_of_at, declared_at, flags_at, variable_at, definition_at, invariant_at, is_seen_invariant_at, item_at, loop_item_at, word_reader, spoken_at, target_at, ghost_at, said_at, statement_at, items_at, loop_at, statements_at, contracted_at, claimed_at}
 use Rattle.jh_spec.proofs.Ends.{operand-end, postfix-end}
 use Rattle.jh_spec.proofs.Complete.{formula-complete, postfix-complete}
 use Rattle.jh_spec.proofs.Facts.{quote-rank}
@@ -160,11 +160,18 @@ module _ (ts : List Token) where
     second_false true b h = h
     second_false false b h = refl
 
-  variable-complete : {n i j m a b : ℕ} {ms : List Symbol} {w : Word} {k : Kind} {init : Option SpecPart} → Modifiers ts of_variables i ms a → Is ts a symbol.Specvar → word_at ts (a + 1) ≡ Some w → Is ts (a + 2) symbol.ColonColon → SpecType ts (a + 3) k b → Clause ts symbol.Equal n b init j m → Is ts j symbol.Semicolon
+  declared-end : {i j : ℕ} {w : Word} {k : Kind} → Declared ts i w k j → i < j
+  declared-end (part.declared e c p) = omega (arith, kind-end p)
+
+  declared-complete : {i j : ℕ} {w : Word} {k : Kind} → Declared ts i w k j → declared_at ts i ≡ Some ((w, k), j)
+  unfolding declared_at
+  declared-complete {i = i} (part.declared e c p) = then_is _ e (then_is _ (behind_on ts (i + 1) symbol.ColonColon c) (then_is _ (kind-complete p) refl))
+
+  variable-complete : {n i j m a b : ℕ} {ms : List Symbol} {w : Word} {k : Kind} {init : Option SpecPart} → Modifiers ts of_variables i ms a → Is ts a symbol.Specvar → Declared ts (a + 1) w k b → Clause ts symbol.Equal n b init j m → Is ts j symbol.Semicolon
       → variable_at ts n i ≡ Some (part.variable (record { name = w; kind = k; fixed = has ms symbol.Static; is_ghost = has ms symbol.Ghost; init = init }), j + 1, m)
-  unfolding variable_at
-  variable-complete {i = i} {j = j} {a = a} {ms = ms} p s e c q r d = then_is _ (modifiers-complete ts of_variables (suc (length ts)) i a ms p (none_allowed a s) (omega (arith, modifiers-end p, within ts a symbol.Specvar refl s)))
-      (then_is _ (behind_on ts a symbol.Specvar s) (then_is _ e (then_is _ (behind_on ts (a + 2) symbol.ColonColon c) (then_is _ (kind-complete q) (then_is _ (clause-complete r (kinds-apart ts j _ _ d refl)) (then_is _ (behind_on ts j symbol.Semicolon d) refl))))))
+  unfolding variable_at flags_at
+  variable-complete {i = i} {j = j} {a = a} {ms = ms} p s q r d = then_is _ (then_is _ (modifiers-complete ts of_variables (suc (length ts)) i a ms p (none_allowed a s) (omega (arith, modifiers-end p, within ts a symbol.Specvar refl s))) refl)
+      (then_is _ (behind_on ts a symbol.Specvar s) (then_is _ (declared-complete q) (then_is _ (clause-complete r (kinds-apart ts j _ _ d refl)) (then_is _ (behind_on ts j symbol.Semicolon d) refl))))
 
   invariant-complete : (a : ℕ) {n b j : ℕ} {l : Option Word} {q : SpecPart} → Label ts (a + 1) l b → Quoted ts n b q j → Is ts j symbol.Semicolon → invariant_at ts n a ≡ Some (part.invariant (record { label = l; spec = q; from = [] }), j + 1, n + 1)
   unfolding invariant_at
@@ -172,7 +179,7 @@ module _ (ts : List Token) where
 
   item-complete : (n i j m : ℕ) (x : ItemTree) → Item ts n i x j m → item_at ts n i ≡ Some (x, j, m)
   unfolding item_at definition_at
-  item-complete n i j m x (part.a_variable {a = a} p s e c q r d) = choose_off _ (modified_not (symbol_number symbol.Vardefs) refl refl refl refl refl p s) (choose_off _ (modified_not (symbol_number symbol.Invariant) refl refl refl refl refl p s) (choose_off _ (not_seen p s) (variable-complete p s e c q r d)))
+  item-complete n i j m x (part.a_variable {a = a} p s q r d) = choose_off _ (modified_not (symbol_number symbol.Vardefs) refl refl refl refl refl p s) (choose_off _ (modified_not (symbol_number symbol.Invariant) refl refl refl refl refl p s) (choose_off _ (not_seen p s) (variable-complete p s q r d)))
   item-complete n i j m x (part.a_definition {j = k} {w = w} {t = t} v o e q p d) = choose_on _ v (choose_on _ o (then_is _ e (then_is _ (behind_on ts (i + 3) symbol.EqualEqual q) (then_is _ (formula-complete ts (i + 4) k t p) (then_is _ (behind_on ts (k + 1) symbol.Semicolon d) refl)))))
   item-complete n i j m x (part.an_invariant part.unsaid s p q d) = choose_off _ (kinds-apart ts i _ _ s refl) (choose_on _ s (invariant-complete _ p q d))
   item-complete n i j m x (part.an_invariant (part.for_all v) s p q d) = choose_off _ (kinds-apart ts i _ _ v refl) (choose_off _ (kinds-apart ts i _ _ v refl) (choose_on _ (and_from _ _ (ap (λ b. b || is_at ts i symbol.Private) v) s) (invariant-complete _ p q d)))
@@ -182,14 +189,14 @@ module _ (ts : List Token) where
   modifiers-forward p = omega (arith, modifiers-end p)
 
   item-end : (n i j m : ℕ) (x : ItemTree) → Item ts n i x j m → i < j
-  item-end n i j m x (part.a_variable p s e c q r d) = omega (arith, modifiers-forward p, kind-end q, clause-end r)
+  item-end n i j m x (part.a_variable p s q r d) = omega (arith, modifiers-forward p, declared-end q, clause-end r)
   item-end n i j m x (part.a_definition v o e q p d) = omega (arith, operand-end ts p.formula)
   item-end n i j m x (part.an_invariant part.unsaid s p q d) = omega (arith, label-end p, quoted-end q)
   item-end n i j m x (part.an_invariant (part.for_all v) s p q d) = omega (arith, label-end p, quoted-end q)
   item-end n i j m x (part.an_invariant (part.for_class v) s p q d) = omega (arith, label-end p, quoted-end q)
 
   item-opens : (n i j m : ℕ) (x : ItemTree) → Item ts n i x j m → is_spec_close_at ts i ≡ false
-  item-opens n i j m x (part.a_variable p s e c q r d) = modified_not 79 refl refl refl refl refl p s
+  item-opens n i j m x (part.a_variable p s q r d) = modified_not 79 refl refl refl refl refl p s
   item-opens n i j m x (part.a_definition v o e q p d) = kinds-apart ts i _ 79 v refl
   item-opens n i j m x (part.an_invariant part.unsaid s p q d) = kinds-apart ts i _ 79 s refl
   item-opens n i j m x (part.an_invariant (part.for_all v) s p q d) = kinds-apart ts i _ 79 v refl

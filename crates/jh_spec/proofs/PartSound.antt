@@ -7,13 +7,14 @@ use Rattle.jh_lex.specs.declared.symbol.Symbol.TheVariants as symbol
 use Rattle.jh_lex.specs.declared.token.Token.{Token}
 use Rattle.jh_ast.specs.declared.word.Word.{Word}
 use Rattle.jh_peek.specs.Choices.{choose}
+use Rattle.jh_peek.specs.Modifiers.{Modifiers, has}
 use Rattle.jh_peek.specs.Standing.{Is, is_at, is_word_at, is_spec_close_at, is_quote_open_at, is_plain_word_at, word_at}
 use Rattle.jh_peek.proofs.Lists.{many-sound}
 use Rattle.jh_peek.proofs.Modifiers.{modifiers-sound}
 use Rattle.jh_peek.proofs.Options.{Holds, nothing, found, then_holds, then_found, choose_holds, behind_holds}
-use Rattle.jh_spec.specs.Parts.{ItemTree, Quoted, Label, MaybeSemicolon, Clause, ModifiesItem, ModifiesItems, Modifies, Contract, SpecType, Visibility, Item, LoopItem, FromWords, From, Spoken, Target, Statement, Items, Loop, Statements, Contracted, Claimed, of_variables}
+use Rattle.jh_spec.specs.Parts.{ItemTree, Quoted, Label, MaybeSemicolon, Clause, ModifiesItem, ModifiesItems, Modifies, Contract, SpecType, Declared, Visibility, Item, LoopItem, FromWords, From, Spoken, Target, Statement, Items, Loop, Statements, Contracted, Claimed, of_variables}
 use Rattle.jh_spec.specs.Parts as part
-use Rattle.jh_spec.specs.PartReading.{quoted_at, label_at, semicolon_at, clause_at, modifies_item_at, separated_at, words_after, contract_at, kind_of_at, variable_at, definition_at, invariant_at, item_at, loop_item_at, word_reader, spoken_at, target_at, ghost_at, said_at, statement_at, items_at, loop_at, statements_at, contracted_at, claimed_at}
+use Rattle.jh_spec.specs.PartReading.{quoted_at, label_at, semicolon_at, clause_at, modifies_item_at, separated_at, words_after, contract_at, kind_of_at, declared_at, flags_at, variable_at, definition_at, invariant_at, item_at, loop_item_at, word_reader, spoken_at, target_at, ghost_at, said_at, statement_at, items_at, loop_at, statements_at, contracted_at, claimed_at}
 use Rattle.jh_spec.specs.Reading.{inside}
 use Rattle.jh_spec.proofs.Sound.{formula-sound, postfix-sound, inside-sound}
 
@@ -62,10 +63,15 @@ module _ (ts : List Token) where
   kind-sound i = choose_holds (λ e. found (part.an_object e)) (λ _. choose_holds (λ e. found (part.an_integer e)) (λ _. choose_holds (λ e. found (part.a_truth e)) (λ _. choose_holds (λ e. found (part.a_set e)) (λ _.
       choose_holds (λ e. let a = and_parts (is_quote_open_at ts i) _ e in let b = and_parts (is_word_at ts (i + 1) (codes "obj")) _ a.1 in let c = and_parts (is_word_at ts (i + 2) (codes "set")) _ b.1 in found (part.a_set_in_quotes a.0 b.0 c.0 c.1)) (λ _. nothing)))))
 
+  declared-sound : (i : ℕ) → Holds (λ r. Declared ts i r.0.0 r.0.1 r.1) (declared_at ts i)
+  unfolding declared_at
+  declared-sound i = then_found (λ w e. behind_holds ts (i + 1) symbol.ColonColon _ _ (λ c. then_holds (kind-sound (i + 2)) (λ k p. found (part.declared e c p))))
+
   variable-sound : (n i : ℕ) → Holds (λ r. Item ts n i r.0 r.1 r.2) (variable_at ts n i)
-  unfolding variable_at
-  variable-sound n i = then_holds (modifiers-sound ts of_variables (suc (length ts)) i) (λ ms p. behind_holds ts ms.1 symbol.Specvar _ _ (λ s. then_found (λ w e. behind_holds ts (ms.1 + 2) symbol.ColonColon _ _ (λ c.
-      then_holds (kind-sound (ms.1 + 3)) (λ k q. then_holds (clause-sound symbol.Equal n k.1) (λ init r. behind_holds ts init.1 symbol.Semicolon _ _ (λ d. found (part.a_variable p s e c q r d))))))))
+  unfolding variable_at flags_at
+  variable-sound n i = then_holds (then_holds {Q = λ f. (ms : List Symbol) × Modifiers ts of_variables i ms f.1 × (f.0.0 ≡ has ms symbol.Static) × (f.0.1 ≡ has ms symbol.Ghost)} (modifiers-sound ts of_variables (suc (length ts)) i) (λ ms p. found (ms.0, p, refl, refl)))
+      (λ f p. behind_holds ts f.1 symbol.Specvar _ _ (λ s. then_holds (declared-sound (f.1 + 1)) (λ d q. then_holds (clause-sound symbol.Equal n d.1) (λ init r. behind_holds ts init.1 symbol.Semicolon _ _ (λ e.
+        found (subst (λ (x : Bool × Bool). Item ts n i (part.variable (record { name = d.0.0; kind = d.0.1; fixed = x.0; is_ghost = x.1; init = init.0 })) (init.1 + 1) init.2) (λ k. (sym p.2 k, sym p.3 k)) (part.a_variable p.1 s q r e)))))))
 
   definition-sound : (n i : ℕ) → Is ts i symbol.Vardefs → Holds (λ r. Item ts n i r.0 r.1 r.2) (definition_at ts n i)
   unfolding definition_at

@@ -60,10 +60,16 @@ kind_of_at ts i =
     (choose (is_word_at ts i (codes "objset")) (Some (sort.Set, i + 1))
     (choose (is_quote_open_at ts i && (is_word_at ts (i + 1) (codes "obj") && (is_word_at ts (i + 2) (codes "set") && is_quote_close_at ts (i + 3)))) (Some (sort.Set, i + 4)) None))))
 
+unfoldable pub declared_at : List Token → ℕ → Option ((Word × Kind) × ℕ)
+declared_at ts i = word_at ts i >>= λ w. behind ts (i + 1) symbol.ColonColon >>= λ a. kind_of_at ts (i + 2) >>= λ k. Some ((w, k.0), k.1)
+
+-- whether `static` and `ghost` are among the modifiers, and the place after them
+unfoldable pub flags_at : List Token → ℕ → Option ((Bool × Bool) × ℕ)
+flags_at ts i = modifiers_at ts of_variables (suc (length ts)) [] i >>= λ ms. Some ((has ms.0 symbol.Static, has ms.0 symbol.Ghost), ms.1)
+
 unfoldable pub variable_at : List Token → ℕ → ℕ → Option (Found ItemTree)
-variable_at ts n i = modifiers_at ts of_variables (suc (length ts)) [] i >>= λ ms. behind ts ms.1 symbol.Specvar >>= λ a. word_at ts (ms.1 + 1) >>= λ w. behind ts (ms.1 + 2) symbol.ColonColon >>= λ b.
-    kind_of_at ts (ms.1 + 3) >>= λ k. clause_at ts symbol.Equal n k.1 >>= λ init. behind ts init.1 symbol.Semicolon >>= λ j.
-    Some (variable (record { name = w; kind = k.0; fixed = has ms.0 symbol.Static; is_ghost = has ms.0 symbol.Ghost; init = init.0 }), j, init.2)
+variable_at ts n i = flags_at ts i >>= λ f. behind ts f.1 symbol.Specvar >>= λ a. declared_at ts (f.1 + 1) >>= λ d. clause_at ts symbol.Equal n d.1 >>= λ init.
+    behind ts init.1 symbol.Semicolon >>= λ j. Some (variable (record { name = d.0.0; kind = d.0.1; fixed = f.0.0; is_ghost = f.0.1; init = init.0 }), j, init.2)
 
 unfoldable pub definition_at : List Token → ℕ → ℕ → Option (Found ItemTree)
 definition_at ts n i = choose (is_quote_open_at ts (i + 1)) (word_at ts (i + 2) >>= λ w. behind ts (i + 3) symbol.EqualEqual >>= λ a. formula_at ts (i + 4) >>= λ t.

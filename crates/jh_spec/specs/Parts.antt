@@ -81,6 +81,10 @@ pub data SpecType (ts : List Token) : ℕ → Kind → ℕ → Type 0 where
   a_set : {i : ℕ} → is_word_at ts i (codes "objset") ≡ true → SpecType ts i sort.Set (i + 1)
   a_set_in_quotes : {i : ℕ} → is_quote_open_at ts i ≡ true → is_word_at ts (i + 1) (codes "obj") ≡ true → is_word_at ts (i + 2) (codes "set") ≡ true → is_quote_close_at ts (i + 3) ≡ true → SpecType ts i sort.Set (i + 4)
 
+-- WORD "::" spectype
+pub data Declared (ts : List Token) (i : ℕ) : Word → Kind → ℕ → Type 0 where
+  declared : {j : ℕ} {w : Word} {k : Kind} → word_at ts i ≡ Some w → Is ts (i + 1) symbol.ColonColon → SpecType ts (i + 2) k j → Declared ts i w k j
+
 -- what may stand before `specvar`
 abbrev pub of_variables : List Symbol
 of_variables = symbol.Public ∷ symbol.Private ∷ symbol.Static ∷ symbol.Ghost ∷ []
@@ -95,8 +99,7 @@ pub data Visibility (ts : List Token) : ℕ → ℕ → Type 0 where
 -- | "vardefs" Q(WORD "==" F) ";"
 -- | [ "public" | "private" ] "invariant" [ WORD ":" ] Q(F) ";"
 pub data Item (ts : List Token) (n : ℕ) : ℕ → ItemTree → ℕ → ℕ → Type 0 where
-  a_variable : {i a b j m : ℕ} {ms : List Symbol} {w : Word} {k : Kind} {init : Option SpecPart} → Modifiers ts of_variables i ms a → Is ts a symbol.Specvar → word_at ts (a + 1) ≡ Some w → Is ts (a + 2) symbol.ColonColon
-      → SpecType ts (a + 3) k b → Clause ts symbol.Equal n b init j m → Is ts j symbol.Semicolon
+  a_variable : {i a b j m : ℕ} {ms : List Symbol} {w : Word} {k : Kind} {init : Option SpecPart} → Modifiers ts of_variables i ms a → Is ts a symbol.Specvar → Declared ts (a + 1) w k b → Clause ts symbol.Equal n b init j m → Is ts j symbol.Semicolon
       → Item ts n i (variable (record { name = w; kind = k; fixed = has ms symbol.Static; is_ghost = has ms symbol.Ghost; init = init })) (j + 1) m
   a_definition : {i j : ℕ} {w : Word} {t : FormTree} → Is ts i symbol.Vardefs → is_quote_open_at ts (i + 1) ≡ true → word_at ts (i + 2) ≡ Some w → Is ts (i + 3) symbol.EqualEqual → Spelled ts (i + 4) t j → Is ts (j + 1) symbol.Semicolon
       → Item ts n i (definition (record { name = w; spec = numbered ts (i + 1) n t })) (j + 1 + 1) (n + 1)
