@@ -16,7 +16,7 @@ use Rattle.jh_peek.specs.Modifiers as modifier
 use Rattle.jh_peek.specs.Standing.{Is, kind_at, is_at, is_spec_close_at, is_quote_open_at, place_at}
 use Rattle.jh_peek.proofs.Facts.{kinds-apart, within, kind-within, word-kind, name-other}
 use Rattle.jh_peek.proofs.Lists.{many-complete}
-use Rattle.jh_peek.proofs.Modifiers.{modifiers-complete, modifiers-end}
+use Rattle.jh_peek.proofs.Modified.{modifiers-complete, modifiers-end}
 use Rattle.jh_peek.proofs.Options.{Holds, nothing, found, choose_holds, of_found, then_is, choose_on, choose_off, behind_on}
 use Rattle.jh_peek.proofs.Words.{text-kind, text-other, kind-no_text}
 use Rattle.jh_spec.specs.Parts.{ItemTree, Quoted, Label, MaybeSemicolon, Clause, ModifiesItem, ModifiesItems, Modifies, Contract, SpecType, Declared, Visibility, Item, LoopItem, FromWords, From, Spoken, Target, Statement, Items, Loop, Statements, Contracted, Claimed, of_variables}

@@ -10,7 +10,7 @@ use Rattle.jh_peek.specs.Choices.{choose}
 use Rattle.jh_peek.specs.Modifiers.{Modifiers, has}
 use Rattle.jh_peek.specs.Standing.{Is, is_at, is_word_at, is_spec_close_at, is_quote_open_at, is_plain_word_at, word_at}
 use Rattle.jh_peek.proofs.Lists.{many-sound}
-use Rattle.jh_peek.proofs.Modifiers.{modifiers-sound}
+use Rattle.jh_peek.proofs.Modified.{modifiers-sound}
 use Rattle.jh_peek.proofs.Options.{Holds, nothing, found, then_holds, then_found, choose_holds, behind_holds}
 use Rattle.jh_spec.specs.Parts.{ItemTree, Quoted, Label, MaybeSemicolon, Clause, ModifiesItem, ModifiesItems, Modifies, Contract, SpecType, Declared, Visibility, Item, LoopItem, FromWords, From, Spoken, Target, Statement, Items, Loop, Statements, Contracted, Claimed, of_variables}
 use Rattle.jh_spec.specs.Parts as part
@@ -71,7 +71,7 @@ module _ (ts : List Token) where
   unfolding variable_at flags_at
   variable-sound n i = then_holds (then_holds {Q = λ f. (ms : List Symbol) × Modifiers ts of_variables i ms f.1 × (f.0.0 ≡ has ms symbol.Static) × (f.0.1 ≡ has ms symbol.Ghost)} (modifiers-sound ts of_variables (suc (length ts)) i) (λ ms p. found (ms.0, p, refl, refl)))
       (λ f p. behind_holds ts f.1 symbol.Specvar _ _ (λ s. then_holds (declared-sound (f.1 + 1)) (λ d q. then_holds (clause-sound symbol.Equal n d.1) (λ init r. behind_holds ts init.1 symbol.Semicolon _ _ (λ e.
-        found (subst (λ (x : Bool × Bool). Item ts n i (part.variable (record { name = d.0.0; kind = d.0.1; fixed = x.0; is_ghost = x.1; init = init.0 })) (init.1 + 1) init.2) (λ k. (sym p.2 k, sym p.3 k)) (part.a_variable p.1 s q r e)))))))
+      found (subst (λ (x : Bool × Bool). Item ts n i (part.variable (record { name = d.0.0; kind = d.0.1; fixed = x.0; is_ghost = x.1; init = init.0 })) (init.1 + 1) init.2) (λ k. (sym p.2 k, sym p.3 k)) (part.a_variable p.1 s q r e)))))))
 
   definition-sound : (n i : ℕ) → Is ts i symbol.Vardefs → Holds (λ r. Item ts n i r.0 r.1 r.2) (definition_at ts n i)
   unfolding definition_at
@@ -100,8 +100,10 @@ module _ (ts : List Token) where
   from_words-sound (suc k) i = then_holds (word-sound i) (λ w p. choose_holds (λ c. then_holds (from_words-sound k (w.1 + 1)) (λ r q. found (one_more i w.0 w.1 r.0 r.1 p c q))) (λ _. found (only i w.0 w.1 p))) where
     word-sound : (i : ℕ) → Holds (λ r. (word_at ts i ≡ Some r.0) × (r.1 ≡ i + 1)) (word_reader ts i)
     word-sound i = then_found (λ w e. found (e, refl))
+
     only : (i : ℕ) (w : Word) (j : ℕ) → (word_at ts i ≡ Some w) × (j ≡ i + 1) → FromWords ts i (w ∷ []) j
     only i w j p = subst (λ k. FromWords ts i (w ∷ []) k) (sym p.1) (part.last_word p.0)
+
     one_more : (i : ℕ) (w : Word) (j : ℕ) (ws : List Word) (k : ℕ) → (word_at ts i ≡ Some w) × (j ≡ i + 1) → Is ts j symbol.Comma → FromWords ts (j + 1) ws k → FromWords ts i (w ∷ ws) k
     one_more i w j ws k p c q = part.more_words p.0 (subst (λ x. Is ts x symbol.Comma) p.1 c) (subst (λ x. FromWords ts (x + 1) ws k) p.1 q)
 

@@ -35,8 +35,8 @@ clause_at ts s n i = choose (is_at ts i s) (quoted_at ts n (i + 1) >>= λ q. Som
 unfoldable pub modifies_item_at : List Token → ℕ → Option (Word × ℕ)
 modifies_item_at ts i =
     choose (is_quote_open_at ts i)
-      (name_at ts (i + 1) >>= λ w. choose (is_quote_close_at ts (i + 2)) (Some (w, i + 3)) None)
-      (name_at ts i >>= λ w. Some (w, i + 1))
+    (name_at ts (i + 1) >>= λ w. choose (is_quote_close_at ts (i + 2)) (Some (w, i + 3)) None)
+    (name_at ts i >>= λ w. Some (w, i + 1))
 
 -- words with commas between them, each read by a reader, no more than k
 unfoldable pub separated_at : List Token → (ℕ → Option (Word × ℕ)) → ℕ → ℕ → Option (List Word × ℕ)
@@ -104,8 +104,8 @@ spoken_at ts n i = label_at ts i >>= λ l. quoted_at ts n l.1 >>= λ q. words_af
 unfoldable pub target_at : List Token → ℕ → ℕ → Option (SpecPart × ℕ)
 target_at ts n i =
     choose (is_quote_open_at ts i)
-      (postfix_of ts (inside ts (length ts)) (i + 1) >>= λ t. choose (is_quote_close_at ts t.1) (Some (numbered ts i n t.0, t.1 + 1)) None)
-      (name_at ts i >>= λ w. Some (numbered ts i n (form.name (place_at ts i) w), i + 1))
+    (postfix_of ts (inside ts (length ts)) (i + 1) >>= λ t. choose (is_quote_close_at ts t.1) (Some (numbered ts i n t.0, t.1 + 1)) None)
+    (name_at ts i >>= λ w. Some (numbered ts i n (form.name (place_at ts i) w), i + 1))
 
 unfoldable pub ghost_at : List Token → ℕ → ℕ → Option (Found StmtTree)
 ghost_at ts n i = target_at ts n i >>= λ v. behind ts v.1 symbol.ColonEqual >>= λ a. quoted_at ts (n + 1) (v.1 + 1) >>= λ q.

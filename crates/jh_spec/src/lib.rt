@@ -1,8 +1,11 @@
 //! The parser of specifications.
 #![tactic(auto)]
 
+mod clauses;
 mod error;
 mod formulas;
 mod operators;
+mod part;
 
 pub use error::ParseError;
+pub use part::{SpecItem, SpecPart};
