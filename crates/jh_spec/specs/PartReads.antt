@@ -1,14 +1,12 @@
 -- What the readers of specifications answer, seen as trees.
-use Rattle.std.specs.Prelude.{ℕ, Option, option_map, Result, List, map, Bool}
-use Rattle.jh_name.specs.declared.place.Kind.{Kind}
-use Rattle.jh_ast.specs.declared.spec.SpecTree.{SpecTree}
+use Rattle.std.specs.Prelude.{ℕ, Option, option_map, Result, List}
 use Rattle.jh_ast.specs.declared.spec.Spec.{Spec}
 use Rattle.jh_ast.specs.declared.spec.Labelled.{Labelled}
 use Rattle.jh_ast.specs.declared.stmt.Stmt.{Stmt}
 use Rattle.jh_ast.specs.declared.word.Word.{Word}
 use Rattle.jh_lex.specs.declared.token.Token.{Token}
 use Rattle.jh_ast.specs.Bare.{spec_part, labelled_part, stmt_tree, var_part, def_part}
-use Rattle.jh_ast.specs.Forms.{FormTree, SpecPart, LabelledPart}
+use Rattle.jh_ast.specs.Forms.{SpecPart, LabelledPart}
 use Rattle.jh_ast.specs.Stmts.{StmtTree}
 use Rattle.jh_peek.specs.declared.error.ReadError.{ReadError}
 use Rattle.jh_peek.specs.Answers.{Gives}

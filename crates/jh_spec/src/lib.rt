@@ -6,6 +6,7 @@ mod error;
 mod formulas;
 mod operators;
 mod part;
+mod parts;
 
 pub use error::ParseError;
 pub use part::{SpecItem, SpecPart};
