@@ -2,13 +2,7 @@
 //! formulas as shared nodes of a table. All of it is made in the crates below and given out here.
 #![tactic(auto)]
 
-#[cfg(test)]
-mod examples;
 mod formulas;
-#[cfg(test)]
-mod table_tests;
-#[cfg(test)]
-mod tests;
 
 pub use formulas::Formulas;
 pub use jh_back::{MOST_LEVELS, MOST_NODES};

@@ -11,3 +11,5 @@ pub mod Passes
 pub mod SubstitutionRules
 pub mod Substituted
 pub mod Exchanges
+pub mod Fixed
+pub mod Alone

@@ -41,12 +41,16 @@ impl LeafRules for Opening {
 
     fn whole(
         &self,
-        _table: &mut Table,
-        _node: usize,
+        table: &mut Table,
+        node: usize,
         _shape: Shape,
-        _depth: u32,
+        depth: u32,
     ) -> Result<Option<usize>, NoMemory> {
-        Ok(None)
+        if table.loose(node) <= depth as u64 {
+            Ok(Some(node))
+        } else {
+            Ok(None)
+        }
     }
 
     ghost stays = { λ rules. opening-stays rules.with };

@@ -52,12 +52,16 @@ impl LeafRules for Substituting {
 
     fn whole(
         &self,
-        _table: &mut Table,
-        _node: usize,
+        table: &mut Table,
+        node: usize,
         _shape: Shape,
         _depth: u32,
     ) -> Result<Option<usize>, NoMemory> {
-        Ok(None)
+        if table.may_hold(node, self.name) {
+            Ok(None)
+        } else {
+            Ok(Some(node))
+        }
     }
 
     ghost stays = { λ rules. substituting-stays rules.name rules.leaf rules.value };

@@ -13,3 +13,7 @@ pub mod ShapeEq
 pub mod ShapeSorts
 pub mod Tables
 pub mod Unique
+pub mod ShapePasses
+pub mod ShapeClosed
+pub mod Weaker
+pub mod Faces

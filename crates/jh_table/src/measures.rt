@@ -1,11 +1,15 @@
-ghost use Rattle.std.specs.Prelude.{◌≡◌, ◌<◌, ◌-◌, ◌^◌, true, min, length, slice_get};
+ghost use Rattle.std.specs.Prelude.{◌≡◌, ◌<◌, ◌-◌, ◌^◌, true, false, not, Some, min, length, slice_get};
 ghost use Rattle.jh_walk.specs.Sizes.{value_size, value_depth};
 ghost use Rattle.jh_table.specs.Entries.{the_value};
-ghost use Rattle.jh_table.specs.Measures.{extent_of};
+ghost use Rattle.jh_table.specs.Measures.{AreFacts};
+ghost use Rattle.jh_table.specs.Facing.{IsLoose};
+ghost use Rattle.jh_tree.specs.Closed.{is_closed_value};
+ghost use Rattle.jh_tree.specs.Passing.{value_passes, name_equal};
+ghost use Rattle.jh_name.specs.declared.naming.Name.{Name};
 ghost use Rattle.jh_table.specs.Nodes.{nodes, fits_in, tree_in};
 
+use crate::facts::{Facts, NO_FACTS, above, has_bit, side};
 use crate::{Shape, Table};
-use jh_walk::{Extent, NOTHING, beside, over};
 
 impl Table {
     /// The number of nodes of a node's tree, each counted where it stands, or the greatest u64 where that is
@@ -14,7 +18,7 @@ impl Table {
         requires { node < length (nodes self.now) }
         ensures { result ≡ min (value_size (the_value (slice_get (nodes self.now) node))) (2 ^ 64 - 1) }
     {
-        self.nodes[node].nodes
+        self.nodes[node].extent.nodes
     }
 
     /// How deep a node's tree nests, or the greatest u64 where that is passed. It takes no memory and looks at
@@ -23,17 +27,43 @@ impl Table {
         requires { node < length (nodes self.now) }
         ensures { result ≡ min (value_depth (the_value (slice_get (nodes self.now) node))) (2 ^ 64 - 1) }
     {
-        self.nodes[node].depth
+        self.nodes[node].extent.depth
     }
 
-    pub(crate) fn measured(&self, shape: Shape) -> Extent
-        requires { fits_in self.now shape ≡ true }
-        ensures { result ≡ extent_of (tree_in self.now shape) }
+    /// The number of binders that a node needs around it: no bound variable of its tree is loose where
+    /// these stand around it, and one is where fewer do. It takes no memory and looks at one node alone.
+    pub fn loose(&self, node: usize) -> u64
+        requires { node < length (nodes self.now) }
+        ensures { IsLoose (λ d. is_closed_value (the_value (slice_get (nodes self.now) node)) d) result }
     {
-        let mut sum = NOTHING;
+        self.nodes[node].loose
+    }
+
+    /// Whether a node has no loose bound variable. It takes no memory and looks at one node alone.
+    pub fn is_closed(&self, node: usize) -> bool
+        requires { node < length (nodes self.now) }
+        ensures { result ≡ is_closed_value (the_value (slice_get (nodes self.now) node)) 0 }
+    {
+        self.loose(node) == 0
+    }
+
+    /// Whether a name of this number may stand free in a node's tree. Where the answer is no, it doesn't, at any sort.
+    pub fn may_hold(&self, node: usize, number: usize) -> bool
+        requires { node < length (nodes self.now) }
+        ensures { result ≡ false → (x : Name) → slice_get self.now.pools.names number ≡ Some x → value_passes (the_value (slice_get (nodes self.now) node)) (λ y s. not (name_equal y x)) ≡ true }
+    {
+        let _names = self.names.len();
+        has_bit(self.nodes[node].names, number)
+    }
+
+    pub(crate) fn measured(&self, shape: Shape) -> Facts
+        requires { fits_in self.now shape ≡ true }
+        ensures { AreFacts self.now.pools (tree_in self.now shape) result }
+    {
+        let mut sum = NO_FACTS;
         for index in 0..self.count(shape) {
-            sum = beside(sum, self.nodes[self.part(shape, index)]);
+            sum = side(sum, self.nodes[self.part(shape, index)]);
         }
-        over(sum)
+        above(shape, sum)
     }
 }

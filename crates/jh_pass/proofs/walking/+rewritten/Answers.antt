@@ -9,7 +9,7 @@ use Rattle.jh_pass.specs.Memos.{found}
 use Rattle.jh_pass.proofs.Rewritings.{all-grows, all-length, holds-grows, holds-notes, on-ok}
 use Rattle.jh_pass.proofs.Makings.{all-step, all-whole, still, remade-grown, made-rewritten, if-ok}
 use Rattle.jh_pass.proofs.PartRewritings.{Remade}
-use Rattle.jh_pass.proofs.Sorted.{whole-rewritten, whole-alone, below-grows}
+use Rattle.jh_pass.proofs.Sorted.{whole-alone, below-grows}
 use Rattle.jh_pass.proofs.walking.+rewritten.Goals as goal
 
 -- an answer that was known
@@ -38,11 +38,6 @@ rewritten_shape-returns-then-is_leaf-clause-memo g t c =
     on-ok
     c.leaf.result
     (holds-grows (g.R.LeafRules.ready c.args.rules.now) (g.R.LeafRules.rewriting c.args.rules.now) c.args.table.now c.leaf.new.table (found c.args.memo.now.answers) (g.met.R.LeafRules.stays c.args.rules.now) c.leaf.ensures.grows c.requires.memo)
-
-pub rewritten_shape-returns-in-Some-clause-node :
-    goal.rewritten_shape-returns-in-Some-clause-node
-rewritten_shape-returns-in-Some-clause-node g t c =
-    whole-rewritten c.args.table.now c.whole.new.table (g.R.LeafRules.rewriting c.args.rules.now c.whole.new.table) c.args.node c.args.depth c.in-Some.whole c.shape-shape.result c.whole.ensures.grows (search rules) c.shape-shape.ensures.tree (search rules)
 
 pub rewritten_shape-returns-in-Some-clause-memo :
     goal.rewritten_shape-returns-in-Some-clause-memo

@@ -1,10 +1,16 @@
-use Rattle.jh_table.specs.Nodes.{tree_in}
+use Rattle.std.proofs.Common.{slice_get}
+use Rattle.jh_table.specs.Entries.{the_value}
+use Rattle.jh_table.specs.Nodes.{nodes, tree_in}
+use Rattle.jh_table.proofs.Listed.{extends-refl}
+use Rattle.jh_pass.specs.Exchanging.{exchanging}
+use Rattle.jh_pass.proofs.Sorted.{whole-rewritten}
 use Rattle.jh_pass.proofs.Exchanges.{old-whole, other-whole}
 use Rattle.jh_pass.proofs.exchanging.ExchangingLeafRules.whole.Goals as goal
 
 pub returns-then-node-self-clause-node : goal.returns-then-node-self-clause-node
 returns-then-node-self-clause-node c =
-    old-whole c.args.table.now c.args.self.now.old c.args.self.now.new c.args._depth c.requires.ready c.args.node c.if-node-self.true
+    whole-rewritten c.args.table.now c.args.table.now (exchanging (the_value (slice_get (nodes c.args.table.now) c.args.self.now.old)) (the_value (slice_get (nodes c.args.table.now) c.args.self.now.new))) c.args.node c.args._depth c.args.self.now.new c.args._shape (extends-refl c.args.table.now) c.requires.inner c.requires.there
+    (old-whole c.args.table.now c.args.self.now.old c.args.self.now.new c.args._depth c.requires.ready c.args.node c.if-node-self.true)
 
 pub returns-else-node-self-clause-node : goal.returns-else-node-self-clause-node
 returns-else-node-self-clause-node c =

@@ -1,2 +1,0 @@
-pub mod Samples
-pub use Rattle.jh_subst.proofs.Substitutions
