@@ -1,5 +1,5 @@
 -- What is known of a table by its invariant, and that it stays.
-use Rattle.std.proofs.Common.{◌≡◌, refl, sym, ap, ◌∙◌, subst, ℕ, zero, suc, ◌+◌, ◌-◌, ◌^◌, ◌<◌, min, max, Bool, true, false, if◌then◌else◌, List, [], ◌∷◌, ◌++◌, length, length-append, map, take, slice_get, Some, None, is_some, arith}
+use Rattle.std.proofs.Common.{◌≡◌, refl, sym, ap, ◌∙◌, subst, ℕ, zero, suc, ◌+◌, ◌-◌, ◌^◌, ◌<◌, ◌≤◌, ◌⊎◌, inl, inr, min, max, Bool, true, false, if◌then◌else◌, List, [], ◌∷◌, ◌++◌, length, length-append, map, take, slice_get, Some, None, is_some, arith}
 use Rattle.std.specs.Prelude.{Option}
 use Rattle.std.specs.List.{list_any}
 use Rattle.std.specs.Option.{option_map}
@@ -186,6 +186,12 @@ values-push : {K X : Type 0} (es : List (K × X)) (k : K) (v : X) → values_of 
 values-push [] k v = refl
 values-push (e ∷ es) k v = ap (λ l. e.1 ∷ l) (values-push es k v)
 
+push-only : {X : Type 0} (xs : List X) (x : X) (n : ℕ) (v : X) → slice_get (xs ++ x ∷ []) n ≡ Some v → (slice_get xs n ≡ Some v) ⊎ (v ≡ x)
+push-only [] x zero v h = inr (cc)
+push-only [] x (suc n) v h = inl h
+push-only (y ∷ xs) x zero v h = inl h
+push-only (y ∷ xs) x (suc n) v h = push-only xs x n v h
+
 -- a table to which a new shape was added
 module _ (p : Pools) (es new : List (Shape × Facts)) (t : Listing) (view : record { pools = p; shapes = keys_of es } ≡ t) (is : IsTable p (keys_of es) (values_of es))
     (x : Shape) (e : Facts) (after : new ≡ es ++ (x, e) ∷ []) (f : fits_in t x ≡ true) where
@@ -214,6 +220,16 @@ module _ (p : Pools) (es new : List (Shape × Facts)) (t : Listing) (view : reco
       ∙ ap (λ l. slice_get (listed p [] l) (length (keys_of es))) new-keys
       ∙ pushed-tree p (keys_of es) (values_of es) is x fits-before
       ∙ ap (λ u. Some (tree_in u x)) view
+
+  pub made-only : (n : ℕ) (v : ValueTree) → slice_get (listed p [] (keys_of new)) n ≡ Some v → (slice_get (nodes t) n ≡ Some v) ⊎ (v ≡ tree_in t x)
+  made-only n v h =
+      let all = listed p [] (keys_of es) in
+      let whole : listed p [] (keys_of new) ≡ all ++ shape_tree p all x ∷ [] = ap (λ l. listed p [] l) new-keys ∙ listed-push p [] (keys_of es) x in
+      subst (λ (u : Listing). (slice_get (nodes u) n ≡ Some v) ⊎ (v ≡ tree_in u x)) view (push-only all (shape_tree p all x) n v (ap (λ l. slice_get l n) (sym whole) ∙ h))
+
+  pub made-one : length (listed p [] (keys_of new)) ≤ length (nodes t) + 1
+  made-one =
+      omega (arith, length-listed p [] (keys_of new), length-listed p [] (keys_of es), ap length new-keys, length-append (keys_of es) (x ∷ []), ap (λ u. length (nodes u)) view)
 
 pub none-found : {X : Type 0} (o : Option X) → false ≡ is_some o → o ≡ None
 none-found None h = refl

@@ -13,4 +13,5 @@ mod sorts;
 
 pub use facts::Facts;
 pub use listing::Table;
+pub use measures::MOST_LEVELS;
 pub use shapes::{Own, Shape};

@@ -1,4 +1,4 @@
-ghost use Rattle.std.specs.Prelude.{◌≡◌, ◌<◌, ◌-◌, ◌^◌, true, false, not, Some, min, length, slice_get};
+ghost use Rattle.std.specs.Prelude.{◌≡◌, ◌<◌, ◌≤◌, ◌-◌, ◌^◌, ◌↔◌, IsTrue, true, false, not, Some, min, length, slice_get};
 ghost use Rattle.jh_walk.specs.Sizes.{value_size, value_depth};
 ghost use Rattle.jh_table.specs.Entries.{the_value};
 ghost use Rattle.jh_table.specs.Measures.{AreFacts};
@@ -10,6 +10,9 @@ ghost use Rattle.jh_table.specs.Nodes.{nodes, fits_in, tree_in};
 
 use crate::facts::{Facts, NO_FACTS, above, has_bit, side};
 use crate::{Shape, Table};
+
+/// The deepest nesting of a tree over which a walk goes: as deep as the stack carries.
+pub const MOST_LEVELS: u64 = 10_001;
 
 impl Table {
     /// The number of nodes of a node's tree, each counted where it stands, or the greatest u64 where that is
@@ -30,6 +33,14 @@ impl Table {
         self.nodes[node].extent.depth
     }
 
+    /// Whether a node's tree nests at most MOST_LEVELS deep. It takes no memory and looks at one node alone.
+    pub fn is_shallow(&self, node: usize) -> bool
+        requires { node < length (nodes self.now) }
+        ensures { IsTrue result ↔ (value_depth (the_value (slice_get (nodes self.now) node)) ≤ 10001) }
+    {
+        self.depth(node) <= MOST_LEVELS
+    }
+
     /// The number of binders that a node needs around it: no bound variable of its tree is loose where
     /// these stand around it, and one is where fewer do. It takes no memory and looks at one node alone.
     pub fn loose(&self, node: usize) -> u64
@@ -47,7 +58,8 @@ impl Table {
         self.loose(node) == 0
     }
 
-    /// Whether a name of this number may stand free in a node's tree. Where the answer is no, it doesn't, at any sort.
+    /// Whether a name of this number may stand free in a node's tree. Where the answer is no, it doesn't, at
+    /// any sort. It takes no memory and looks at one node alone.
     pub fn may_hold(&self, node: usize, number: usize) -> bool
         requires { node < length (nodes self.now) }
         ensures { result ≡ false → (x : Name) → slice_get self.now.pools.names number ≡ Some x → value_passes (the_value (slice_get (nodes self.now) node)) (λ y s. not (name_equal y x)) ≡ true }
