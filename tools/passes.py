@@ -689,6 +689,73 @@ unfolding shape_tree free_shape""")
     return text.replace('{Sort}\nuse Rattle.jh_tree.specs.Tree.{Value', '{Sort}\nuse Rattle.jh_name.specs.declared.place.Sort.TheVariants as Sort\nuse Rattle.jh_tree.specs.Tree.{Value').replace('declared.place.Sort.{Sort}', 'declared.place.Sort as place').replace('(sort : Sort)', '(sort : place.Sort)')
 
 
+def exchanged_pairs():
+    """What an exchange answers is the tree with some occurrences exchanged."""
+    relation = {'T': 'TermsRelated', 'I': 'IntsRelated', 'S': 'SetsRelated', 'F': 'FieldsRelated', 'V': 'ValuesRelated', 'P': 'FormulasRelated', 'L': 'ListsRelated'}
+    here = {'T': 'term_here', 'I': 'int_here', 'S': 'set_here', 'F': 'field_here', 'P': 'formula_here'}
+    wraps = {'T': 'of_object', 'I': 'of_number', 'S': 'of_set', 'F': 'of_field', 'P': 'of_truth'}
+    taken = {'T': 'object_or', 'I': 'number_or', 'S': 'set_or', 'F': 'field_or', 'P': 'truth_or'}
+    out = [f"""-- Written by tools/passes.py: what an exchange answers is the tree with some occurrences exchanged.
+use Rattle.std.proofs.Common.{{◌≡◌, refl, sym, ℕ, ◌+◌, Bool, true, false, if◌then◌else◌, Option, Some, None}}
+use Rattle.jh_tree.specs.Tree.{{{TREES}}}
+use Rattle.jh_tree.specs.Tree as t
+use Rattle.jh_compare.specs.Exchanged.{{equal_trees}}
+use Rattle.jh_compare.specs.Related.{{{', '.join(relation[c] for c in ORDER + 'L')}}}
+use Rattle.jh_compare.specs.Related as r
+use Rattle.jh_compare.proofs.Equalities.{{equal_trees-true}}
+use Rattle.jh_pass.specs.Exchanging.{{new_for, exchanging}}
+use Rattle.jh_pass.specs.Rewritten.{{{', '.join(taken[c] for c in 'TISFP')}, {', '.join('rewritten_' + fn_of(c) for c in ORDER + 'L')}}}
+
+module _ (old new : ValueTree) where
+  abbrev pub Pair : ValueTree → ValueTree → Type 0
+  Pair u v = (u ≡ old) × (v ≡ new)
+
+  chosen-pair : (v w : ValueTree) (b : Bool) → equal_trees v old ≡ b → (if b then Some new else None) ≡ Some w → Pair v w
+  chosen-pair v w true is q = (equal_trees-true v old is, cc)
+  chosen-pair v w false is q = absurd (cc)
+
+  pair-of : (v w : ValueTree) → new_for old new v ≡ Some w → Pair v w
+  pair-of v w q = chosen-pair v w (equal_trees v old) refl q
+"""]
+    for c in 'TISFP':
+        out.append(f"""
+  {SORT[c]}-here : (o : Option ValueTree) (a b : {tree_type(c)}) → ((w : ValueTree) → o ≡ Some w → Pair (t.{wraps[c]} a) w) → {relation[c]} Pair a b → {relation[c]} Pair a ({taken[c]} o b)
+  unfolding {taken[c]}
+  {SORT[c]}-here (Some (t.{wraps[c]} x)) a b h k = r.{here[c]} a x (h (t.{wraps[c]} x) refl)
+  {SORT[c]}-here _ a b h k = k""")
+    out.append(f"""
+  mutual
+    unfolding {' '.join('rewritten_' + fn_of(c) for c in ORDER + 'L')}
+""")
+    for c in ORDER + 'L':
+        f = f"{fn_of(c)}-exchanged"
+        out.append(f"    pub {f} : (a : {tree_type(c)}) (d : ℕ) → {relation[c]} Pair a (rewritten_{fn_of(c)} a (exchanging old new) d)")
+        variants = [(None, 'none', []), (None, 'more', ['F', 'L'])] if c == 'L' else TYPES[c][3]
+        for _, ctor, kinds in variants:
+            ns = ['f', 'fs'] if ctor == 'more' else names(kinds)
+            tree = apply('t.' + ctor, ns)
+            args, parts, news = [], [], []
+            for k, n in zip(kinds, ns):
+                if not is_part(k):
+                    args.append(n)
+                    news.append(n)
+                    continue
+                depth = '(d + 1)' if k.endswith('+') else 'd'
+                made = f"(rewritten_{fn_of(core(k))} {n} (exchanging old new) {depth})"
+                args += [n, made]
+                news.append(made)
+                parts.append(f"({fn_of(core(k))}-exchanged {n} {depth})")
+            rel = f"r.{ctor} {' '.join(args + parts)}" if args + parts else f"r.{ctor}"
+            if c in 'VL' or ctor == 'bound':
+                out.append(f"    {f} {tree} d = {rel}")
+                continue
+            whole = f"(t.{wraps[c]} {tree})"
+            after = f"(t.{ctor} {' '.join(news)})" if news else f"t.{ctor}"
+            out.append(f"    {f} {tree} d = {SORT[c]}-here (new_for old new {whole}) {tree} {after} (pair-of {whole}) ({rel})")
+        out.append('')
+    return '\n'.join(out)
+
+
 if __name__ == '__main__':
     with open(os.path.join(HERE, 'proofs', 'SubstitutionRules.antt'), 'w') as out:
         out.write(substitution())
@@ -704,3 +771,5 @@ if __name__ == '__main__':
         out.write(sort_lemmas())
     with open(os.path.join(HERE, 'proofs', 'Remakes.antt'), 'w') as out:
         out.write(remakes())
+    with open(os.path.join(HERE, 'proofs', 'Exchanged.antt'), 'w') as out:
+        out.write(exchanged_pairs())

@@ -10,6 +10,7 @@ pub mod Passings
 pub mod Passes
 pub mod SubstitutionRules
 pub mod Substituted
+pub mod Exchanged
 pub mod Exchanges
 pub mod Fixed
 pub mod Alone

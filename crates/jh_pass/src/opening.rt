@@ -80,7 +80,9 @@ fn bound(
 }
 
 /// The node of a binder's body with the term at `with` for the binder's own variable, which has number
-/// 0 outside all inner binders. The numbers of the loose bound variables beyond it fall by one.
+/// 0 outside all inner binders. The numbers of the loose bound variables beyond it fall by one. Parts without
+/// loose bound variables are left alone. The answer is want of memory where the body nests deeper than
+/// MOST_LEVELS.
 pub fn open(table: &mut Table, body: usize, with: usize) -> Result<usize, NoMemory>
     requires body { is_truth (slice_get (nodes table.old) body) ≡ true }
     requires with { is_object (slice_get (nodes table.old) with) ≡ true }

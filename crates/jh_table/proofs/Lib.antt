@@ -5,6 +5,7 @@ pub mod Growing
 pub mod Keys
 pub mod Listed
 pub mod Lists
+pub mod Named
 pub mod NodeSteps
 pub mod PartSteps
 pub mod Places
