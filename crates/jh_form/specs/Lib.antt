@@ -14,8 +14,10 @@ pub use Rattle.jh_subst.specs.Opened
 pub use Rattle.jh_subst.specs.Substituted
 pub use Rattle.jh_compare.specs.Related
 pub use Rattle.jh_compare.specs.Exchanged
+pub use Rattle.jh_compare.specs.Inside
 pub use Rattle.jh_compare.specs.Unmarked
 pub use Rattle.jh_table.specs.Entries
+pub use Rattle.jh_table.specs.Facing
 pub use Rattle.jh_table.specs.Growth
 pub use Rattle.jh_table.specs.Nodes
 pub use Rattle.jh_door.specs.Entered

@@ -5,11 +5,14 @@
 mod formulas;
 
 pub use formulas::Formulas;
-pub use jh_back::{MOST_LEVELS, MOST_NODES};
+pub use jh_back::{
+    MOST_NODES, boxed_field, boxed_formula, boxed_int, boxed_set, boxed_term, value,
+};
 pub use jh_compare::{exchange_keeps_meaning, replaces, same};
+pub use jh_door::{enter, enter_field, enter_formula, enter_int, enter_set, enter_term};
 pub use jh_pass::{LeafRules, walked};
 pub use jh_subst::{FormFault, StandsOnlyAt, open, sort_of, subst};
-pub use jh_table::{Own, Shape, Table};
+pub use jh_table::{Facts, MOST_LEVELS, Own, Shape, Table};
 pub use jh_tree::{
     FieldTerm, Formula, IntTerm, Mark, MarkKind, SetTerm, Term, Value, closed_means_the_same,
     names_decide_meaning,

@@ -1,5 +1,5 @@
 -- A part in which nothing can change is left alone.
-use Rattle.std.proofs.Common.{◌≡◌, refl, sym, ap, ◌∙◌, ℕ, ◌-◌, ◌<◌, ◌≤◌, ◌==◌, nat_lt, Bool, true, false, not, if◌then◌else◌, List, slice_get, Option, Some, None, is_some}
+use Rattle.std.proofs.Common.{◌≡◌, refl, sym, ap, ◌∙◌, ℕ, ◌-◌, ◌≤◌, ◌==◌, nat_lt, Bool, true, false, not, if◌then◌else◌, List, slice_get, Option, Some, None, is_some}
 use Rattle.std.proofs.lemmas.Bool.{true≢false, lt-ltb}
 use Rattle.jh_name.specs.declared.naming.Name.{Name}
 use Rattle.jh_tree.specs.Tree.{TermTree, ValueTree, of_object, of_number, of_truth, of_set, of_field}
@@ -7,9 +7,9 @@ use Rattle.jh_tree.specs.Tree as t
 use Rattle.jh_tree.specs.Closed.{is_closed_value}
 use Rattle.jh_tree.specs.Passing.{value_passes, name_equal}
 use Rattle.jh_subst.specs.Opened.{opening}
-use Rattle.jh_subst.specs.Substituted.{substituting}
+use Rattle.jh_subst.specs.Substituted.{substituting, substituted}
 use Rattle.jh_walk.specs.Mapped.{LeafMap, mapped_value}
-use Rattle.jh_table.specs.Entries.{the_value, the_name}
+use Rattle.jh_table.specs.Entries.{the_value, the_name, the_truth, is_truth}
 use Rattle.jh_table.specs.Facing.{IsLoose}
 use Rattle.jh_pass.specs.Rewritten.{leaves_alone}
 use Rattle.jh_pass.specs.Walks.{IsRewritten}
@@ -52,3 +52,9 @@ pub name-listed : (o : Option Name) → is_some o ≡ true → o ≡ Some (the_n
 unfolding the_name
 name-listed (Some x) h = refl
 name-listed None h = absurd (true≢false (sym h))
+
+-- a name that stands nowhere changes nothing where it is substituted
+pub nowhere-substituted : (o : Option ValueTree) (x : Name) (w : ValueTree) → is_truth o ≡ true → value_passes (the_value o) (λ y s. not (name_equal y x)) ≡ true → o ≡ Some (of_truth (substituted (the_truth o) x w))
+unfolding is_truth the_truth the_value mapped_value
+nowhere-substituted (Some (of_truth a)) x w h g = ap (λ z. Some z) (sym (value-kept (substituting x w) (λ y s. not (name_equal y x)) (substituting-fixes x w) (of_truth a) 0 g))
+nowhere-substituted _ x w h g = absurd (true≢false (sym h))

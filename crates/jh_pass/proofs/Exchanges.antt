@@ -1,5 +1,5 @@
 -- The rules of an exchange, over a table, and that it keeps the meaning.
-use Rattle.std.proofs.Common.{◌≡◌, refl, sym, ap, ◌∙◌, ℕ, nat_lt, Bool, true, false, if◌then◌else◌, List, [], length, slice_get, Option, Some, None, is_some, arith}
+use Rattle.std.proofs.Common.{◌≡◌, refl, sym, ap, ◌∙◌, ℕ, nat_lt, Bool, true, false, if◌then◌else◌, List, [], slice_get, Option, Some, None, arith}
 use Rattle.std.proofs.lemmas.Bool.{true≢false}
 use Rattle.std.proofs.lemmas.Bool.Decides.{nat_tests}
 use Rattle.jh_tree.specs.Tree.{ValueTree, FormulaTree, of_object, of_number, of_truth, of_set, of_field}

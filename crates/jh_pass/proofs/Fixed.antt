@@ -1,9 +1,8 @@
 -- A tree whose leaves a map of leaves fixes stays as it is.
-use Rattle.std.proofs.Common.{◌≡◌, refl, sym, ap, ◌∙◌, ℕ, ◌+◌, Bool, true, ◌&&◌, nat_lt}
+use Rattle.std.proofs.Common.{◌≡◌, refl, ℕ, ◌+◌, Bool, true, ◌&&◌}
 use Rattle.std.proofs.lemmas.Bool.{ltb-true}
 use Rattle.jh_name.specs.declared.naming.Name.{Name}
 use Rattle.jh_name.specs.declared.place.Sort as place
-use Rattle.jh_name.specs.declared.place.Sort.TheVariants as Sort
 use Rattle.jh_tree.specs.Tree.{TermTree, IntTree, SetTree, FieldTree, ValueTree, FormulaTree, FieldTrees}
 use Rattle.jh_tree.specs.Tree as t
 use Rattle.jh_tree.specs.Closed.{is_closed_term, is_closed_int, is_closed_set, is_closed_field, is_closed_value, is_closed_formula, is_closed_fields}

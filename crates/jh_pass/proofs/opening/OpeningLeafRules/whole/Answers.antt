@@ -1,4 +1,4 @@
-use Rattle.std.proofs.Common.{slice_get, ◌≤◌, arith}
+use Rattle.std.proofs.Common.{slice_get, arith}
 use Rattle.jh_table.specs.Entries.{the_object}
 use Rattle.jh_table.specs.Nodes.{nodes, tree_in}
 use Rattle.jh_pass.proofs.Alone.{lacks-loose}

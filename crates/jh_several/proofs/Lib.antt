@@ -1,0 +1,5 @@
+mod Both
+mod Fixes
+mod Leaves
+mod Meanings
+mod Rules

@@ -1,0 +1,8 @@
+//! Several names substituted in one walk over a table.
+#![tactic(auto)]
+
+mod pairs;
+mod several;
+
+pub use pairs::{Instead, instead};
+pub use several::subst_several;
