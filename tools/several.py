@@ -178,52 +178,52 @@ use Rattle.jh_several.specs.Pairs.{pairs_in, AreReady, chosen_of}
 use Rattle.jh_several.specs.Several.{object_in, number_in, truth_in, set_in, field_in, instead}
 use Rattle.jh_several.proofs.Fixes.{object-taken, object-passed, number-taken, number-passed, truth-taken, truth-passed, set-taken, set-passed, field-taken, field-passed, bound-taken}
 
-module _ (t : Listing) (differ : AreDifferent (nodes t)) (n : ℕ) where
+module _ (u : Listing) (differ : AreDifferent (nodes u)) (n : ℕ) where
   -- the leaf of a pair is the node exactly where both are one tree
   abbrev leaf_tree : Instead → ValueTree
-  leaf_tree p = free_value (the_name (slice_get t.pools.names p.name)) (the_value (slice_get (nodes t) p.value))
+  leaf_tree p = free_value (the_name (slice_get u.pools.names p.name)) (the_value (slice_get (nodes u) p.value))
 """]
     for s in SORTS:
         tree = f"of_{s} (t.free_{s} y)"
-        out.append(f"""  {s}-step : (y : Name) (p : Instead) (ps : List Instead) (b : Bool) → (p.leaf == n) ≡ b → AreReady t (p ∷ ps) → slice_get (nodes t) n ≡ Some ({tree}) →
-      slice_get (nodes t) (chosen_of ps n) ≡ Some (of_{s} ({s}_in (pairs_in t ps) y)) → slice_get (nodes t) (if b then p.value else chosen_of ps n) ≡ Some (of_{s} ({s}_in (pairs_in t (p ∷ ps)) y))
+        out.append(f"""  {s}-step : (y : Name) (p : Instead) (ps : List Instead) (b : Bool) → (p.leaf == n) ≡ b → AreReady u (p ∷ ps) → slice_get (nodes u) n ≡ Some ({tree}) →
+      slice_get (nodes u) (chosen_of ps n) ≡ Some (of_{s} ({s}_in (pairs_in u ps) y)) → slice_get (nodes u) (if b then p.value else chosen_of ps n) ≡ Some (of_{s} ({s}_in (pairs_in u (p ∷ ps)) y))
   {s}-step y p ps true is ready there rest =
-      let at : slice_get (nodes t) n ≡ Some (leaf_tree p) = ap (slice_get (nodes t)) (sym (eqb-true p.leaf n is)) ∙ ready.0.free in
+      let at : slice_get (nodes u) n ≡ Some (leaf_tree p) = ap (slice_get (nodes u)) (sym (eqb-true p.leaf n is)) ∙ ready.0.free in
       let same : leaf_tree p ≡ {tree} = cc (at, there) in
-      value-listed (slice_get (nodes t) p.value) ready.0.valued ∙ ap (λ v. Some v) (sym ({s}-taken y (the_name (slice_get t.pools.names p.name)) (the_value (slice_get (nodes t) p.value)) (pairs_in t ps) same))
+      value-listed (slice_get (nodes u) p.value) ready.0.valued ∙ ap (λ v. Some v) (sym ({s}-taken y (the_name (slice_get u.pools.names p.name)) (the_value (slice_get (nodes u) p.value)) (pairs_in u ps) same))
   {s}-step y p ps false is ready there rest =
       let away : p.leaf ≡ n → ⊥ = eqb-false p.leaf n is in
-      rest ∙ ap (λ a. Some (of_{s} a)) (sym ({s}-passed y (the_name (slice_get t.pools.names p.name)) (the_value (slice_get (nodes t) p.value)) (pairs_in t ps)
+      rest ∙ ap (λ a. Some (of_{s} a)) (sym ({s}-passed y (the_name (slice_get u.pools.names p.name)) (the_value (slice_get (nodes u) p.value)) (pairs_in u ps)
       (λ e. away (differ p.leaf n ({tree}) (ready.0.free ∙ ap (λ v. Some v) e) there))))
 
-  {s}-chosen : (y : Name) (ps : List Instead) → AreReady t ps → slice_get (nodes t) n ≡ Some ({tree}) → slice_get (nodes t) (chosen_of ps n) ≡ Some (of_{s} ({s}_in (pairs_in t ps) y))
+  {s}-chosen : (y : Name) (ps : List Instead) → AreReady u ps → slice_get (nodes u) n ≡ Some ({tree}) → slice_get (nodes u) (chosen_of ps n) ≡ Some (of_{s} ({s}_in (pairs_in u ps) y))
   {s}-chosen y [] ready there = there
   {s}-chosen y (p ∷ ps) ready there = {s}-step y p ps (p.leaf == n) refl ready there ({s}-chosen y ps ready.1 there)
 """)
-    out.append("""  bound-step : (k : ℕ) (p : Instead) (ps : List Instead) (b : Bool) → (p.leaf == n) ≡ b → AreReady t (p ∷ ps) → slice_get (nodes t) n ≡ Some (of_object (t.bound k)) →
-      slice_get (nodes t) (chosen_of ps n) ≡ Some (of_object (t.bound k)) → slice_get (nodes t) (if b then p.value else chosen_of ps n) ≡ Some (of_object (t.bound k))
+    out.append("""  bound-step : (k : ℕ) (p : Instead) (ps : List Instead) (b : Bool) → (p.leaf == n) ≡ b → AreReady u (p ∷ ps) → slice_get (nodes u) n ≡ Some (of_object (t.bound k)) →
+      slice_get (nodes u) (chosen_of ps n) ≡ Some (of_object (t.bound k)) → slice_get (nodes u) (if b then p.value else chosen_of ps n) ≡ Some (of_object (t.bound k))
   bound-step k p ps true is ready there rest =
-      let at : slice_get (nodes t) n ≡ Some (leaf_tree p) = ap (slice_get (nodes t)) (sym (eqb-true p.leaf n is)) ∙ ready.0.free in
+      let at : slice_get (nodes u) n ≡ Some (leaf_tree p) = ap (slice_get (nodes u)) (sym (eqb-true p.leaf n is)) ∙ ready.0.free in
       let same : leaf_tree p ≡ of_object (t.bound k) = cc (at, there) in
-      absurd (bound-taken k (the_name (slice_get t.pools.names p.name)) (the_value (slice_get (nodes t) p.value)) same)
+      absurd (bound-taken k (the_name (slice_get u.pools.names p.name)) (the_value (slice_get (nodes u) p.value)) same)
   bound-step k p ps false is ready there rest = rest
 
-  bound-chosen : (k : ℕ) (ps : List Instead) → AreReady t ps → slice_get (nodes t) n ≡ Some (of_object (t.bound k)) → slice_get (nodes t) (chosen_of ps n) ≡ Some (of_object (t.bound k))
+  bound-chosen : (k : ℕ) (ps : List Instead) → AreReady u ps → slice_get (nodes u) n ≡ Some (of_object (t.bound k)) → slice_get (nodes u) (chosen_of ps n) ≡ Some (of_object (t.bound k))
   bound-chosen k [] ready there = there
   bound-chosen k (p ∷ ps) ready there = bound-step k p ps (p.leaf == n) refl ready there (bound-chosen k ps ready.1 there)
 
-  put-for : (x : Shape) (ps : List Instead) (d : ℕ) → is_leaf x ≡ true → AreReady t ps → slice_get (nodes t) n ≡ Some (tree_in t x) →
-      slice_get (nodes t) (chosen_of ps n) ≡ Some (rewritten_value (tree_in t x) (leaves_alone (instead (pairs_in t ps))) d)
+  put-for : (x : Shape) (ps : List Instead) (d : ℕ) → is_leaf x ≡ true → AreReady u ps → slice_get (nodes u) n ≡ Some (tree_in u x) →
+      slice_get (nodes u) (chosen_of ps n) ≡ Some (rewritten_value (tree_in u x) (leaves_alone (instead (pairs_in u ps))) d)
   unfolding is_leaf shape_tree rewritten_value rewritten_term rewritten_int rewritten_set rewritten_field rewritten_formula
   put-for (s.Bound k) ps d leaf ready there = bound-chosen k ps ready there""")
     for s in SORTS:
-        out.append(f"  put-for (s.{shape[s]} k) ps d leaf ready there = {s}-chosen (the_name (slice_get t.pools.names k)) ps ready there")
+        out.append(f"  put-for (s.{shape[s]} k) ps d leaf ready there = {s}-chosen (the_name (slice_get u.pools.names k)) ps ready there")
     out.append("""  put-for _ ps d leaf ready there = absurd (true≢false (sym leaf))
 
-  pub leaf-put : (x : Shape) (ps : List Instead) (d : ℕ) → is_leaf x ≡ true → AreReady t ps → slice_get (nodes t) n ≡ Some (tree_in t x) →
-      IsRewritten (leaves_alone (instead (pairs_in t ps))) (nodes t) n d (chosen_of ps n)
+  pub leaf-put : (x : Shape) (ps : List Instead) (d : ℕ) → is_leaf x ≡ true → AreReady u ps → slice_get (nodes u) n ≡ Some (tree_in u x) →
+      IsRewritten (leaves_alone (instead (pairs_in u ps))) (nodes u) n d (chosen_of ps n)
   leaf-put x ps d leaf ready there =
-      exchanged-rewritten (nodes t) (leaves_alone (instead (pairs_in t ps))) n d (chosen_of ps n) (tree_in t x) (rewritten_value (tree_in t x) (leaves_alone (instead (pairs_in t ps))) d) there (put-for x ps d leaf ready there) refl""")
+      exchanged-rewritten (nodes u) (leaves_alone (instead (pairs_in u ps))) n d (chosen_of ps n) (tree_in u x) (rewritten_value (tree_in u x) (leaves_alone (instead (pairs_in u ps))) d) there (put-for x ps d leaf ready there) refl""")
     return '\n'.join(out) + '\n'
 
 

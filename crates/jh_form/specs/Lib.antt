@@ -25,3 +25,9 @@ pub use Rattle.jh_back.specs.Room
 pub use Rattle.jh_pass.specs.Rewritten
 pub use Rattle.jh_pass.specs.Exchanging
 pub use Rattle.jh_pass.specs.Walks
+pub use Rattle.jh_make.specs.Joined
+pub use Rattle.jh_rebuild.specs.Built
+pub use Rattle.jh_rebuild.specs.Sound
+pub use Rattle.jh_rebuild.specs.Walking
+pub use Rattle.jh_several.specs.Several
+pub use Rattle.jh_several.specs.Pairs

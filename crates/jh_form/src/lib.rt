@@ -10,7 +10,17 @@ pub use jh_back::{
 };
 pub use jh_compare::{exchange_keeps_meaning, replaces, same};
 pub use jh_door::{enter, enter_field, enter_formula, enter_int, enter_set, enter_term};
+pub use jh_make::{
+    all_objects, at_most, bound, cardinality, complement, comprehension, conjunction,
+    conjunction_of, constant, difference, disjunction, divides, empty_set, equivalence, falsehood,
+    for_all, for_some, free_field, free_number, free_object, free_set, free_truth, implication,
+    intersection, labelled, less, member, multiple, negation, negative, null, read_number,
+    read_object, read_set, read_truth, same_number, same_object, same_set, set_difference,
+    singleton, subset, sum, truth, union_of, update,
+};
 pub use jh_pass::{LeafRules, walked};
+pub use jh_rebuild::{BuildRules, Polarity, rebuild};
+pub use jh_several::{Instead, replacement, subst_several};
 pub use jh_subst::{FormFault, StandsOnlyAt, open, sort_of, subst};
 pub use jh_table::{Facts, MOST_LEVELS, Own, Shape, Table};
 pub use jh_tree::{

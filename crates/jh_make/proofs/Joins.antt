@@ -1,5 +1,5 @@
 -- Lists of formulas that are joined from their end.
-use Rattle.std.proofs.Common.{◌≡◌, refl, sym, ap, ◌∙◌, ℕ, zero, suc, ◌+◌, ◌<◌, true, ◌&&◌, List, [], ◌∷◌, drop, length, slice_get, Option, Some, None, is_some, add-one, arith}
+use Rattle.std.proofs.Common.{◌≡◌, refl, sym, ap, ◌∙◌, ℕ, zero, suc, ◌+◌, ◌<◌, true, List, [], ◌∷◌, drop, length, slice_get, slice_index_or, Option, Some, add-one, arith}
 use Rattle.std.proofs.lemmas.Bool.{true≢false}
 use Rattle.jh_tree.specs.Tree.{ValueTree, FormulaTree, of_truth}
 use Rattle.jh_tree.specs.Tree as t
@@ -44,3 +44,23 @@ step-of ts (m ∷ k ∷ ns) (suc i) n e h = step-of ts (k ∷ ns) i n (omega ari
 pub joined-step : (ts : List ValueTree) (ns : List ℕ) (i n : ℕ) → i + 1 < length ns → slice_get ns i ≡ Some n →
     t.and (the_truth (slice_get ts n)) (joined (truths_at ts (drop (i + 1) ns))) ≡ joined (truths_at ts (drop i ns))
 joined-step ts ns i n e h = ap (λ j. t.and (the_truth (slice_get ts n)) (joined (truths_at ts (drop j ns)))) (add-one i) ∙ sym (step-of ts ns i n (omega arith) h)
+
+-- one more formula, where the table grew
+pub joined-more : (s u v : Listing) (ns : List ℕ) (i n m r : ℕ) → Extends s u → are_truths (nodes s) ns ≡ true → i + 1 < length ns → slice_get ns i ≡ Some n →
+    slice_get (nodes u) m ≡ Some (of_truth (joined (truths_at (nodes s) (drop (i + 1) ns)))) →
+    slice_get (nodes v) r ≡ Some (of_truth (t.and (the_truth (slice_get (nodes u) n)) (the_truth (slice_get (nodes u) m)))) →
+    slice_get (nodes v) r ≡ Some (of_truth (joined (truths_at (nodes s) (drop i ns))))
+unfolding the_truth
+joined-more s u v ns i n m r g h lt at there made =
+    made
+    ∙ (λ k. Some (of_truth (t.and (the_truth (truth-stays s u n g (truth-at (nodes s) ns i n h at) k)) (the_truth (there k)))))
+    ∙ ap (λ a. Some (of_truth a)) (joined-step (nodes s) ns i n lt at)
+
+pub truth-there : (o : Option ValueTree) (a : FormulaTree) → o ≡ Some (of_truth a) → is_truth o ≡ true
+unfolding is_truth
+truth-there o a e = ap is_truth e
+
+pub at-index : (ns : List ℕ) (i d : ℕ) → i < length ns → slice_get ns i ≡ Some (slice_index_or ns i d)
+at-index [] i d lt = absurd (omega arith)
+at-index (m ∷ ns) zero d lt = refl
+at-index (m ∷ ns) (suc i) d lt = at-index ns i d (omega arith)

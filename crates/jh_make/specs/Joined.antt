@@ -8,7 +8,7 @@ use Rattle.jh_table.specs.Entries.{is_truth, the_truth}
 abbrev pub joined : List FormulaTree → FormulaTree
 joined [] = t.true_formula
 joined (a ∷ []) = a
-joined (a ∷ b ∷ as) = t.and a (joined (b ∷ as))
+joined (a ∷ b ∷ rest) = t.and a (joined (b ∷ rest))
 
 -- whether each of these nodes is a formula
 abbrev pub are_truths : List ValueTree → List ℕ → Bool

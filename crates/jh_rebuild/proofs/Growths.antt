@@ -1,8 +1,8 @@
 -- Answers of the walk from below, while the table grows.
-use Rattle.std.proofs.Common.{◌≡◌, refl, sym, ap, subst, ◌∙◌, ℕ, zero, suc, ◌+◌, ◌<◌, ◌≤◌, true, false, List, [], ◌∷◌, ◌++◌, length, slice_get, slice_index, Option, Some, None, is_some, option_map, take, arith, length-append, add-one}
+use Rattle.std.proofs.Common.{◌≡◌, refl, sym, ap, subst, ◌∙◌, ℕ, zero, suc, ◌+◌, ◌<◌, ◌≤◌, true, false, List, [], ◌∷◌, ◌++◌, length, slice_get, Option, Some, None, is_some, option_map, take, arith, length-append, add-one}
 use Rattle.std.proofs.lemmas.List.{take_all}
 use Rattle.jh_tree.specs.Tree.{ValueTree}
-use Rattle.jh_table.specs.Entries.{Listing, Pools, the_value}
+use Rattle.jh_table.specs.Entries.{Listing, the_value}
 use Rattle.jh_table.specs.Growth.{Grows, Extends}
 use Rattle.jh_table.specs.Nodes.{nodes, fits_in, tree_in}
 use Rattle.jh_table.specs.Parts.{parts, list_parts, own_parts, has_list, put, IsPut}
@@ -10,9 +10,8 @@ use Rattle.jh_table.specs.declared.shapes.Shape.{Shape}
 use Rattle.jh_table.specs.declared.shapes.Shape.TheVariants as s
 use Rattle.jh_table.proofs.Listed.{tree-grows, fits-grows, parts-grows, extends-trans}
 use Rattle.jh_pass.specs.Staying.{grown}
-use Rattle.jh_pass.proofs.Sorted.{within-some, value-listed}
+use Rattle.jh_pass.proofs.Sorted.{within-some}
 use Rattle.jh_rebuild.specs.declared.polarity.Polarity.{Polarity}
-use Rattle.jh_rebuild.specs.declared.polarity.Polarity.TheVariants as pol
 use Rattle.jh_rebuild.specs.Built.{Rule}
 use Rattle.jh_rebuild.specs.Walking.{built_at, applied, sign, IsBuilt, AllBuilt}
 use Rattle.jh_rebuild.proofs.Rebuilds.{Rebuilt, rebuilt, built-there}

@@ -1,12 +1,12 @@
 -- What the walk makes of a formula may stand for it.
-use Rattle.std.proofs.Common.{◌≡◌, sym, ap, subst, true, Some, Option, List, ℕ, Bool}
+use Rattle.std.proofs.Common.{◌≡◌, sym, subst, Some, Option}
 use Rattle.std.proofs.lemmas.Bool.{true≢false}
 use Rattle.jh_tree.specs.Tree.{ValueTree, of_truth}
 use Rattle.jh_tree.specs.Meaning.{truth}
 use Rattle.jh_table.specs.Entries.{is_truth, the_truth, the_value}
 use Rattle.jh_rebuild.specs.declared.polarity.Polarity.{Polarity}
-use Rattle.jh_rebuild.specs.Built.{Rule, built_formula}
-use Rattle.jh_rebuild.specs.Sound.{Sound, StandsIn, MayStand}
+use Rattle.jh_rebuild.specs.Built.{Rule}
+use Rattle.jh_rebuild.specs.Sound.{StandsIn, MayStand}
 use Rattle.jh_rebuild.specs.Walking.{built_at}
 use Rattle.jh_rebuild.proofs.Stands.{truth-built}
 

@@ -1,11 +1,11 @@
 -- A shape over the answers for its parts, where the rule is put to it.
-use Rattle.std.proofs.Common.{◌≡◌, refl, sym, ap, subst, ◌∙◌, ℕ, zero, suc, ◌+◌, true, false, ◌&&◌, List, [], ◌∷◌, ◌++◌, length, slice_get, slice_index, Option, Some, None, is_some, option_map, arith}
+use Rattle.std.proofs.Common.{◌≡◌, refl, sym, ap, subst, ◌∙◌, ℕ, suc, true, false, ◌&&◌, List, [], ◌∷◌, slice_get, slice_index, Option, Some, None, is_some, option_map}
 use Rattle.std.proofs.lemmas.Bool.{true≢false}
 use Rattle.std.specs.Cmp.Derive.{both_true}
 use Rattle.jh_tree.specs.Tree.{ValueTree, of_object, of_number, of_truth, of_set, of_field, more}
 use Rattle.jh_tree.specs.Tree as t
 use Rattle.jh_tree.proofs.ClosedLemmas.{both-left, both-right}
-use Rattle.jh_table.specs.Entries.{Pools, the_list, the_mark, the_name, is_object, is_number, is_truth, is_set, is_field, the_object, the_number, the_truth, the_set, the_field, the_value, are_fields, fields_at}
+use Rattle.jh_table.specs.Entries.{Pools, the_list, the_mark, is_object, is_number, is_truth, is_set, is_field, the_object, the_number, the_truth, the_set, the_field, the_value, are_fields, fields_at}
 use Rattle.jh_table.specs.Nodes.{fits, shape_tree}
 use Rattle.jh_table.specs.Parts.{own_parts, list_parts, has_list, put}
 use Rattle.jh_table.specs.declared.shapes.Shape.{Shape}

@@ -2,7 +2,6 @@
 use Rattle.std.proofs.Common.{◌≡◌, refl, Bool, true, ◌&&◌}
 use Rattle.jh_name.specs.declared.naming.Name.{Name}
 use Rattle.jh_name.specs.declared.place.Sort as place
-use Rattle.jh_name.specs.declared.place.Sort.TheVariants as Sort
 use Rattle.jh_tree.specs.Tree.{TermTree, IntTree, SetTree, FieldTree, ValueTree, FormulaTree, FieldTrees}
 use Rattle.jh_tree.specs.Tree as t
 use Rattle.jh_tree.specs.Passing.{term_passes, int_passes, set_passes, field_passes, value_passes, formula_passes, fields_passes}

@@ -1,8 +1,7 @@
 -- Written by tools/several.py: values for several names keep the meaning, where each name has its value's.
-use Rattle.std.proofs.Common.{◌≡◌, refl, ℕ, Bool, true, false, ◌&&◌, if◌then◌else◌, List, [], ◌∷◌, ℤ, arith}
+use Rattle.std.proofs.Common.{◌≡◌, refl, ℕ, Bool, true, false, if◌then◌else◌, List, [], ◌∷◌, ℤ, arith}
 use Rattle.jh_name.specs.declared.naming.Name.{Name}
 use Rattle.jh_tree.specs.Tree.{TermTree, IntTree, SetTree, FieldTree, FormulaTree, ValueTree, of_object, of_number, of_truth, of_set, of_field}
-use Rattle.jh_tree.specs.Tree as t
 use Rattle.jh_tree.specs.Closed.{is_closed_value, is_closed_term, is_closed_int, is_closed_formula, is_closed_set, is_closed_field}
 use Rattle.jh_tree.specs.Meaning.{Interp, Fields, term_value, int_value, truth, set_value, field_value}
 use Rattle.jh_tree.specs.Passing.{name_equal}

@@ -1,5 +1,5 @@
 -- Written by tools/several.py: several values for several names, all at once.
-use Rattle.std.specs.Prelude.{◌≡◌, ℕ, Bool, true, not, ◌&&◌, if◌then◌else◌, List, [], ◌∷◌}
+use Rattle.std.specs.Prelude.{Bool, true, not, ◌&&◌, if◌then◌else◌, List, [], ◌∷◌}
 use Rattle.jh_name.specs.declared.naming.Name.{Name}
 use Rattle.jh_tree.specs.Tree.{TermTree, IntTree, SetTree, FieldTree, FormulaTree, ValueTree}
 use Rattle.jh_tree.specs.Tree as t

@@ -4,5 +4,5 @@
 mod pairs;
 mod several;
 
-pub use pairs::{Instead, instead};
+pub use pairs::{Instead, replacement};
 pub use several::subst_several;

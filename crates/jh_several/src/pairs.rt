@@ -10,7 +10,7 @@ use jh_name::{Name, NoMemory, Sort};
 use jh_table::{Shape, Table};
 
 /// A free name by its number in a table, its node at the sort of a value, and the node of the value that is
-/// put for it. `instead` makes one.
+/// put for it. `replacement` makes one.
 #[derive(Clone, Copy, Debug)]
 pub struct Instead {
     pub name: usize,
@@ -34,7 +34,7 @@ fn free_name(name: usize, sort: Sort) -> Shape
 
 /// The value for the name, at the value's sort. The name and its node are added to the table where they are
 /// new.
-pub fn instead(table: &mut Table, name: &Name, value: usize) -> Result<Instead, NoMemory>
+pub fn replacement(table: &mut Table, name: &Name, value: usize) -> Result<Instead, NoMemory>
     requires value { value < length (nodes table.old) }
     ensures ready { IfOk result (λ made. IsReady made.name made.leaf made.value table.new) }
     ensures name { IfOk result (λ made. slice_get table.new.pools.names made.name ≡ Some name.now) }

@@ -67,6 +67,14 @@ fn chosen(pairs: &[Instead], node: usize) -> usize
     node
 }
 
+/// A pair of the list.
+fn pair_at(pairs: &[Instead], index: usize) -> Instead
+    requires { index < length pairs.now }
+    ensures { slice_get pairs.now index ≡ Some result }
+{
+    pairs[index]
+}
+
 /// Whether it is known at once that none of the names stands in the node.
 fn holds_none(table: &Table, pairs: &[Instead], node: usize) -> bool
     requires inside { node < length (nodes table.now) }
@@ -76,7 +84,8 @@ fn holds_none(table: &Table, pairs: &[Instead], node: usize) -> bool
     if pairs.is_empty() {
         return false;
     }
-    for pair in pairs {
+    for index in 0..pairs.len() {
+        let pair = pair_at(pairs, index);
         if table.may_hold(node, pair.name) {
             return false;
         }

@@ -3,7 +3,7 @@ use Rattle.std.proofs.lemmas.Option.{slice_get_within}
 use Rattle.jh_table.specs.Growth.{Extends}
 use Rattle.jh_table.specs.Nodes.{nodes, tree_in}
 use Rattle.jh_table.specs.Parts.{parts}
-use Rattle.jh_table.proofs.Listed.{tree-grows, fits-grows, parts-grows, extends-trans}
+use Rattle.jh_table.proofs.Listed.{fits-grows, parts-grows, extends-trans}
 use Rattle.jh_pass.proofs.Makings.{still, if-ok}
 use Rattle.jh_rebuild.specs.declared.polarity.Polarity.{Polarity}
 use Rattle.jh_rebuild.specs.Walking.{IsBuilt, sign, applied}

@@ -7,8 +7,8 @@ use Rattle.jh_several.specs.Several.{none_of}
 use Rattle.jh_several.proofs.several.holds_none.Given as goal
 
 -- none of the first names stands in the node
-abbrev pub invariant-loop-pair : goal.invariant-loop-pair
-invariant-loop-pair l = record {
-  rest : value_passes (the_value (slice_get (nodes l.table) l.node)) (λ y s. none_of (pairs_in l.table (drop l.pair-index l.pairs)) y) ≡ true → value_passes (the_value (slice_get (nodes l.table) l.node)) (λ y s. none_of (pairs_in l.table l.pairs) y) ≡ true;
-  some : 0 < l.pair-index → value_passes (the_value (slice_get (nodes l.table) l.node)) (λ y s. true) ≡ true;
+abbrev pub invariant-loop-index : goal.invariant-loop-index
+invariant-loop-index l = record {
+  rest : value_passes (the_value (slice_get (nodes l.table) l.node)) (λ y s. none_of (pairs_in l.table (drop l.index l.pairs)) y) ≡ true → value_passes (the_value (slice_get (nodes l.table) l.node)) (λ y s. none_of (pairs_in l.table l.pairs) y) ≡ true;
+  some : 0 < l.index → value_passes (the_value (slice_get (nodes l.table) l.node)) (λ y s. true) ≡ true;
 }

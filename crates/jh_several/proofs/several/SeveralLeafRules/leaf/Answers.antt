@@ -1,4 +1,4 @@
-use Rattle.std.proofs.Common.{◌≡◌, ℕ, sym, subst}
+use Rattle.std.proofs.Common.{ℕ, sym, subst}
 use Rattle.jh_table.specs.Nodes.{nodes}
 use Rattle.jh_pass.specs.Rewritten.{leaves_alone}
 use Rattle.jh_pass.specs.Walks.{IsRewritten}
