@@ -20,7 +20,7 @@ pub use jh_make::{
 };
 pub use jh_pass::{LeafRules, walked};
 pub use jh_rebuild::{BuildRules, Polarity, rebuild};
-pub use jh_several::{Instead, replacement, subst_several};
+pub use jh_several::{Instead, open_several, replacement, subst_several};
 pub use jh_subst::{FormFault, StandsOnlyAt, open, sort_of, subst};
 pub use jh_table::{Facts, MOST_LEVELS, Own, Shape, Table};
 pub use jh_tree::{

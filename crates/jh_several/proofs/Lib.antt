@@ -2,4 +2,5 @@ mod Both
 mod Fixes
 mod Leaves
 mod Meanings
+mod Openings
 mod Rules

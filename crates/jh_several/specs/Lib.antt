@@ -1,2 +1,4 @@
+pub mod OpenedAll
+pub mod OpeningStays
 pub mod Pairs
 pub mod Several

@@ -1,0 +1,1 @@
+pub use Rattle.jh_subst.proofs.Substitutions
