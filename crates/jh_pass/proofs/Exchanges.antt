@@ -1,5 +1,5 @@
 -- The rules of an exchange, over a table, and that it keeps the meaning.
-use Rattle.std.proofs.Common.{◌≡◌, refl, sym, ap, ◌∙◌, ℕ, nat_lt, Bool, true, false, if◌then◌else◌, List, [], slice_get, Option, Some, None, arith}
+use Rattle.std.proofs.Common.{◌≡◌, refl, sym, ap, ◌∙◌, ℕ, ◌<◌, nat_lt, Bool, true, false, if◌then◌else◌, List, [], slice_get, Option, Some, None, arith}
 use Rattle.std.proofs.lemmas.Bool.{true≢false}
 use Rattle.std.proofs.lemmas.Bool.Decides.{nat_tests}
 use Rattle.jh_tree.specs.Tree.{ValueTree, FormulaTree, of_object, of_number, of_truth, of_set, of_field}
@@ -12,6 +12,7 @@ use Rattle.jh_compare.specs.Inside.{SameIn, AreInside}
 use Rattle.jh_compare.proofs.Equalities.{equal_trees-true, equal_trees-same}
 use Rattle.jh_compare.proofs.ExchangeMeanings.{exchange-keeps}
 use Rattle.jh_pass.proofs.Exchanged.{formula-exchanged}
+use Rattle.jh_pass.proofs.Lacking.{PartsFirst, none-for, value-lacks, earlier-lacks}
 use Rattle.jh_table.specs.Entries.{Pools, Listing, the_name, the_value, the_truth, is_truth}
 use Rattle.jh_table.specs.Growth.{AreDifferent}
 use Rattle.jh_table.specs.Nodes.{nodes, shape_tree, tree_in}
@@ -34,13 +35,6 @@ module _ (old new : ValueTree) where
   new-for : (v : ValueTree) → v ≡ old → new_for old new v ≡ Some new
   new-for v e = ap (λ b. if b then Some new else None) (equal_trees-same v old e)
 
-  unless : (v : ValueTree) (b : Bool) → equal_trees v old ≡ b → (v ≡ old → ⊥) → (if b then Some new else None) ≡ None
-  unless v true e differs = absurd (differs (equal_trees-true v old e))
-  unless v false e differs = refl
-
-  none-for : (v : ValueTree) → (v ≡ old → ⊥) → new_for old new v ≡ None
-  none-for v differs = unless v (equal_trees v old) refl differs
-
   module _ (p : Pools) (ts : List ValueTree) (d : ℕ) where
     -- a leaf that is the old value
     pub leaf-exchanged : (x : Shape) → is_leaf x ≡ true → shape_tree p ts x ≡ old → is_closed_value (shape_tree p ts x) 0 ≡ true → tree_sort new ≡ tree_sort (shape_tree p ts x) →
@@ -58,11 +52,11 @@ module _ (old new : ValueTree) where
     pub leaf-stays : (x : Shape) → is_leaf x ≡ true → (shape_tree p ts x ≡ old → ⊥) → rewritten_value (shape_tree p ts x) (exchanging old new) d ≡ shape_tree p ts x
     unfolding is_leaf shape_tree object_or number_or truth_or set_or field_or rewritten_value rewritten_term rewritten_int rewritten_set rewritten_field rewritten_formula
     leaf-stays (s.Bound k) leaf differs = refl
-    leaf-stays (s.FreeObject k) leaf differs = ap (λ q. of_object (object_or q (t.free_object (the_name (slice_get p.names k))))) (none-for _ differs)
-    leaf-stays (s.FreeNumber k) leaf differs = ap (λ q. of_number (number_or q (t.free_number (the_name (slice_get p.names k))))) (none-for _ differs)
-    leaf-stays (s.FreeTruth k) leaf differs = ap (λ q. of_truth (truth_or q (t.free_truth (the_name (slice_get p.names k))))) (none-for _ differs)
-    leaf-stays (s.FreeSet k) leaf differs = ap (λ q. of_set (set_or q (t.free_set (the_name (slice_get p.names k))))) (none-for _ differs)
-    leaf-stays (s.FreeField k) leaf differs = ap (λ q. of_field (field_or q (t.free_field (the_name (slice_get p.names k))))) (none-for _ differs)
+    leaf-stays (s.FreeObject k) leaf differs = ap (λ q. of_object (object_or q (t.free_object (the_name (slice_get p.names k))))) (none-for old new _ differs)
+    leaf-stays (s.FreeNumber k) leaf differs = ap (λ q. of_number (number_or q (t.free_number (the_name (slice_get p.names k))))) (none-for old new _ differs)
+    leaf-stays (s.FreeTruth k) leaf differs = ap (λ q. of_truth (truth_or q (t.free_truth (the_name (slice_get p.names k))))) (none-for old new _ differs)
+    leaf-stays (s.FreeSet k) leaf differs = ap (λ q. of_set (set_or q (t.free_set (the_name (slice_get p.names k))))) (none-for old new _ differs)
+    leaf-stays (s.FreeField k) leaf differs = ap (λ q. of_field (field_or q (t.free_field (the_name (slice_get p.names k))))) (none-for old new _ differs)
     leaf-stays _ leaf differs = absurd (true≢false (sym leaf))
 
 module _ (t : Listing) (from to d : ℕ) (ready : CanExchange from to t) where
@@ -102,6 +96,12 @@ module _ (t : Listing) (from to d : ℕ) (ready : CanExchange from to t) where
   pub other-whole : (n : ℕ) (v : ValueTree) → AreDifferent (nodes t) → (n ≡ from → ⊥) → slice_get (nodes t) n ≡ Some v → new_for one other (the_value (slice_get (nodes t) n)) ≡ None
   other-whole n v differ away there =
       none-for one other (the_value (slice_get (nodes t) n)) (λ same. elsewhere n v differ there away (sym (listed-value (slice_get (nodes t) n) v there) ∙ same))
+
+  -- a node before the old one stays
+  pub earlier-stays : (n : ℕ) (v : ValueTree) → PartsFirst (nodes t) → AreDifferent (nodes t) → n < from → slice_get (nodes t) n ≡ Some v → IsRewritten (exchanging one other) (nodes t) n d n
+  earlier-stays n v law differ lt there =
+      stays-rewritten (nodes t) (exchanging one other) n d v there
+      (value-lacks one other v d (earlier-lacks (nodes t) n from v one law differ lt there (value-listed (slice_get (nodes t) from) ready.old)))
 
 -- the formula that comes of it
 pub exchanged-truth : (old new : ValueTree) (o : Option ValueTree) → is_truth o ≡ true → Some (rewritten_value (the_value o) (exchanging old new) 0) ≡ Some (of_truth (rewritten_formula (the_truth o) (exchanging old new) 0))

@@ -12,5 +12,6 @@ pub mod SubstitutionRules
 pub mod Substituted
 pub mod Exchanged
 pub mod Exchanges
+pub mod Lacking
 pub mod Fixed
 pub mod Alone

@@ -51,8 +51,11 @@ impl LeafRules for Exchanging {
         _depth: u32,
     ) -> Result<Option<usize>, NoMemory> {
         table.nodes_differ();
+        table.parts_come_first();
         if node == self.old {
             Ok(Some(self.new))
+        } else if node < self.old {
+            Ok(Some(node))
         } else {
             Ok(None)
         }
@@ -62,7 +65,8 @@ impl LeafRules for Exchanging {
 }
 
 /// The node of a formula in which each part that is the node `old` is exchanged for the node `new`, which
-/// is of the same sort. Neither has loose bound variables, so that the parts stand under binders too.
+/// is of the same sort. Neither has loose bound variables, so that the parts stand under binders too. Nodes
+/// before the old one, which can't have it as a part, are left alone.
 /// Names in labels stay. Where both have the same value, for sets the same members in the universe, the
 /// formula means what it did. The answer is want of memory where the formula nests deeper than MOST_LEVELS.
 pub fn exchange(
