@@ -10,7 +10,7 @@ use Rattle.jh_subst.specs.Opened.{opening}
 use Rattle.jh_subst.specs.Substituted.{substituting, substituted}
 use Rattle.jh_walk.specs.Mapped.{LeafMap, mapped_value}
 use Rattle.jh_table.specs.Entries.{the_value, the_name, the_truth, is_truth}
-use Rattle.jh_table.specs.Facing.{IsLoose}
+use Rattle.jh_table.specs.Facing.{IsLeast}
 use Rattle.jh_pass.specs.Rewritten.{leaves_alone}
 use Rattle.jh_pass.specs.Walks.{IsRewritten}
 use Rattle.jh_pass.specs.Fixing.{FixesNames, FixesBound}
@@ -44,7 +44,7 @@ pub lacks-name : (ts : List ValueTree) (n d : ℕ) (x : Name) (v w : ValueTree) 
 lacks-name ts n d x v w at h =
     left-alone (substituting x w) ts n d v at (value-kept (substituting x w) (λ y s. not (name_equal y x)) (substituting-fixes x w) v d ((λ i. value_passes (sym (listed-value (slice_get ts n) v at) i) (λ y s. not (name_equal y x))) ∙ h))
 
-pub lacks-loose : (ts : List ValueTree) (n d b : ℕ) (v : ValueTree) (w : TermTree) → slice_get ts n ≡ Some v → IsLoose (λ e. is_closed_value (the_value (slice_get ts n)) e) b → b ≤ d → IsRewritten (leaves_alone (opening w)) ts n d n
+pub lacks-loose : (ts : List ValueTree) (n d b : ℕ) (v : ValueTree) (w : TermTree) → slice_get ts n ≡ Some v → IsLeast (λ e. is_closed_value (the_value (slice_get ts n)) e) b → b ≤ d → IsRewritten (leaves_alone (opening w)) ts n d n
 lacks-loose ts n d b v w at h le =
     left-alone (opening w) ts n d v at (value-shut (opening w) (opening-fixes w) v d ((λ i. is_closed_value (sym (listed-value (slice_get ts n) v at) i) d) ∙ h.closed d le))
 

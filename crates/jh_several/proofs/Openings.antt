@@ -9,7 +9,7 @@ use Rattle.jh_tree.proofs.ClosedLemmas.{both-left, both-right, term_value-closed
 use Rattle.jh_walk.specs.Kept.{Keeps}
 use Rattle.jh_walk.proofs.Meanings.{truth-mapped}
 use Rattle.jh_table.specs.Entries.{Pools, is_truth, is_object, the_object, the_truth, the_value}
-use Rattle.jh_table.specs.Facing.{IsLoose}
+use Rattle.jh_table.specs.Facing.{IsLeast}
 use Rattle.jh_table.specs.Nodes.{shape_tree}
 use Rattle.jh_table.specs.declared.shapes.Shape.{Shape}
 use Rattle.jh_table.specs.declared.shapes.Shape.TheVariants as s
@@ -149,7 +149,7 @@ module _ (p : Pools) (us ts : List ValueTree) (ws : List TermTree) (d : ℕ) whe
   opens-beyond k n r le at e f = exchanged-rewritten ts (leaves_alone (opening_all ws)) n d r (of_object (t.bound k)) (of_object (t.bound (k - length ws))) e f
       (chosen k ∙ ap of_object (passed (t.bound k) (bound_or (slice_get ws (k - d)) (k - length ws)) k d (nat_lt k d) refl le ∙ ap (λ o. bound_or o (k - length ws)) at))
 
-pub lacks-loose : (ts : List ValueTree) (n d b : ℕ) (v : ValueTree) (ws : List TermTree) → slice_get ts n ≡ Some v → IsLoose (λ e. is_closed_value (the_value (slice_get ts n)) e) b → b ≤ d → IsRewritten (leaves_alone (opening_all ws)) ts n d n
+pub lacks-loose : (ts : List ValueTree) (n d b : ℕ) (v : ValueTree) (ws : List TermTree) → slice_get ts n ≡ Some v → IsLeast (λ e. is_closed_value (the_value (slice_get ts n)) e) b → b ≤ d → IsRewritten (leaves_alone (opening_all ws)) ts n d n
 lacks-loose ts n d b v ws at h le =
     stays-rewritten ts (leaves_alone (opening_all ws)) n d v at
     (value-alone (opening_all ws) v d ∙ value-shut (opening_all ws) (opening-fixes ws) v d ((λ i. is_closed_value (sym (listed-value (slice_get ts n) v at) i) d) ∙ h.closed d le))

@@ -1,5 +1,5 @@
 -- Loose variables and name bits of a shape, from those of its parts.
-use Rattle.std.proofs.Common.{◌≡◌, refl, sym, ap, ◌∙◌, subst, ℕ, zero, suc, ◌+◌, ◌-◌, ◌^◌, ◌%◌, ◌<◌, ◌≤◌, max, Bool, true, false, not, ◌&&◌, ◌||◌, List, [], ◌∷◌, ◌++◌, take, length, slice_get, Option, Some, None, is_some, nat_lt, nat_eq, arith}
+use Rattle.std.proofs.Common.{◌≡◌, refl, sym, ap, ◌∙◌, subst, ℕ, zero, suc, ◌+◌, ◌-◌, ◌^◌, ◌%◌, max, Bool, true, false, not, ◌&&◌, ◌||◌, List, [], ◌∷◌, ◌++◌, slice_get, Option, Some, None, is_some, nat_lt, nat_eq, arith}
 use Rattle.std.specs.Int.{bit_at}
 use Rattle.std.specs.Int.Bits.{bit_or}
 use Rattle.std.proofs.lemmas.Nat.Bits.{bit_at_or, bit_at-pow_same, bit_at-lt}
@@ -19,7 +19,7 @@ use Rattle.jh_table.specs.declared.facts.Facts.{Facts}
 use Rattle.jh_table.specs.Nodes.{fits, shape_tree}
 use Rattle.jh_table.specs.Parts.{parts, own_parts, list_parts}
 use Rattle.jh_table.specs.Growth.{Grows}
-use Rattle.jh_table.specs.Facing.{own_closed, all_closed, under, own_passes, all_pass, own_bits, loose_over, IsLoose, marked_from, marked}
+use Rattle.jh_table.specs.Facing.{own_closed, all_closed, under, own_passes, all_pass, own_bits, loose_over, IsLeast, marked_from, marked, own_turn, turn_below}
 use Rattle.jh_table.specs.Measures.{AreFacts, AllFacts}
 use Rattle.jh_table.proofs.ShapeClosed.{closed-shape, all_closed-append}
 use Rattle.jh_table.proofs.ShapePasses.{passes-shape, all_pass-append}
@@ -31,25 +31,25 @@ use Rattle.jh_table.proofs.Keys.{name_eq-true, name_eq-same, position-is}
 
 -- ---- loose variables
 
-pub loose-same : (f g : ℕ → Bool) (n : ℕ) → ((d : ℕ) → f d ≡ g d) → IsLoose g n → IsLoose f n
+pub loose-same : (f g : ℕ → Bool) (n : ℕ) → ((d : ℕ) → f d ≡ g d) → IsLeast g n → IsLeast f n
 loose-same f g n e h = record { closed = λ d le. e d ∙ h.closed d le; least = λ d c. h.least d (sym (e d) ∙ c) }
 
-pub loose-both : (f g : ℕ → Bool) (a b r : ℕ) → IsLoose f a → IsLoose g b → r ≡ max a b → IsLoose (λ d. f d && g d) r
+pub loose-both : (f g : ℕ → Bool) (a b r : ℕ) → IsLeast f a → IsLeast g b → r ≡ max a b → IsLeast (λ d. f d && g d) r
 loose-both f g a b r h k e = record {
   closed = λ d le. λ i. h.closed d (omega arith) i && k.closed d (omega arith) i;
   least = λ d c. omega (arith, h.least d (both-left (f d) (g d) c), k.least d (both-right (f d) (g d) c));
 }
 
-pub loose-all : IsLoose (λ d. true) 0
+pub loose-all : IsLeast (λ d. true) 0
 loose-all = record { closed = λ d le. refl; least = λ d c. omega arith }
 
-loose-bound : (k : ℕ) → IsLoose (λ d. nat_lt k d && true) (k + 1)
+loose-bound : (k : ℕ) → IsLeast (λ d. nat_lt k d && true) (k + 1)
 loose-bound k = record { closed = λ d le. λ i. lt-ltb k d (omega arith) i && true; least = λ d c. omega (arith, ltb-true k d (both-left (nat_lt k d) true c)) }
 
-loose-under : (f : ℕ → Bool) (n : ℕ) → IsLoose f n → IsLoose (λ d. f (d + 1)) (n - 1)
+loose-under : (f : ℕ → Bool) (n : ℕ) → IsLeast f n → IsLeast (λ d. f (d + 1)) (n - 1)
 loose-under f n h = record { closed = λ d le. h.closed (d + 1) (omega arith); least = λ d c. omega (arith, h.least (d + 1) c) }
 
-loose-own : (p : Pools) (ts : List ValueTree) (x : Shape) (n : ℕ) → IsLoose (λ d. all_closed d ts (parts p.lists x)) n → IsLoose (λ d. own_closed x d && all_closed (under x d) ts (parts p.lists x)) (loose_over x n)
+loose-own : (p : Pools) (ts : List ValueTree) (x : Shape) (n : ℕ) → IsLeast (λ d. all_closed d ts (parts p.lists x)) n → IsLeast (λ d. own_closed x d && all_closed (under x d) ts (parts p.lists x)) (loose_over x n)
 unfolding own_closed under loose_over list_parts own_parts
 loose-own p ts (s.Bound k) n h = loose-bound k
 loose-own p ts (s.Compr a) n h = loose-under (λ d. all_closed d ts (a ∷ [])) n h
@@ -57,7 +57,7 @@ loose-own p ts (s.All a) n h = loose-under (λ d. all_closed d ts (a ∷ [])) n 
 loose-own p ts (s.Ex a) n h = loose-under (λ d. all_closed d ts (a ∷ [])) n h
 loose-own p ts _ n h = h
 
-pub loose-shape : (p : Pools) (ts : List ValueTree) (x : Shape) (n : ℕ) → fits p ts x ≡ true → IsLoose (λ d. all_closed d ts (parts p.lists x)) n → IsLoose (λ d. is_closed_value (shape_tree p ts x) d) (loose_over x n)
+pub loose-shape : (p : Pools) (ts : List ValueTree) (x : Shape) (n : ℕ) → fits p ts x ≡ true → IsLeast (λ d. all_closed d ts (parts p.lists x)) n → IsLeast (λ d. is_closed_value (shape_tree p ts x) d) (loose_over x n)
 loose-shape p ts x n f h =
     loose-same (λ d. is_closed_value (shape_tree p ts x) d) (λ d. own_closed x d && all_closed (under x d) ts (parts p.lists x)) (loose_over x n) (λ d. closed-shape p ts x d f) (loose-own p ts x n h)
 
@@ -143,9 +143,34 @@ names-shape p ts x bits f h =
     let q = marked p.names (bit_or (own_bits x) bits) in
     passes-shape p ts q x f ∙ (λ i. own-names p ts x bits f i && all-weaker p.names bits (bit_or (own_bits x) bits) ts (parts p.lists x) (or-right (own_bits x) bits) h i)
 
+-- ---- turns
+
+turn-after : (k : ℕ) → IsLeast (λ n. nat_lt k n) (k + 1)
+turn-after k = record { closed = λ d le. lt-ltb k d (omega arith); least = λ d c. omega (arith, ltb-true k d c) }
+
+turn-own : (p : Pools) (x : Shape) → IsLeast (λ n. own_passes p x (turn_below n)) (own_turn p.names x)
+unfolding own_passes own_turn
+turn-own p (s.FreeObject n) = turn-after ((the_name (slice_get p.names n)).turn)
+turn-own p (s.FreeNumber n) = turn-after ((the_name (slice_get p.names n)).turn)
+turn-own p (s.FreeTruth n) = turn-after ((the_name (slice_get p.names n)).turn)
+turn-own p (s.FreeSet n) = turn-after ((the_name (slice_get p.names n)).turn)
+turn-own p (s.FreeField n) = turn-after ((the_name (slice_get p.names n)).turn)
+turn-own p _ = loose-all
+
+pub turn-shape : (p : Pools) (ts : List ValueTree) (x : Shape) (n r : ℕ) → fits p ts x ≡ true → IsLeast (λ m. all_pass (turn_below m) ts (parts p.lists x)) n → r ≡ max (own_turn p.names x) n → IsLeast (λ m. value_passes (shape_tree p ts x) (turn_below m)) r
+turn-shape p ts x n r f h e =
+    loose-same (λ m. value_passes (shape_tree p ts x) (turn_below m)) (λ m. own_passes p x (turn_below m) && all_pass (turn_below m) ts (parts p.lists x)) r (λ m. passes-shape p ts (turn_below m) x f)
+    (loose-both (λ m. own_passes p x (turn_below m)) (λ m. all_pass (turn_below m) ts (parts p.lists x)) (own_turn p.names x) n r (turn-own p x) h e)
+
 -- ---- one more part
 
-pub loose-step : (ts : List ValueTree) (ns next : List ℕ) (k a b r : ℕ) → next ≡ ns ++ k ∷ [] → IsLoose (λ d. all_closed d ts ns) a → IsLoose (λ d. is_closed_value (the_value (slice_get ts k)) d) b → r ≡ max a b → IsLoose (λ d. all_closed d ts next) r
+pub turn-step : (ts : List ValueTree) (ns next : List ℕ) (k a b r : ℕ) → next ≡ ns ++ k ∷ [] → IsLeast (λ m. all_pass (turn_below m) ts ns) a → IsLeast (λ m. value_passes (the_value (slice_get ts k)) (turn_below m)) b → r ≡ max a b → IsLeast (λ m. all_pass (turn_below m) ts next) r
+turn-step ts ns next k a b r e h g m =
+    loose-same (λ d. all_pass (turn_below d) ts next) (λ d. all_pass (turn_below d) ts ns && (value_passes (the_value (slice_get ts k)) (turn_below d) && true)) r
+    (λ d. ap (all_pass (turn_below d) ts) e ∙ all_pass-append (turn_below d) ts ns (k ∷ []))
+    (loose-both (λ d. all_pass (turn_below d) ts ns) (λ d. value_passes (the_value (slice_get ts k)) (turn_below d) && true) a b r h (loose-both (λ d. value_passes (the_value (slice_get ts k)) (turn_below d)) (λ d. true) b 0 b g loose-all (omega arith)) m)
+
+pub loose-step : (ts : List ValueTree) (ns next : List ℕ) (k a b r : ℕ) → next ≡ ns ++ k ∷ [] → IsLeast (λ d. all_closed d ts ns) a → IsLeast (λ d. is_closed_value (the_value (slice_get ts k)) d) b → r ≡ max a b → IsLeast (λ d. all_closed d ts next) r
 loose-step ts ns next k a b r e h g m =
     loose-same (λ d. all_closed d ts next) (λ d. all_closed d ts ns && (is_closed_value (the_value (slice_get ts k)) d && true)) r
     (λ d. ap (all_closed d ts) e ∙ all_closed-append d ts ns (k ∷ []))
@@ -172,6 +197,7 @@ facts-grow p q g (w ∷ vs) [] h = absurd h
 facts-grow p q g (w ∷ vs) (k ∷ fs) h = (record {
   extent = h.0.extent;
   loose = h.0.loose;
+  turn = h.0.turn;
   names = value-weaker (marked p.names k.names) (marked q.names k.names) (marked-more p.names q.names k.names k.names g (λ i e. e)) w h.0.names;
 }, facts-grow p q g vs fs h.1)
 

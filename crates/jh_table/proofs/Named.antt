@@ -5,7 +5,7 @@ use Rattle.jh_name.specs.contracts.naming.NamePartialEq.TheImpl as name
 use Rattle.jh_tree.specs.Tree.{ValueTree}
 use Rattle.jh_tree.specs.Passing.{value_passes, name_equal}
 use Rattle.jh_tree.proofs.Names.{name_equal-true}
-use Rattle.jh_table.specs.Entries.{Pools, Listing, the_value}
+use Rattle.jh_table.specs.Entries.{Listing, the_value}
 use Rattle.jh_table.specs.Facing.{marked}
 use Rattle.jh_table.specs.Measures.{IsTable}
 use Rattle.jh_table.specs.Nodes.{nodes}

@@ -5,12 +5,10 @@ use Rattle.std.proofs.Math.Bool.{and-true}
 use Rattle.std.proofs.lemmas.Bool.{true≢false}
 use Rattle.std.proofs.lemmas.Option.{slice_get_within}
 use Rattle.jh_name.specs.declared.naming.Name.{Name}
-use Rattle.jh_name.specs.declared.place.Sort as place
-use Rattle.jh_name.specs.declared.place.Sort.TheVariants as Sort
 use Rattle.jh_tree.specs.Tree.{ValueTree, of_object, of_number, of_truth, of_set, of_field}
 use Rattle.jh_tree.specs.Closed.{is_closed_term, is_closed_int, is_closed_set, is_closed_field, is_closed_value, is_closed_formula, is_closed_fields}
 use Rattle.jh_tree.proofs.ClosedLemmas.{both-left, both-right}
-use Rattle.jh_table.specs.Entries.{Pools, the_name, the_list, is_object, is_number, is_truth, is_set, is_field, the_object, the_number, the_truth, the_set, the_field, the_value, are_fields, fields_at}
+use Rattle.jh_table.specs.Entries.{Pools, the_list, is_object, is_number, is_truth, is_set, is_field, the_object, the_number, the_truth, the_set, the_field, the_value, are_fields, fields_at}
 use Rattle.jh_table.specs.Nodes.{fits, shape_tree}
 use Rattle.jh_table.specs.Parts.{parts, own_parts, list_parts}
 use Rattle.jh_table.specs.declared.shapes.Shape.{Shape}

@@ -1,5 +1,5 @@
 -- What is known of a table by its invariant, and that it stays.
-use Rattle.std.proofs.Common.{◌≡◌, refl, sym, ap, ◌∙◌, subst, ℕ, zero, suc, ◌+◌, ◌-◌, ◌^◌, ◌<◌, ◌≤◌, ◌⊎◌, inl, inr, min, max, Bool, true, false, if◌then◌else◌, List, [], ◌∷◌, ◌++◌, length, length-append, map, take, slice_get, Some, None, is_some, arith}
+use Rattle.std.proofs.Common.{◌≡◌, refl, sym, ap, ◌∙◌, subst, ℕ, zero, suc, ◌+◌, ◌-◌, ◌^◌, ◌<◌, ◌≤◌, ◌⊎◌, inl, inr, min, max, Bool, true, false, if◌then◌else◌, List, [], ◌∷◌, ◌++◌, length, length-append, take, slice_get, Some, None, is_some, arith}
 use Rattle.std.specs.Prelude.{Option}
 use Rattle.std.specs.List.{list_any}
 use Rattle.std.specs.Option.{option_map}
@@ -9,7 +9,6 @@ use Rattle.std.proofs.lemmas.Bool.{true≢false}
 use Rattle.indexmap.specs.IndexSet.{insert_key}
 use Rattle.jh_tree.specs.Tree.{ValueTree}
 use Rattle.jh_walk.specs.Sizes.{value_size, value_depth}
-use Rattle.jh_walk.specs.declared.counting.Extent.{Extent}
 use Rattle.jh_table.specs.declared.shapes.Shape.{Shape}
 use Rattle.jh_table.specs.Entries.{Pools, Listing, the_value}
 use Rattle.jh_table.specs.Nodes.{fits, shape_tree, listed, well, nodes, fits_in, tree_in}
@@ -19,8 +18,8 @@ use Rattle.jh_table.proofs.Children.{EachPart, Stands, part-of, each-part}
 use Rattle.jh_table.proofs.Unique.{AreApart, nodes-different, shape-known, at-within}
 use Rattle.jh_table.specs.Measures.{extent_of, IsTable, AreFacts, AllFacts}
 use Rattle.jh_table.specs.declared.facts.Facts.{Facts}
-use Rattle.jh_table.proofs.Faces.{facts-at, facts-push, facts-grow, loose-shape, names-shape}
-use Rattle.jh_table.specs.Facing.{IsLoose, all_closed, all_pass, marked, own_bits, loose_over}
+use Rattle.jh_table.proofs.Faces.{facts-at, facts-push, facts-grow, loose-shape, names-shape, turn-shape}
+use Rattle.jh_table.specs.Facing.{IsLeast, all_closed, all_pass, marked, own_bits, loose_over, own_turn, turn_below}
 use Rattle.std.specs.Int.Bits.{bit_or}
 use Rattle.jh_tree.specs.Closed.{is_closed_value}
 use Rattle.jh_tree.specs.Passing.{value_passes}
@@ -144,23 +143,25 @@ pub extent-over : (t : Listing) (x : Shape) (i : ℕ) (s : Facts) (r : Facts) �
     → s.extent.nodes ≡ min (size_sum (nodes t) (take i (parts t.pools.lists x))) (2 ^ 64 - 1)
     → s.extent.depth ≡ min (depth_max (nodes t) (take i (parts t.pools.lists x))) (2 ^ 64 - 1)
     → r.extent.nodes ≡ min (1 + s.extent.nodes) (2 ^ 64 - 1) → r.extent.depth ≡ min (1 + s.extent.depth) (2 ^ 64 - 1)
-    → IsLoose (λ d. all_closed d (nodes t) (take i (parts t.pools.lists x))) s.loose → all_pass (marked t.pools.names s.names) (nodes t) (take i (parts t.pools.lists x)) ≡ true
+    → IsLeast (λ d. all_closed d (nodes t) (take i (parts t.pools.lists x))) s.loose → all_pass (marked t.pools.names s.names) (nodes t) (take i (parts t.pools.lists x)) ≡ true
     → r.loose ≡ loose_over x s.loose → r.names ≡ bit_or (own_bits x) s.names
+    → IsLeast (λ m. all_pass (turn_below m) (nodes t) (take i (parts t.pools.lists x))) s.turn → r.turn ≡ max (own_turn t.pools.names x) s.turn
     → AreFacts t.pools (tree_in t x) r
 unfolding extent_of
-extent-over t x i s r f e hn hd rn rd hl hb rl rb =
+extent-over t x i s r f e hn hd rn rd hl hb rl rb ht rt =
     let ns = parts t.pools.lists x in
     let whole : take i ns ≡ ns = take-whole ns i e in
     let sn : s.extent.nodes ≡ min (size_sum (nodes t) ns) (2 ^ 64 - 1) = hn ∙ ap (λ l. min (size_sum (nodes t) l) (2 ^ 64 - 1)) whole in
     let sd : s.extent.depth ≡ min (depth_max (nodes t) ns) (2 ^ 64 - 1) = hd ∙ ap (λ l. min (depth_max (nodes t) l) (2 ^ 64 - 1)) whole in
     let en : r.extent.nodes ≡ min (value_size (tree_in t x)) (2 ^ 64 - 1) = omega (arith, size-parts t.pools (nodes t) x f) in
     let ed : r.extent.depth ≡ min (value_depth (tree_in t x)) (2 ^ 64 - 1) = omega (arith, depth-parts t.pools (nodes t) x f) in
-    let ll : IsLoose (λ d. all_closed d (nodes t) ns) s.loose = subst (λ (l : List ℕ). IsLoose (λ d. all_closed d (nodes t) l) s.loose) whole hl in
+    let ll : IsLeast (λ d. all_closed d (nodes t) ns) s.loose = subst (λ (l : List ℕ). IsLeast (λ d. all_closed d (nodes t) l) s.loose) whole hl in
     let bb : all_pass (marked t.pools.names s.names) (nodes t) ns ≡ true = subst (λ (l : List ℕ). all_pass (marked t.pools.names s.names) (nodes t) l ≡ true) whole hb in
     record {
       extent = λ j. record { nodes = en j; depth = ed j };
-      loose = subst (λ (n : ℕ). IsLoose (λ d. is_closed_value (tree_in t x) d) n) (sym rl) (loose-shape t.pools (nodes t) x s.loose f ll);
+      loose = subst (λ (n : ℕ). IsLeast (λ d. is_closed_value (tree_in t x) d) n) (sym rl) (loose-shape t.pools (nodes t) x s.loose f ll);
       names = subst (λ (n : ℕ). value_passes (tree_in t x) (marked t.pools.names n) ≡ true) (sym rb) (names-shape t.pools (nodes t) x s.names f bb);
+      turn = turn-shape t.pools (nodes t) x s.turn r.turn f (subst (λ (l : List ℕ). IsLeast (λ m. all_pass (turn_below m) (nodes t) l) s.turn) whole ht) rt;
     }
 
 pub empty-nodes : (p : Pools) (es : List (Shape × Facts)) → es ≡ [] → listed p [] (keys_of es) ≡ []

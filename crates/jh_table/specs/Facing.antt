@@ -54,8 +54,8 @@ loose_over (s.All a) n = n - 1
 loose_over (s.Ex a) n = n - 1
 loose_over _ n = n
 
--- n binders are enough and no fewer are
-pub record IsLoose (test : ℕ → Bool) (n : ℕ) : Type 0 where
+-- The test passes from n on and nowhere before.
+pub record IsLeast (test : ℕ → Bool) (n : ℕ) : Type 0 where
   pub closed : (d : ℕ) → n ≤ d → test d ≡ true
   pub least : (d : ℕ) → test d ≡ true → n ≤ d
 
@@ -67,3 +67,16 @@ marked_from bits n (x ∷ xs) y = (name_equal y x && nat_eq (bit_at bits (n % 64
 -- the test that a name has a number in the pool whose bit is set
 abbrev pub marked : List Name → ℕ → Name → place.Sort → Bool
 marked names bits y s = marked_from bits 0 names y
+
+-- the test that the turn of a name is below n
+abbrev pub turn_below : ℕ → Name → place.Sort → Bool
+turn_below n x s = nat_lt x.turn n
+
+-- the turn after that of a shape's own name
+unfoldable pub own_turn : List Name → Shape → ℕ
+own_turn names (s.FreeObject n) = (the_name (slice_get names n)).turn + 1
+own_turn names (s.FreeNumber n) = (the_name (slice_get names n)).turn + 1
+own_turn names (s.FreeTruth n) = (the_name (slice_get names n)).turn + 1
+own_turn names (s.FreeSet n) = (the_name (slice_get names n)).turn + 1
+own_turn names (s.FreeField n) = (the_name (slice_get names n)).turn + 1
+own_turn names _ = 0

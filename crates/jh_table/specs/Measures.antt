@@ -9,7 +9,7 @@ use Rattle.jh_table.specs.Nodes.{listed, well}
 use Rattle.jh_tree.specs.Closed.{is_closed_value}
 use Rattle.jh_tree.specs.Passing.{value_passes}
 use Rattle.jh_table.specs.declared.facts.Facts.{Facts}
-use Rattle.jh_table.specs.Facing.{IsLoose, marked}
+use Rattle.jh_table.specs.Facing.{IsLeast, marked, turn_below}
 
 -- the size and the depth of a tree, up to the greatest number of 64 bits
 unfoldable pub extent_of : ValueTree → Extent
@@ -18,8 +18,9 @@ extent_of v = record { nodes = min (value_size v) (2 ^ 64 - 1); depth = min (val
 -- What is true of the facts beside a tree: each of its free names has a number in the pool whose bit is set.
 pub record AreFacts (p : Pools) (v : ValueTree) (f : Facts) : Type 0 where
   pub extent : f.extent ≡ extent_of v
-  pub loose : IsLoose (λ d. is_closed_value v d) f.loose
+  pub loose : IsLeast (λ d. is_closed_value v d) f.loose
   pub names : value_passes v (marked p.names f.names) ≡ true
+  pub turn : IsLeast (λ n. value_passes v (turn_below n)) f.turn
 
 abbrev pub AllFacts : Pools → List ValueTree → List Facts → Type 0
 AllFacts p [] [] = Unit {0}

@@ -1,8 +1,8 @@
-ghost use Rattle.std.specs.Prelude.{◌≡◌, ◌<◌, ◌≤◌, ◌-◌, ◌^◌, ◌↔◌, IsTrue, true, false, not, Some, min, length, slice_get};
+ghost use Rattle.std.specs.Prelude.{◌≡◌, ◌+◌, ◌<◌, ◌≤◌, is_some, ◌-◌, ◌^◌, ◌↔◌, IsTrue, true, false, not, Some, min, length, slice_get};
 ghost use Rattle.jh_walk.specs.Sizes.{value_size, value_depth};
-ghost use Rattle.jh_table.specs.Entries.{the_value};
+ghost use Rattle.jh_table.specs.Entries.{the_name, the_value};
 ghost use Rattle.jh_table.specs.Measures.{AreFacts};
-ghost use Rattle.jh_table.specs.Facing.{IsLoose};
+ghost use Rattle.jh_table.specs.Facing.{IsLeast, own_turn, turn_below};
 ghost use Rattle.jh_tree.specs.Closed.{is_closed_value};
 ghost use Rattle.jh_tree.specs.Passing.{value_passes, name_equal};
 ghost use Rattle.jh_name.specs.declared.naming.Name.{Name};
@@ -45,7 +45,7 @@ impl Table {
     /// these stand around it, and one is where fewer do. It takes no memory and looks at one node alone.
     pub fn loose(&self, node: usize) -> u64
         requires { node < length (nodes self.now) }
-        ensures { IsLoose (λ d. is_closed_value (the_value (slice_get (nodes self.now) node)) d) result }
+        ensures { IsLeast (λ d. is_closed_value (the_value (slice_get (nodes self.now) node)) d) result }
     {
         self.nodes[node].loose
     }
@@ -68,6 +68,37 @@ impl Table {
         has_bit(self.nodes[node].names, number)
     }
 
+    /// The least turn that is greater than that of each free name of a node, and 0 where it has none: a name of
+    /// this turn stands nowhere in the node. It takes no memory and looks at one node alone.
+    pub fn next_turn(&self, node: usize) -> u64
+        requires { node < length (nodes self.now) }
+        ensures { IsLeast (λ n. value_passes (the_value (slice_get (nodes self.now) node)) (turn_below n)) result }
+    {
+        self.nodes[node].turn
+    }
+
+    #[tactic(auto, unfolding(crate::specs::Nodes::fits, crate::specs::Facing::own_turn))]
+    fn own_turn(&self, shape: Shape) -> u64
+        requires { fits_in self.now shape ≡ true }
+        ensures { result ≡ own_turn self.now.pools.names shape }
+    {
+        match shape {
+            Shape::FreeObject(name) => self.turn_after(name),
+            Shape::FreeNumber(name) => self.turn_after(name),
+            Shape::FreeTruth(name) => self.turn_after(name),
+            Shape::FreeSet(name) => self.turn_after(name),
+            Shape::FreeField(name) => self.turn_after(name),
+            _ => 0,
+        }
+    }
+
+    fn turn_after(&self, name: usize) -> u64
+        requires { is_some (slice_get self.now.pools.names name) ≡ true }
+        ensures { result ≡ (the_name (slice_get self.now.pools.names name)).turn + 1 }
+    {
+        self.name_at(name).turn() as u64 + 1
+    }
+
     pub(crate) fn measured(&self, shape: Shape) -> Facts
         requires { fits_in self.now shape ≡ true }
         ensures { AreFacts self.now.pools (tree_in self.now shape) result }
@@ -76,6 +107,6 @@ impl Table {
         for index in 0..self.count(shape) {
             sum = side(sum, self.nodes[self.part(shape, index)]);
         }
-        above(shape, sum)
+        above(shape, sum, self.own_turn(shape))
     }
 }

@@ -1,4 +1,4 @@
-use Rattle.std.proofs.Common.{ap, sym, ◌∙◌, true, false, slice_get}
+use Rattle.std.proofs.Common.{ap, slice_get}
 use Rattle.std.specs.HashMap.{keys, values}
 use Rattle.jh_table.proofs.Tables.{seen, facts-of}
 use Rattle.jh_table.proofs.Faces.{none-held, bit-unset, only-one}
