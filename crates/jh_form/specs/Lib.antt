@@ -24,6 +24,7 @@ pub use Rattle.jh_door.specs.Entered
 pub use Rattle.jh_back.specs.Room
 pub use Rattle.jh_pass.specs.Rewritten
 pub use Rattle.jh_pass.specs.Exchanging
+pub use Rattle.jh_pass.specs.Fixing
 pub use Rattle.jh_pass.specs.Walks
 pub use Rattle.jh_make.specs.Joined
 pub use Rattle.jh_rebuild.specs.Built

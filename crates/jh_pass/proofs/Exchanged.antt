@@ -20,7 +20,6 @@ module _ (old new : ValueTree) where
   pair-of : (v w : ValueTree) → new_for old new v ≡ Some w → Pair v w
   pair-of v w q = chosen-pair v w (equal_trees v old) refl q
 
-
   object-here : (o : Option ValueTree) (a b : TermTree) → ((w : ValueTree) → o ≡ Some w → Pair (t.of_object a) w) → TermsRelated Pair a b → TermsRelated Pair a (object_or o b)
   unfolding object_or
   object-here (Some (t.of_object x)) a b h k = r.term_here a x (h (t.of_object x) refl)

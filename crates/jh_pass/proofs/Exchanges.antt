@@ -1,5 +1,5 @@
 -- The rules of an exchange, over a table, and that it keeps the meaning.
-use Rattle.std.proofs.Common.{◌≡◌, refl, sym, ap, ◌∙◌, ℕ, ◌<◌, nat_lt, Bool, true, false, if◌then◌else◌, List, [], slice_get, Option, Some, None, arith}
+use Rattle.std.proofs.Common.{◌≡◌, refl, sym, ap, ◌∙◌, ℕ, ◌<◌, nat_lt, true, if◌then◌else◌, List, [], slice_get, Option, Some, None, arith}
 use Rattle.std.proofs.lemmas.Bool.{true≢false}
 use Rattle.std.proofs.lemmas.Bool.Decides.{nat_tests}
 use Rattle.jh_tree.specs.Tree.{ValueTree, FormulaTree, of_object, of_number, of_truth, of_set, of_field}
@@ -7,9 +7,8 @@ use Rattle.jh_tree.specs.Tree as t
 use Rattle.jh_tree.specs.Closed.{is_closed_value, is_closed_term}
 use Rattle.jh_tree.specs.Meaning.{Interp, InUniverse, datum, truth}
 use Rattle.jh_tree.specs.Sorts.{tree_sort}
-use Rattle.jh_compare.specs.Exchanged.{equal_trees}
 use Rattle.jh_compare.specs.Inside.{SameIn, AreInside}
-use Rattle.jh_compare.proofs.Equalities.{equal_trees-true, equal_trees-same}
+use Rattle.jh_compare.proofs.Equalities.{equal_trees-same}
 use Rattle.jh_compare.proofs.ExchangeMeanings.{exchange-keeps}
 use Rattle.jh_pass.proofs.Exchanged.{formula-exchanged}
 use Rattle.jh_pass.proofs.Lacking.{PartsFirst, none-for, value-lacks, earlier-lacks}

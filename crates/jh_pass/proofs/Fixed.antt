@@ -152,4 +152,3 @@ module _ (l : LeafMap) (f : FixesBound l) where
     pub fields-shut : (a : FieldTrees) (d : ℕ) → is_closed_fields a d ≡ true → mapped_fields a l d ≡ a
     fields-shut t.none d h = refl
     fields-shut (t.more a fs) d h = λ i. t.more (field-shut a d (both-left (is_closed_field a d) (is_closed_fields fs d) h) i) (fields-shut fs d (both-right (is_closed_field a d) (is_closed_fields fs d) h) i)
-

@@ -1,5 +1,5 @@
 -- Written by tools/passes.py: a tree that lacks a part stays where the part is exchanged.
-use Rattle.std.proofs.Common.{◌≡◌, refl, ap, ◌∙◌, subst, ℕ, ◌+◌, ◌<◌, Bool, true, false, if◌then◌else◌, List, Option, Some, None, slice_get, arith}
+use Rattle.std.proofs.Common.{◌≡◌, refl, ap, ◌∙◌, subst, ℕ, ◌+◌, ◌<◌, Bool, true, false, if◌then◌else◌, List, Some, None, slice_get, arith}
 use Rattle.jh_tree.specs.Tree.{TermTree, IntTree, SetTree, FieldTree, ValueTree, FormulaTree, FieldTrees}
 use Rattle.jh_tree.specs.Tree as t
 use Rattle.jh_walk.specs.Parts.{Among, first, later, IsChild, IsPart, child, within}

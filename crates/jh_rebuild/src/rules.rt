@@ -13,12 +13,7 @@ pub trait BuildRules {
     ghost rule: { Self → Rule };
 
     /// The node for a shape over the answers for its parts, where it stands so.
-    fn made(
-        &self,
-        table: &mut Table,
-        shape: Shape,
-        polarity: Polarity,
-    ) -> Result<usize, NoMemory>
+    fn made(&self, table: &mut Table, shape: Shape, polarity: Polarity) -> Result<usize, NoMemory>
         requires fits { fits_in table.old shape ≡ true }
         ensures node { IfOk result (λ made. slice_get (nodes table.new) made ≡ Some (applied (tree_in table.old shape) (rule self.now) polarity)) }
         ensures grows { Extends table.old table.new };

@@ -14,7 +14,11 @@ pub fn sign(shape: Shape, polarity: Polarity, index: usize) -> Polarity
         Shape::Negation(_) => polarity.turned(),
         Shape::And(_, _) => polarity,
         Shape::Or(_, _) => polarity,
-        Shape::Implies(_, _) => if index == 0 { polarity.turned() } else { polarity },
+        Shape::Implies(_, _) => if index == 0 {
+            polarity.turned()
+        } else {
+            polarity
+        },
         Shape::All(_) => polarity,
         Shape::Ex(_) => polarity,
         Shape::Mark(_, _) => polarity,

@@ -84,11 +84,7 @@ fn bound(
 /// binder's first. The numbers of the loose bound variables beyond fall by as many. Parts without loose
 /// bound variables are left alone. No term has a loose bound variable. The answer is want of memory where
 /// the body nests deeper than MOST_LEVELS.
-pub fn open_several(
-    table: &mut Table,
-    body: usize,
-    with: &[usize],
-) -> Result<usize, NoMemory>
+pub fn open_several(table: &mut Table, body: usize, with: &[usize]) -> Result<usize, NoMemory>
     requires body { is_truth (slice_get (nodes table.old) body) ≡ true }
     requires with { are_objects (nodes table.old) with.now ≡ true }
     requires closed { terms_closed (objects_at (nodes table.old) with.now) ≡ true }

@@ -194,12 +194,15 @@ pub facts-grow : (p q : Pools) → Grows p.names q.names → (vs : List ValueTre
 facts-grow p q g [] [] h = tt
 facts-grow p q g [] (k ∷ fs) h = absurd h
 facts-grow p q g (w ∷ vs) [] h = absurd h
-facts-grow p q g (w ∷ vs) (k ∷ fs) h = (record {
-  extent = h.0.extent;
-  loose = h.0.loose;
-  turn = h.0.turn;
-  names = value-weaker (marked p.names k.names) (marked q.names k.names) (marked-more p.names q.names k.names k.names g (λ i e. e)) w h.0.names;
-}, facts-grow p q g vs fs h.1)
+facts-grow p q g (w ∷ vs) (k ∷ fs) h = (
+  record {
+    extent = h.0.extent;
+    loose = h.0.loose;
+    turn = h.0.turn;
+    names = value-weaker (marked p.names k.names) (marked q.names k.names) (marked-more p.names q.names k.names k.names g (λ i e. e)) w h.0.names;
+  },
+  facts-grow p q g vs fs h.1,
+)
 
 pub facts-at : (p : Pools) (vs : List ValueTree) (fs : List Facts) (n : ℕ) (f : Facts) → AllFacts p vs fs → slice_get fs n ≡ Some f → AreFacts p (the_value (slice_get vs n)) f
 unfolding the_value

@@ -18,7 +18,12 @@ pub struct Facts {
     pub turn: u64,
 }
 
-pub(crate) const NO_FACTS: Facts = Facts { extent: NOTHING, loose: 0, names: 0, turn: 0 };
+pub(crate) const NO_FACTS: Facts = Facts {
+    extent: NOTHING,
+    loose: 0,
+    names: 0,
+    turn: 0,
+};
 
 /// Two nodes side by side.
 pub(crate) fn side(left: Facts, right: Facts) -> Facts

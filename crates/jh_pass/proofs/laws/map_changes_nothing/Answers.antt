@@ -1,5 +1,5 @@
 use Rattle.std.proofs.Common.{◌≡◌, ap, ◌∙◌}
-use Rattle.jh_walk.specs.Mapped.{LeafMap, unchanged, mapped_value}
+use Rattle.jh_walk.specs.Mapped.{unchanged, mapped_value}
 use Rattle.jh_walk.proofs.Identity.{mapped_value-unchanged}
 use Rattle.jh_pass.proofs.laws.map_changes_nothing.Goals as goal
 
