@@ -33,3 +33,4 @@ pub use Rattle.jh_rebuild.specs.Walking
 pub use Rattle.jh_several.specs.Several
 pub use Rattle.jh_several.specs.Pairs
 pub use Rattle.jh_several.specs.OpenedAll
+pub use Rattle.jh_several.specs.Lifted

@@ -1,3 +1,4 @@
+pub mod Lifted
 pub mod OpenedAll
 pub mod OpeningStays
 pub mod Pairs
