@@ -1,0 +1,30 @@
+-- Which rules a program breaks, and where.
+use Rattle.std.specs.Prelude.{ℕ, ◌==◌, ◌||◌, ◌&&◌, nat_lt, Bool, List, [], ◌∷◌, Option, Some, None, if◌then◌else◌}
+use Rattle.std.specs.List.{Contains}
+use Rattle.jh_name.specs.declared.place.Place.{Place}
+use Rattle.jh_ast.specs.Programs.{ProgramTree}
+use Rattle.jh_rules.specs.declared.fault.Fault.{Fault}
+use Rattle.jh_rules.specs.Faults.{fault}
+use Rattle.jh_rules.specs.Words.{is_before}
+use Rattle.jh_rules.specs.Statements.{classes_faults}
+
+-- all faults of a program
+abbrev pub faults_of : ProgramTree → List Fault
+faults_of p = classes_faults p 0 p.classes
+
+-- a rule is broken at a place
+abbrev pub Breaks : ProgramTree → ℕ → Place → Type 0
+Breaks p rule place = Contains (faults_of p) (fault rule place)
+
+-- the lesser of two faults: the earlier in the text, and of one place that of the lesser rule
+abbrev pub is_less : Fault → Fault → Bool
+is_less x y = is_before x.place y.place || ((x.place.line == y.place.line) && ((x.place.column == y.place.column) && nat_lt x.rule y.rule))
+
+abbrev pub lesser : Fault → Option Fault → Option Fault
+lesser x None = Some x
+lesser x (Some y) = Some (if is_less y x then y else x)
+
+-- the least fault of a list
+unfoldable pub least : List Fault → Option Fault
+least [] = None
+least (x ∷ xs) = lesser x (least xs)
