@@ -1,41 +1,25 @@
 -- Which names are in scope at a place.
-use Rattle.std.specs.Prelude.{ℕ, ◌+◌, ◌&&◌, Bool, true, false, List, [], ◌∷◌, ◌++◌, Option, Some, None, if◌then◌else◌}
+use Rattle.std.specs.Prelude.{ℕ, ◌+◌, ◌&&◌, ◌||◌, Bool, true, false, List, [], ◌∷◌, ◌++◌, Option, Some, None, if◌then◌else◌}
 use Rattle.std.specs.List.{flat_map}
-use Rattle.std.specs.Option.{option_map_or}
+use Rattle.jh_name.specs.declared.place.Kind.{Kind}
+use Rattle.jh_name.specs.declared.place.Kind.TheVariants as k
 use Rattle.jh_ast.specs.declared.word.Param.{Param}
 use Rattle.jh_ast.specs.Forms.{LabelledPart}
 use Rattle.jh_ast.specs.Stmts.{StmtTree, StmtTrees}
 use Rattle.jh_ast.specs.Stmts as s
-use Rattle.jh_rules.specs.Words.{same_text, text_of}
+use Rattle.jh_rules.specs.declared.entries.LocalEntry.{LocalEntry}
+use Rattle.jh_rules.specs.declared.entries.Sorts.{Sorts}
+use Rattle.jh_rules.specs.Words.{same_text, is_one_of, text_of}
+use Rattle.jh_rules.specs.Names.{Declared, type_of, kind_of_word, label_of}
 
--- a parameter or local
-pub record Local : Type 0 where
-  pub name : List ℕ
-  pub param : Param
-  pub is_param : Bool
-
-abbrev pub local_of : Bool → Param → Local
-local_of is_param p = record { name = text_of p.name; param = p; is_param = is_param }
-
--- Where code stands: the class, whether the method is static, the parameters and locals in scope, the
--- last first, and the declarations and the labels before it in the text of the method.
+-- Where code stands: the class, whether the method is static, what each name stands for as a parameter or
+-- local in scope, the sorts of the declarations of each name and the labels before it in the text of the method.
 pub record Scope : Type 0 where
   pub class : ℕ
   pub fixed : Bool
-  pub locals : List Local
-  pub earlier : List Param
-  pub labels : List (List ℕ)
-
-unfoldable pub local_in : List ℕ → List Local → Option Local
-local_in x [] = None
-local_in x (l ∷ ls) = if same_text l.name x then Some l else local_in x ls
-
-abbrev pub local_named : Scope → List ℕ → Option Local
-local_named at x = local_in x at.locals
-
--- the labels of invariants and notes
-abbrev pub label_of : LabelledPart → List (List ℕ)
-label_of l = option_map_or (λ w. text_of w ∷ []) l.label []
+  pub local : List ℕ → Option LocalEntry
+  pub earlier : List ℕ → Sorts
+  pub labels : List ℕ → Bool
 
 unfoldable mutual
   -- the declarations in a statement, in the order of the text
@@ -63,28 +47,83 @@ unfoldable mutual
   all_labels_in s.none = []
   all_labels_in (s.more a ss) = labels_in a ++ all_labels_in ss
 
--- behind a statement, or behind its first part, the text before has grown; what it declared inside is no longer in scope
+-- with a declaration of that kind
+abbrev pub with_sort : Kind → Sorts → Sorts
+with_sort k.Int s = record { objects = s.objects; numbers = true; truths = s.truths }
+with_sort k.Bool s = record { objects = s.objects; numbers = s.numbers; truths = true }
+with_sort _ s = record { objects = true; numbers = s.numbers; truths = s.truths }
+
+abbrev pub no_sorts : Sorts
+no_sorts = record { objects = false; numbers = false; truths = false }
+
+-- whether there is a declaration of another kind
+abbrev pub has_other_sort : Kind → Sorts → Bool
+has_other_sort k.Int s = s.objects || s.truths
+has_other_sort k.Bool s = s.objects || s.numbers
+has_other_sort _ s = s.numbers || s.truths
+
+abbrev pub with_declared : (List ℕ → Sorts) → Param → List ℕ → Sorts
+with_declared f d x = if same_text (text_of d.name) x then with_sort (kind_of_word d.jtype) (f x) else f x
+
+unfoldable pub with_all_declared : (List ℕ → Sorts) → List Param → List ℕ → Sorts
+with_all_declared f [] = f
+with_all_declared f (d ∷ ds) = with_all_declared (with_declared f d) ds
+
+abbrev pub with_labels : (List ℕ → Bool) → List (List ℕ) → List ℕ → Bool
+with_labels f labels x = f x || is_one_of x labels
+
+-- Behind a statement, or behind its first part, the text before has grown; what it declared inside is no
+-- longer in scope.
 abbrev pub text_behind : Scope → StmtTree → Scope
-text_behind at a = record { class = at.class; fixed = at.fixed; locals = at.locals; earlier = at.earlier ++ declared a; labels = at.labels ++ labels_in a }
+text_behind at a = record {
+  class = at.class;
+  fixed = at.fixed;
+  local = at.local;
+  earlier = with_all_declared at.earlier (declared a);
+  labels = with_labels at.labels (labels_in a);
+}
 
-abbrev pub declare : Bool → Scope → Param → Scope
-declare is_param at d = record { class = at.class; fixed = at.fixed; locals = local_of is_param d ∷ at.locals; earlier = at.earlier ++ (d ∷ []); labels = at.labels }
+module _ (l : Declared) where
+  abbrev pub local_of : Bool → Param → LocalEntry
+  local_of is_param d = record { ty = type_of l.class_named d.jtype; is_param = is_param }
 
--- the scope of the statement behind one
-abbrev pub behind : Scope → StmtTree → Scope
-behind at (s.local p d r) = declare false at d
-behind at a = text_behind at a
+  abbrev pub declare : Bool → Scope → Param → Scope
+  declare is_param at d = record {
+    class = at.class;
+    fixed = at.fixed;
+    local = λ x. if same_text (text_of d.name) x then Some (local_of is_param d) else at.local x;
+    earlier = with_declared at.earlier d;
+    labels = at.labels;
+  }
 
-abbrev pub with_labels : Scope → List LabelledPart → Scope
-with_labels at is = record { class = at.class; fixed = at.fixed; locals = at.locals; earlier = at.earlier; labels = at.labels ++ flat_map label_of is }
+  -- the scope of the statement behind one
+  abbrev pub behind : Scope → StmtTree → Scope
+  behind at (s.local p d r) = declare false at d
+  behind at a = text_behind at a
+
+  unfoldable pub declare_all : Scope → List Param → Scope
+  declare_all at [] = at
+  declare_all at (d ∷ ds) = declare_all (declare true at d) ds
+
+-- the scope of a loop's body
+abbrev pub in_loop : Scope → List LabelledPart → Scope
+in_loop at is = record {
+  class = at.class;
+  fixed = at.fixed;
+  local = at.local;
+  earlier = at.earlier;
+  labels = with_labels at.labels (flat_map label_of is);
+}
 
 -- the scope of a method's first parameter
 abbrev pub outermost : ℕ → Bool → Scope
-outermost c fixed = record { class = c; fixed = fixed; locals = []; earlier = []; labels = [] }
-
-unfoldable pub declare_all : Scope → List Param → Scope
-declare_all at [] = at
-declare_all at (d ∷ ds) = declare_all (declare true at d) ds
+outermost c fixed = record {
+  class = c;
+  fixed = fixed;
+  local = λ x. None;
+  earlier = λ x. no_sorts;
+  labels = λ x. false;
+}
 
 unfoldable mutual
   -- the statements of a statement, blocks and parts included

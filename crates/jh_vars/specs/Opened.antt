@@ -13,24 +13,30 @@ use Rattle.jh_ast.specs.Stmts.{StmtTree, StmtTrees}
 use Rattle.jh_ast.specs.Stmts as s
 use Rattle.jh_ast.specs.Programs.{ProgramTree, ClassPart, VarPart, DefPart, MethodPart}
 use Rattle.jh_rules.specs.Words.{same_text, is_one_of, text_of}
-use Rattle.jh_rules.specs.Names.{State, state_spelled, def_of, var_of, kind_of_word}
+use Rattle.jh_rules.specs.Names.{declared_in, def_of, kind_of_word}
+use Rattle.jh_vars.specs.States.{State, state_spelled}
 use Rattle.jh_rules.specs.Scopes.{Scope, behind, declare_all, outermost, text_behind}
+use Rattle.jh_rules.specs.declared.entries.StateEntry.{StateEntry}
 use Rattle.jh_vars.specs.Resolved.{Spot, own, as_truth, resolved}
 
 -- a formula outside methods, whose `this` is the variable of a binder round it or a free name
 abbrev pub outside : ℕ → Bool → Spot
-outside n this_bound = record { class = n; locals = []; result = k.Obj; bound = []; this_bound = this_bound }
+outside n this_bound = record { class = n; local = λ x. None; result = k.Obj; bound = []; this_bound = this_bound }
 
 -- a formula of a method
 abbrev pub inside : Kind → Scope → Spot
-inside result at = record { class = at.class; locals = at.locals; result = result; bound = []; this_bound = false }
+inside result at = record { class = at.class; local = at.local; result = result; bound = []; this_bound = false }
 
 module _ (p : ProgramTree) where
+  -- whether there is one variable of that name for each object of the class
+  abbrev pub is_of_objects : ℕ → List ℕ → Bool
+  is_of_objects c x = option_map_or (λ (s : StateEntry). not s.fixed) ((declared_in p).state_of c x) false
+
   -- What a defined variable stands for, where definitions are followed so many times; one of an object has
   -- its `this` as the one loose variable.
   unfoldable pub meant : ℕ → ℕ → List ℕ → ValueTree
   meant zero c x = t.of_object t.null
-  meant (suc n) c x = option_map_or (λ (d : DefPart). resolved p (meant n) d.spec.form (outside c (option_map_or (λ (v : VarPart). not v.fixed) (var_of p c x) false))) (def_of p c x) (t.of_object t.null)
+  meant (suc n) c x = option_map_or (λ (d : DefPart). resolved p (meant n) d.spec.form (outside c (is_of_objects c x))) (def_of p c x) (t.of_object t.null)
 
   -- as often as there are variables is enough where none is cyclic
   abbrev pub all_variables : ℕ
@@ -41,7 +47,7 @@ module _ (p : ProgramTree) where
 
   -- whether a formula outside methods uses `this`, spelled or not, as it is written
   abbrev pub is_of_object : Option State → Bool
-  is_of_object x = option_map_or (λ (y : State). not y.fixed) x false
+  is_of_object x = option_map_or (λ (y : State). not y.entry.fixed) x false
 
   abbrev pub name_uses : ℕ → List (List ℕ) → Word → Bool
   name_uses n bound w = if is_one_of (text_of w) bound then false else if same_text (text_of w) (codes "this") then true else
@@ -94,19 +100,16 @@ module _ (p : ProgramTree) where
 
     pub in_stmts : StmtTrees → Scope → List (ℕ × ValueTree)
     in_stmts s.none at = []
-    in_stmts (s.more a ss) at = in_stmt a at ++ in_stmts ss (behind at a)
+    in_stmts (s.more a ss) at = in_stmt a at ++ in_stmts ss (behind (declared_in p) at a)
 
   abbrev pub entry_scope : ℕ → MethodPart → Scope
-  entry_scope n m = declare_all (outermost n m.fixed) m.params
+  entry_scope n m = declare_all (declared_in p) (outermost n m.fixed) m.params
 
   unfoldable pub in_method : ℕ → MethodPart → List (ℕ × ValueTree)
   in_method n m =
       valued_some (inside (kind_of_word m.result) (entry_scope n m)) m.pre
       ++ valued_some (inside (kind_of_word m.result) (entry_scope n m)) m.post
       ++ in_stmts m.body (entry_scope n m)
-
-  abbrev pub is_of_objects : ℕ → List ℕ → Bool
-  is_of_objects n x = option_map_or (λ (v : VarPart). not v.fixed) (var_of p n x) false
 
   unfoldable pub in_class : ℕ → ClassPart → List (ℕ × ValueTree)
   in_class n c =

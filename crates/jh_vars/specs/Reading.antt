@@ -1,5 +1,5 @@
 -- Which variables a definition reads, and which are cyclic.
-use Rattle.std.specs.Prelude.{◌≡◌, ℕ, ◌+◌, List, [], ◌∷◌, ◌++◌, map, Option, Some, None, is_some, codes, if◌then◌else◌}
+use Rattle.std.specs.Prelude.{◌≡◌, true, ℕ, ◌+◌, List, [], ◌∷◌, ◌++◌, map, Option, Some, None, is_some, codes, if◌then◌else◌}
 use Rattle.std.specs.List.{flat_map, Contains}
 use Rattle.std.specs.Option.{option_map_or}
 use Rattle.jh_ast.specs.declared.word.Word.{Word}
@@ -7,7 +7,8 @@ use Rattle.jh_ast.specs.Forms.{FormTree, FormTrees}
 use Rattle.jh_ast.specs.Forms as f
 use Rattle.jh_ast.specs.Programs.{ProgramTree, ClassPart, VarPart, DefPart}
 use Rattle.jh_rules.specs.Words.{is_one_of, text_of}
-use Rattle.jh_rules.specs.Names.{State, state_spelled, state_named, def_of}
+use Rattle.jh_rules.specs.Names.{def_of}
+use Rattle.jh_vars.specs.States.{State, state_spelled, state_named}
 use Rattle.jh_rules.specs.Formulas.{equations}
 
 module _ (p : ProgramTree) where
@@ -46,7 +47,7 @@ module _ (p : ProgramTree) where
 
   -- what the definition of a variable reads itself
   abbrev pub definition_reads : State → List State
-  definition_reads x = option_map_or (λ (d : DefPart). reads d.spec.form x.class []) (if x.defined then def_of p x.class x.name else None) []
+  definition_reads x = option_map_or (λ (d : DefPart). reads d.spec.form x.entry.class []) (if x.entry.is_defined then def_of p x.entry.class x.name else None) []
 
   -- what a definition reads, directly or through others
   pub data Reads : State → State → Type 0 where
@@ -58,7 +59,10 @@ module _ (p : ProgramTree) where
 
   -- the variables of the text, in its order
   abbrev pub var_state : ℕ → VarPart → State
-  var_state n v = record { class = n; name = text_of v.name; kind = Some v.kind; fixed = v.fixed; ghost = v.is_ghost; defined = is_some (def_of p n (text_of v.name)) }
+  var_state n v = record {
+    entry = record { class = n; kind = Some v.kind; fixed = v.fixed; is_variable = true; is_ghost = v.is_ghost; is_defined = is_some (def_of p n (text_of v.name)) };
+    name = text_of v.name;
+  }
 
   unfoldable pub variables_from : ℕ → List ClassPart → List State
   variables_from n [] = []

@@ -15,9 +15,10 @@ use Rattle.jh_ast.specs.Forms.{FormTree, FormTrees}
 use Rattle.jh_ast.specs.Forms as f
 use Rattle.jh_ast.specs.Programs.{ProgramTree, ClassPart}
 use Rattle.jh_rules.specs.Words.{same_text, is_one_of, text_of}
-use Rattle.jh_rules.specs.Names.{State, kind_of_word, state_spelled, state_named, ◌then◌}
+use Rattle.jh_vars.specs.States.{State, state_spelled, state_named}
 use Rattle.std.specs.Prelude.{slice_get}
-use Rattle.jh_rules.specs.Scopes.{Local, local_in}
+use Rattle.jh_rules.specs.declared.entries.LocalEntry.{LocalEntry}
+use Rattle.jh_rules.specs.Kinds.{kind_of}
 use Rattle.jh_rules.specs.Formulas.{equations}
 
 -- a value of a sort where it has that sort, and else anything
@@ -81,7 +82,7 @@ at_entry = record unchanged {
 -- names, the last first, and whether `this` is the variable of a binder round the whole.
 pub record Spot : Type 0 where
   pub class : ℕ
-  pub locals : List Local
+  pub local : List ℕ → Option LocalEntry
   pub result : Kind
   pub bound : List (List ℕ)
   pub this_bound : Bool
@@ -91,7 +92,7 @@ bound_behind xs [] = xs
 bound_behind xs (w ∷ ws) = bound_behind (text_of w ∷ xs) ws
 
 abbrev pub under : Spot → List Word → Spot
-under at ws = record { class = at.class; locals = at.locals; result = at.result; bound = bound_behind at.bound ws; this_bound = at.this_bound }
+under at ws = record { class = at.class; local = at.local; result = at.result; bound = bound_behind at.bound ws; this_bound = at.this_bound }
 
 abbrev pub this_at : Spot → TermTree
 this_at at = if at.this_bound then t.bound (length at.bound) else t.free_object (own (codes "this") 0)
@@ -170,21 +171,21 @@ module _ (p : ProgramTree) (meaning : ℕ → List ℕ → ValueTree) where
   class_text c = option_map_or (λ (d : ClassPart). text_of d.name) (slice_get p.classes c) []
 
   abbrev pub state_name : State → Name
-  state_name x = own (class_text x.class ++ codes "." ++ x.name) 0
+  state_name x = own (class_text x.entry.class ++ codes "." ++ x.name) 0
 
   abbrev pub kind_known : State → Kind
-  kind_known x = option_map_or (λ u. u) x.kind k.Obj
+  kind_known x = option_map_or (λ u. u) x.entry.kind k.Obj
 
   -- a static, or a defined static variable
   abbrev pub static_value : State → ValueTree
-  static_value x = if x.defined then meaning x.class x.name else free (kind_known x) (state_name x)
+  static_value x = if x.entry.is_defined then meaning x.entry.class x.name else free (kind_known x) (state_name x)
 
   -- a member of an object, or what is defined for it
   abbrev pub member_value : State → TermTree → ValueTree
-  member_value x a = if x.defined then mapped_value (meaning x.class x.name) (receiving a) 0 else read (kind_known x) (state_name x) a
+  member_value x a = if x.entry.is_defined then mapped_value (meaning x.entry.class x.name) (receiving a) 0 else read (kind_known x) (state_name x) a
 
   abbrev pub state_value : Spot → State → ValueTree
-  state_value at x = if x.fixed then static_value x else member_value x (this_at at)
+  state_value at x = if x.entry.fixed then static_value x else member_value x (this_at at)
 
   abbrev pub outer_value : Spot → Word → ValueTree
   outer_value at w =
@@ -196,7 +197,7 @@ module _ (p : ProgramTree) (meaning : ℕ → List ℕ → ValueTree) where
   abbrev pub name_value : Spot → Word → ValueTree
   name_value at w =
       option_map_or (λ i. t.of_object (t.bound i)) (bound_as 0 (text_of w) at.bound)
-      (option_map_or (λ (l : Local). free (kind_of_word l.param.jtype) (own l.name 0)) (local_in (text_of w) at.locals) (outer_value at w))
+      (option_map_or (λ (l : LocalEntry). free (option_map_or kind_of l.ty k.Obj) (own (text_of w) 0)) (at.local (text_of w)) (outer_value at w))
 
   abbrev pub field_name : Spot → Word → Name
   field_name at w = option_map_or state_name (state_named p at.class (text_of w)) (own [] 0)

@@ -14,8 +14,9 @@ use Rattle.jh_ast.specs.Programs.{ProgramTree, ClassPart, FieldPart, VarPart, Me
 use Rattle.jh_rules.specs.declared.types.Ty.{Ty}
 use Rattle.jh_rules.specs.Words.{text_of, is_before}
 use Rattle.jh_rules.specs.Kinds.{class_of}
-use Rattle.jh_rules.specs.Names.{State, state_spelled, state_named, class_named, method_of}
-use Rattle.jh_rules.specs.Scopes.{Scope, local_named, behind, text_behind, declare_all, outermost}
+use Rattle.jh_rules.specs.Names.{MemberPart, method, declared_in, number_of, member_of}
+use Rattle.jh_vars.specs.States.{State, state_spelled, state_named}
+use Rattle.jh_rules.specs.Scopes.{Scope, behind, text_behind, declare_all, outermost}
 use Rattle.jh_vars.specs.Reading.{Reads}
 use Rattle.jh_vars.specs.Resolved.{own}
 use Rattle.jh_rules.specs.Exprs.{expr_type, class_spelled, callee_class}
@@ -34,7 +35,7 @@ pub record Callee : Type 0 where
 
 module _ (p : ProgramTree) where
   abbrev pub some_state : Option State → List Written
-  some_state x = option_map_or (λ (y : State). state y.class y.name ∷ []) x []
+  some_state x = option_map_or (λ (y : State). state y.entry.class y.name ∷ []) x []
 
   abbrev pub member_written : Option (Option ℕ) → Option Ty → List ℕ → List Written
   member_written (Some c) t x = option_map_or (λ k. state k x ∷ []) c []
@@ -42,8 +43,8 @@ module _ (p : ProgramTree) where
 
   -- what an assignment to an expression writes
   abbrev pub target_writes : Scope → ExprTree → List Written
-  target_writes at (e.name q w) = if is_some (local_named at (text_of w)) then [] else state at.class (text_of w) ∷ []
-  target_writes at (e.member q a w) = member_written (class_spelled p at a) (expr_type p at a).known (text_of w)
+  target_writes at (e.name q w) = if is_some (at.local (text_of w)) then [] else state at.class (text_of w) ∷ []
+  target_writes at (e.member q a w) = member_written (class_spelled (declared_in p) at a) (expr_type (declared_in p) at a).known (text_of w)
   target_writes at _ = []
 
   abbrev pub class_written : Option ℕ → List Written
@@ -53,7 +54,7 @@ module _ (p : ProgramTree) where
   abbrev pub rhs_writes : RhsTree → List Written
   rhs_writes (s.value a) = []
   rhs_writes (s.result_of c) = []
-  rhs_writes (s.new w) = class_written (class_named p (text_of w))
+  rhs_writes (s.new w) = class_written (number_of p (text_of w))
 
   abbrev pub ghost_writes : Scope → FormTree → List Written
   ghost_writes at (f.name q w) = some_state (state_spelled p at.class (text_of w))
@@ -62,7 +63,7 @@ module _ (p : ProgramTree) where
 
   -- the method that a call calls
   abbrev pub calls_of : Scope → CallTree → List Callee
-  calls_of at c = option_map_or (λ r. option_map_or (λ k. record { class = k; name = text_of c.method } ∷ []) r.0 []) (callee_class p at c.receiver).known []
+  calls_of at c = option_map_or (λ r. option_map_or (λ k. record { class = k; name = text_of c.method } ∷ []) r.0 []) (callee_class (declared_in p) at c.receiver).known []
 
   abbrev pub rhs_calls : Scope → RhsTree → List Callee
   rhs_calls at (s.value a) = []
@@ -82,7 +83,7 @@ module _ (p : ProgramTree) where
 
     pub all_assign : StmtTrees → Scope → List Written
     all_assign s.none at = []
-    all_assign (s.more a ss) at = assigns a at ++ all_assign ss (behind at a)
+    all_assign (s.more a ss) at = assigns a at ++ all_assign ss (behind (declared_in p) at a)
 
   unfoldable mutual
     -- the methods that a statement calls itself
@@ -97,17 +98,21 @@ module _ (p : ProgramTree) where
 
     pub all_call : StmtTrees → Scope → List Callee
     all_call s.none at = []
-    all_call (s.more a ss) at = calls a at ++ all_call ss (behind at a)
+    all_call (s.more a ss) at = calls a at ++ all_call ss (behind (declared_in p) at a)
+
+  abbrev pub method_part : Option MemberPart → Option MethodPart
+  method_part (Some (method m)) = Some m
+  method_part _ = None
 
   -- a method of the program
   abbrev pub part_of : Callee → Option MethodPart
-  part_of m = method_of p m.class m.name
+  part_of m = method_part (member_of p m.class m.name)
 
   abbrev pub own_writes : Callee → List Written
-  own_writes m = option_map_or (λ (x : MethodPart). all_assign x.body (declare_all (outermost m.class x.fixed) x.params)) (part_of m) []
+  own_writes m = option_map_or (λ (x : MethodPart). all_assign x.body (declare_all (declared_in p) (outermost m.class x.fixed) x.params)) (part_of m) []
 
   abbrev pub own_calls : Callee → List Callee
-  own_calls m = option_map_or (λ (x : MethodPart). all_call x.body (declare_all (outermost m.class x.fixed) x.params)) (part_of m) []
+  own_calls m = option_map_or (λ (x : MethodPart). all_call x.body (declare_all (declared_in p) (outermost m.class x.fixed) x.params)) (part_of m) []
 
   -- what a method may write, itself or by the methods that it calls
   pub data MayWrite : Callee → Written → Type 0 where
@@ -150,11 +155,11 @@ module _ (p : ProgramTree) where
 
   -- what `modifies` names: state, or all that a definition reads, through others too
   abbrev pub as_written : State → Written
-  as_written x = state x.class x.name
+  as_written x = state x.entry.class x.name
 
   pub data Names : List State → Written → Type 0 where
-    plainly : (named : List State) (x : State) → Contains named x → x.defined ≡ false → Names named (as_written x)
-    through : (named : List State) (x y : State) → Contains named x → Reads p x y → y.defined ≡ false → Names named (as_written y)
+    plainly : (named : List State) (x : State) → Contains named x → x.entry.is_defined ≡ false → Names named (as_written x)
+    through : (named : List State) (x y : State) → Contains named x → Reads p x y → y.entry.is_defined ≡ false → Names named (as_written y)
 
   abbrev pub named_by : ℕ → MethodPart → List State
   named_by n m = flat_map (λ w. option_map_or (λ x. x ∷ []) (state_named p n (text_of w)) []) m.modifies
