@@ -16,16 +16,3 @@ faults_of p = classes_faults (declared_in p) p 0 p.classes
 -- a rule is broken at a place
 abbrev pub Breaks : ProgramTree → ℕ → Place → Type 0
 Breaks p rule place = Contains (faults_of p) (fault rule place)
-
--- the lesser of two faults: the earlier in the text, and of one place that of the lesser rule
-abbrev pub is_less : Fault → Fault → Bool
-is_less x y = is_before x.place y.place || ((x.place.line == y.place.line) && ((x.place.column == y.place.column) && nat_lt x.rule y.rule))
-
-abbrev pub lesser : Fault → Option Fault → Option Fault
-lesser x None = Some x
-lesser x (Some y) = Some (if is_less y x then y else x)
-
--- the least fault of a list
-unfoldable pub least : List Fault → Option Fault
-least [] = None
-least (x ∷ xs) = lesser x (least xs)

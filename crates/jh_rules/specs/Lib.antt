@@ -1,4 +1,5 @@
 pub mod Faults
+pub mod Found
 pub mod Words
 pub mod Names
 pub mod Kinds

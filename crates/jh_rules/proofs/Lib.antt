@@ -1,0 +1,2 @@
+pub mod Judgements
+mod Ends
