@@ -22,13 +22,15 @@ use Rattle.jh_rules.specs.Scopes.{Scope}
 use Rattle.jh_rules.specs.Rules.{rule_13, rule_14, rule_15, rule_18, rule_19, rule_20, rule_21, rule_22, rule_23, rule_23_number}
 
 module _ (l : Declared) (at : Scope) where
-  -- The class that an expression names as a receiver, which is neither a local nor a member of the own
-  -- class; `Object` names a class without members.
-  abbrev pub class_spelled : ExprTree → Option (Option ℕ)
-  class_spelled (e.name q w) =
+  -- The class that a word names as a receiver, which is neither a local nor a member of the own class; `Object`
+  -- names a class without members.
+  abbrev pub class_word : Word → Option (Option ℕ)
+  class_word w =
       if is_some (at.local (text_of w)) || is_some (l.field_of at.class (text_of w)) then None else
-      if is_some (l.class_named (text_of w)) then Some (l.class_named (text_of w)) else
-      if same_text (text_of w) (codes "Object") then Some None else None
+      option_map_or (λ n. Some (Some n)) (l.class_named (text_of w)) (if same_text (text_of w) (codes "Object") then Some None else None)
+
+  abbrev pub class_spelled : ExprTree → Option (Option ℕ)
+  class_spelled (e.name q w) = class_word w
   class_spelled _ = None
 
   -- what stands before a dot: the class that is looked in, and whether a static is wanted there
