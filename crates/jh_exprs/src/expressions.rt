@@ -143,7 +143,11 @@ pub fn class_spelled(lookups: &Lookups, at: &ScopeTable, expr: &Expr) -> Option<
 }
 
 /// The class of a value before a dot, where no static is wanted.
-fn value_class(lookups: &Lookups, at: &ScopeTable, found: Found<Ty>) -> Found<(Option<usize>, bool)>
+pub(crate) fn value_class(
+    lookups: &Lookups,
+    at: &ScopeTable,
+    found: Found<Ty>,
+) -> Found<(Option<usize>, bool)>
     ensures { (j : Judged Ty) → Finds found j → Finds result (exprs.receiver (declared_by lookups.now) (scope_by at.now) None j) }
 {
     match found.known {

@@ -1,10 +1,12 @@
 //! Types of expressions, kinds of formulas, and the faults in both, over tables of what names are declared as.
 #![tactic(auto)]
 
+mod calls;
 mod expressions;
 mod looking;
 mod scope;
 
+pub use calls::{call_place, call_type};
 pub use expressions::{as_boolean, class_spelled, expr_type};
 pub use looking::{Lookups, Members};
 pub use scope::{ScopeTable, Undo};

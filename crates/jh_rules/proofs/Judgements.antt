@@ -17,7 +17,7 @@ less-back : (x y z : Fault) → is_less x y ≡ false → is_less y z ≡ false 
 unfolding is_less
 less-back x y z a b = grind (arith, nat_tests)
 
-lesser-none : (o : Option Fault) → lesser o None ≡ o
+pub lesser-none : (o : Option Fault) → lesser o None ≡ o
 lesser-none None = refl
 lesser-none (Some x) = refl
 

@@ -97,7 +97,9 @@ module _ (l : Declared) (at : Scope) where
   arguments (a ∷ rest) (d ∷ ds) = both (both (given (expr_type a).known) (given d) >>= λ t. rule_23 a t.0 t.1) (arguments rest ds) >>= λ u. fine
   arguments _ _ = fine
 
+  -- the result of a method for some arguments
+  abbrev pub result_of : Place → ℕ → List ExprTree → MethodEntry → Judged Ty
+  result_of place number es m = rule_23_number place number (length m.params) m >>= λ n. arguments es n.params >>= λ u. given n.result
+
   abbrev pub call_type : CallTree → Judged Ty
-  call_type c = also (flat_map (λ a. (expr_type a).faults) c.args)
-      (callee_class c.receiver >>= callee c >>= λ m. rule_23_number (call_place c) (length c.args) (length m.params) m
-      >>= λ n. arguments c.args n.params >>= λ u. given n.result)
+  call_type c = also (flat_map (λ a. (expr_type a).faults) c.args) (callee_class c.receiver >>= λ r. callee c r >>= result_of (call_place c) (length c.args) c.args)

@@ -1,0 +1,11 @@
+use Rattle.std.proofs.Common.{rules, ◌≡◌, refl, sym, ap, subst, ◌∙◌, Some}
+use Rattle.jh_ast.specs.Bare.{call_tree}
+use Rattle.jh_rules.specs.Faults.{right, given}
+use Rattle.jh_rules.specs.Exprs.{callee_class}
+use Rattle.jh_exprs.specs.Lookings.{declared_by, scope_by}
+use Rattle.jh_exprs.specs.Asking.{called}
+use Rattle.jh_exprs.proofs.calls.value_callee.Goals as goal
+
+-- src/calls.rt
+pub returns-in-Some : goal.returns-in-Some
+returns-in-Some c = λ j h. c.after.ensures j (λ r. right (r.0, Some r.1)) _ h c.in-Some.is c.right.ensures
