@@ -1,3 +1,5 @@
 mod Lists
 mod Arguments
 mod Results
+mod Changes
+mod Undoing

@@ -1,2 +1,3 @@
 pub mod Lookings
 pub mod Asking
+pub mod Changing
