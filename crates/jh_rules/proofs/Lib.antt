@@ -1,2 +1,3 @@
 pub mod Judgements
 mod Ends
+mod Cases
