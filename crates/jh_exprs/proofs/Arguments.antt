@@ -1,12 +1,11 @@
 -- Arguments against parameters, one after the other.
-use Rattle.std.proofs.Common.{◌≡◌, refl, sym, ap, subst, ◌∙◌, ℕ, zero, suc, ◌+◌, ◌≤◌, ◌<◌, List, [], ◌∷◌, map, length, drop, get_or, arith, Option, Some, None}
+use Rattle.std.proofs.Common.{◌≡◌, refl, sym, ap, subst, ◌∙◌, ℕ, ◌+◌, ◌≤◌, ◌<◌, List, [], ◌∷◌, length, drop, get_or, Option, Some, None}
 use Rattle.std.proofs.lemmas.List.{drop_all}
 use Rattle.jh_ast.specs.declared.expr.Expr.{Expr}
-use Rattle.jh_ast.specs.Exprs.{ExprTree}
 use Rattle.jh_ast.specs.Bare.{expr_tree}
 use Rattle.jh_rules.specs.declared.found.Found.{Found}
 use Rattle.jh_rules.specs.declared.types.Ty.{Ty}
-use Rattle.jh_rules.specs.Faults.{Judged, fine}
+use Rattle.jh_rules.specs.Faults.{fine}
 use Rattle.jh_rules.specs.Found.{Finds, least}
 use Rattle.jh_rules.specs.Names.{Declared}
 use Rattle.jh_rules.specs.Scopes.{Scope}

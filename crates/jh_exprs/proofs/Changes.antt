@@ -1,5 +1,5 @@
 -- What a change of a table changes in the scope.
-use Rattle.std.proofs.Common.{◌≡◌, refl, sym, ap, subst, ◌∙◌, ℕ, Bool, true, false, List, Option, Some, None, is_some, if◌then◌else◌}
+use Rattle.std.proofs.Common.{◌≡◌, refl, ap, ◌∙◌, ℕ, Bool, true, false, List, Option, Some, is_some, if◌then◌else◌}
 use Rattle.std.specs.Option.{option_map_or}
 use Rattle.std.specs.String.{string_bytes, string_eq}
 use Rattle.std.specs.declared.string.String.{String}

@@ -6,7 +6,7 @@ use Rattle.jh_rules.specs.declared.fault.Fault.{Fault}
 use Rattle.jh_rules.specs.declared.found.Found.{Found}
 use Rattle.jh_rules.specs.Faults.{Judged, fine, both, pair_of, ◌>>=◌}
 use Rattle.jh_rules.specs.Found.{Finds, least, lesser}
-use Rattle.jh_rules.proofs.Judgements.{least-append, lesser-assoc, lesser-none, finds-both}
+use Rattle.jh_rules.proofs.Judgements.{least-append, lesser-assoc, lesser-none}
 use Rattle.jh_exprs.specs.Asking.{both_known, joined}
 
 module _ {A : Type 0} where

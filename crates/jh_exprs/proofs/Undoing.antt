@@ -4,7 +4,6 @@ use Rattle.std.specs.Cmp.Lexicographic.{bytes_decides}
 use Rattle.std.proofs.lemmas.List.{drop_all}
 use Rattle.jh_name.specs.declared.place.Kind.{Kind}
 use Rattle.jh_ast.specs.declared.word.Param.{Param}
-use Rattle.jh_rules.specs.declared.entries.LocalEntry.{LocalEntry}
 use Rattle.jh_rules.specs.declared.entries.Sorts.{Sorts}
 use Rattle.jh_rules.specs.declared.types.Ty.{Ty}
 use Rattle.jh_rules.specs.Words.{same_text, text_of}

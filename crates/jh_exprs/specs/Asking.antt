@@ -11,7 +11,7 @@ use Rattle.jh_rules.specs.declared.found.Found.{Found}
 use Rattle.jh_rules.specs.Found.{lesser}
 use Rattle.jh_rules.specs.Names.{Declared}
 use Rattle.jh_rules.specs.Scopes.{Scope}
-use Rattle.jh_rules.specs.Rules.{rule_15, rule_18, rule_19, rule_21, rule_23, rule_23_number}
+use Rattle.jh_rules.specs.Rules.{rule_15, rule_18, rule_19, rule_21, rule_23}
 use Rattle.jh_rules.specs.Exprs.{receiver, expr_type, arguments, callee, callee_class, result_of}
 use Rattle.jh_ast.specs.Exprs as e
 use Rattle.jh_ast.specs.Stmts.{CallTree}

@@ -1,6 +1,5 @@
 -- How a scope changes.
-use Rattle.std.specs.Prelude.{ℕ, ◌||◌, Bool, true, List, [], ◌∷◌, Option, Some, None, if◌then◌else◌}
-use Rattle.std.specs.Option.{option_map_or}
+use Rattle.std.specs.Prelude.{ℕ, true, List, [], ◌∷◌, Option, if◌then◌else◌}
 use Rattle.jh_rules.specs.declared.entries.LocalEntry.{LocalEntry}
 use Rattle.jh_rules.specs.declared.entries.Sorts.{Sorts}
 use Rattle.jh_rules.specs.Words.{same_text}

@@ -1,8 +1,7 @@
 -- What tables say that names are declared as, and what they stand for at a place.
-use Rattle.std.specs.Prelude.{ℕ, List, Option, Some, None, is_some, slice_get}
+use Rattle.std.specs.Prelude.{Option, Some, None, is_some, slice_get}
 use Rattle.std.specs.Option.{option_map_or}
 use Rattle.indexmap.specs.IndexMap.{get_by_text}
-use Rattle.jh_rules.specs.declared.entries.LocalEntry.{LocalEntry}
 use Rattle.jh_rules.specs.Names.{Declared, ◌then◌}
 use Rattle.jh_rules.specs.Scopes.{Scope, no_sorts}
 use Rattle.jh_exprs.specs.declared.looking.Lookups.{Lookups}

@@ -9,4 +9,4 @@ mod scope;
 pub use calls::{call_place, call_type};
 pub use expressions::{as_boolean, class_spelled, expr_type};
 pub use looking::{Lookups, Members};
-pub use scope::{class_type, kind_of_word, type_of, ScopeTable, Undo};
+pub use scope::{ScopeTable, Undo, class_type, kind_of_word, type_of};

@@ -107,7 +107,12 @@ impl ScopeTable {
     }
 
     /// Declares a parameter or local.
-    pub fn declare(&mut self, lookups: &Lookups, param: &Param, is_param: bool) -> Result<(), NoMemory>
+    pub fn declare(
+        &mut self,
+        lookups: &Lookups,
+        param: &Param,
+        is_param: bool,
+    ) -> Result<(), NoMemory>
         ensures changed { OnOk result (scope_by self.new ≡ scopes.declare (declared_by lookups.now) is_param (scope_by self.old) param.now) }
         ensures undos { OnOk result (self.new.undos.items ≡ self.old.undos.items ++ changing.undo param.now.name.text.text ((scope_by self.old).local param.now.name.text.text) ∷ []) }
     {
@@ -191,8 +196,17 @@ fn with_sort(kind: Kind, sorts: Sorts) -> Sorts
     ensures { result ≡ scopes.with_sort kind sorts }
 {
     match kind {
-        Kind::Int => Sorts { numbers: true, ..sorts },
-        Kind::Bool => Sorts { truths: true, ..sorts },
-        _ => Sorts { objects: true, ..sorts },
+        Kind::Int => Sorts {
+            numbers: true,
+            ..sorts
+        },
+        Kind::Bool => Sorts {
+            truths: true,
+            ..sorts
+        },
+        _ => Sorts {
+            objects: true,
+            ..sorts
+        },
     }
 }

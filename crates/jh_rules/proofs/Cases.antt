@@ -1,6 +1,5 @@
 -- Each rule broken by a small source, with the place, and beside it a source that breaks none.
-use Rattle.std.proofs.Common.{◌≡◌, refl, ℕ, ℤ, pos, Bool, true, false, List, [], ◌∷◌, Option, Some, None, codes}
-use Rattle.jh_name.specs.declared.naming.Name.{Name}
+use Rattle.std.proofs.Common.{◌≡◌, refl, ℕ, pos, Bool, true, false, List, [], ◌∷◌, Option, Some, None, codes}
 use Rattle.jh_name.specs.declared.place.Place.{Place}
 use Rattle.jh_name.specs.declared.place.Kind.{Kind}
 use Rattle.jh_name.specs.declared.place.Kind.TheVariants as k
@@ -16,11 +15,10 @@ use Rattle.jh_ast.specs.Forms.{FormTree, SpecPart, LabelledPart}
 use Rattle.jh_ast.specs.Forms as f
 use Rattle.jh_ast.specs.Stmts.{StmtTrees, CallTree}
 use Rattle.jh_ast.specs.Stmts as s
-use Rattle.jh_ast.specs.Programs.{ProgramTree, ClassPart, FieldPart, VarPart, DefPart, MethodPart}
+use Rattle.jh_ast.specs.Programs.{ClassPart, FieldPart, VarPart, DefPart, MethodPart}
 use Rattle.jh_rules.specs.declared.fault.Fault.{Fault}
 use Rattle.jh_rules.specs.Breaks.{faults_of}
 use Rattle.jh_rules.specs.Found.{least, is_less}
-
 use Rattle.jh_rules.specs.Words.{halves}
 use Rattle.jh_rules.specs.Names.{first_named, class_from, def_in, states_from}
 use Rattle.jh_rules.specs.Faults.{each}
@@ -32,28 +30,40 @@ use Rattle.jh_rules.specs.Statements.{stmt_faults, all_faults, param_faults, met
 
 abbrev at : ℕ → ℕ → Place
 at l c = record { line = l; column = c }
+
 abbrev word : List ℕ → ℕ → ℕ → Word
 word t l c = record { text = record { text = t; turn = 0 }; place = at l c }
+
 abbrev spec : Place → ℕ → FormTree → SpecPart
 spec p n a = record { place = p; number = n; form = a }
+
 abbrev labelled : Option Word → SpecPart → List Word → LabelledPart
 labelled n a ws = record { label = n; spec = a; from = ws }
+
 abbrev param : Word → JType → Param
 param w t = record { name = w; jtype = t }
+
 abbrev call : Option ExprTree → Word → List ExprTree → CallTree
 call r m es = record { receiver = r; method = m; args = es }
+
 abbrev field : Word → JType → Bool → Option ExprTree → FieldPart
 field w t x i = record { name = w; jtype = t; fixed = x; init = i }
+
 abbrev var : Word → Kind → Bool → Bool → Option SpecPart → VarPart
 var w t x g i = record { name = w; kind = t; fixed = x; is_ghost = g; init = i }
+
 abbrev def : Word → SpecPart → DefPart
 def w a = record { name = w; spec = a }
+
 abbrev method : Word → Bool → Bool → JType → List Param → Option SpecPart → List Word → Option SpecPart → StmtTrees → Place → MethodPart
 method w u x r ps pre ms post b q = record { name = w; is_public = u; fixed = x; result = r; params = ps; pre = pre; modifies = ms; post = post; body = b; end = q }
+
 abbrev class : Word → List FieldPart → List MethodPart → List VarPart → List DefPart → List LabelledPart → ClassPart
 class w fs ms vs ds is = record { name = w; fields = fs; methods = ms; vars = vs; defs = ds; invariants = is }
+
 abbrev answer : List ClassPart → Option Fault
 answer cs = least (faults_of (record { classes = cs }))
+
 abbrev broken : ℕ → ℕ → ℕ → Option Fault
 broken r l c = Some (record { place = at l c; rule = r })
 

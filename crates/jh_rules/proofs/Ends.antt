@@ -1,5 +1,5 @@
 -- The last statement of a list.
-use Rattle.std.proofs.Common.{◌≡◌, refl, List, [], ◌∷◌, ◌++◌, Bool, false, ap, ◌∙◌, ℕ, suc, ◌-◌, ◌≤◌, length, get_or, arith}
+use Rattle.std.proofs.Common.{◌≡◌, refl, List, [], ◌∷◌, false, ap, ◌∙◌, suc, ◌-◌, ◌≤◌, length, get_or, arith}
 use Rattle.jh_ast.specs.declared.stmt.Stmt.{Stmt}
 use Rattle.jh_ast.specs.Stmts as s
 use Rattle.jh_ast.specs.Bare.{stmt_tree, stmt_trees}

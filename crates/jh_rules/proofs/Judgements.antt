@@ -1,12 +1,12 @@
 -- How what the code finds goes together.
-use Rattle.std.proofs.Common.{◌≡◌, refl, sym, ap, ◌∙◌, ℕ, nat_lt, ◌==◌, ◌||◌, ◌&&◌, Bool, true, false, List, [], ◌∷◌, ◌++◌, Option, Some, None, if◌then◌else◌, arith}
+use Rattle.std.proofs.Common.{◌≡◌, refl, sym, ap, ◌∙◌, ℕ, Bool, true, false, List, [], ◌∷◌, ◌++◌, Option, Some, None, arith}
 use Rattle.std.specs.Option.{option_map_or}
 use Rattle.std.proofs.lemmas.Bool.{true≢false}
 use Rattle.std.proofs.lemmas.Bool.Decides.{nat_tests}
 use Rattle.jh_name.specs.declared.place.Place.{Place}
 use Rattle.jh_rules.specs.declared.fault.Fault.{Fault}
 use Rattle.jh_rules.specs.declared.found.Found.{Found}
-use Rattle.jh_rules.specs.Faults.{Judged, fault, right, wrong, given, needs, both, pair_of, ◌>>=◌}
+use Rattle.jh_rules.specs.Faults.{Judged, right, wrong, needs, both, pair_of, ◌>>=◌}
 use Rattle.jh_rules.specs.Found.{Finds, least, lesser, is_less}
 
 less-trans : (x y z : Fault) → is_less x y ≡ true → is_less y z ≡ true → is_less x z ≡ true

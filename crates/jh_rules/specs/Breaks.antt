@@ -1,11 +1,10 @@
 -- Which rules a program breaks, and where.
-use Rattle.std.specs.Prelude.{ℕ, ◌==◌, ◌||◌, ◌&&◌, nat_lt, Bool, List, [], ◌∷◌, Option, Some, None, if◌then◌else◌}
+use Rattle.std.specs.Prelude.{ℕ, List}
 use Rattle.std.specs.List.{Contains}
 use Rattle.jh_name.specs.declared.place.Place.{Place}
 use Rattle.jh_ast.specs.Programs.{ProgramTree}
 use Rattle.jh_rules.specs.declared.fault.Fault.{Fault}
 use Rattle.jh_rules.specs.Faults.{fault}
-use Rattle.jh_rules.specs.Words.{is_before}
 use Rattle.jh_rules.specs.Names.{declared_in}
 use Rattle.jh_rules.specs.Statements.{classes_faults}
 

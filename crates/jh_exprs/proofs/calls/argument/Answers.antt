@@ -1,9 +1,6 @@
-use Rattle.std.proofs.Common.{rules, ◌≡◌, refl, sym, ap, subst, ◌∙◌}
+use Rattle.std.proofs.Common.{subst}
 use Rattle.jh_ast.specs.Bare.{expr_tree}
-use Rattle.jh_rules.specs.declared.found.Found.{Found}
-use Rattle.jh_rules.specs.declared.types.Ty.{Ty}
-use Rattle.std.specs.Prelude.{Option}
-use Rattle.jh_rules.specs.Faults.{Judged, given, both}
+use Rattle.jh_rules.specs.Faults.{given, both}
 use Rattle.jh_rules.specs.Found.{Finds}
 use Rattle.jh_rules.specs.Rules.{rule_23}
 use Rattle.jh_rules.specs.Exprs.{expr_type}

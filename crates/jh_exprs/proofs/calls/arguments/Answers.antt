@@ -1,4 +1,3 @@
-use Rattle.std.proofs.Common.{rules, ◌≡◌, refl, sym, ap, ◌∙◌}
 use Rattle.jh_exprs.specs.Lookings.{declared_by, scope_by}
 use Rattle.jh_exprs.proofs.Arguments.{gathers-start, gathers-next, gathers-end, gathers-out}
 use Rattle.jh_exprs.proofs.calls.arguments.Goals as goal

@@ -1,4 +1,4 @@
-use Rattle.std.proofs.Common.{rules, ◌≡◌, refl, sym, ap, ◌∙◌}
+use Rattle.std.proofs.Common.{refl, ap, ◌∙◌}
 use Rattle.jh_rules.specs.Found.{least, lesser}
 use Rattle.jh_exprs.specs.Lookings.{declared_by, scope_by}
 use Rattle.jh_exprs.specs.Asking.{all_faults}

@@ -1,6 +1,6 @@
-use Rattle.std.proofs.Common.{rules, ◌≡◌, refl, sym, ap, ◌∙◌}
+use Rattle.std.proofs.Common.{refl, sym, ap, ◌∙◌}
 use Rattle.jh_ast.specs.Bare.{expr_tree}
-use Rattle.jh_rules.specs.Found.{least, lesser}
+use Rattle.jh_rules.specs.Found.{lesser}
 use Rattle.jh_rules.specs.Exprs.{expr_type}
 use Rattle.jh_exprs.specs.Lookings.{declared_by, scope_by}
 use Rattle.jh_exprs.proofs.Lists.{least-next, least-end}

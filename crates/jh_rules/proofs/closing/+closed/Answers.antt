@@ -1,6 +1,4 @@
-use Rattle.std.proofs.Common.{rules, ◌≡◌, refl, sym, ap, ◌∙◌, Some, None, Option, ◌&&◌, true, false}
-use Rattle.jh_ast.specs.Bare.{stmt_tree, stmt_body_tree}
-use Rattle.jh_rules.specs.Scopes.{is_closed, is_closed_part}
+use Rattle.std.proofs.Common.{◌∙◌}
 use Rattle.jh_rules.proofs.Ends.{ends-last}
 use Rattle.jh_rules.proofs.closing.+closed.Goals as goal
 

@@ -1,4 +1,4 @@
-use Rattle.std.proofs.Common.{rules, refl}
+use Rattle.std.proofs.Common.{refl}
 use Rattle.jh_rules.proofs.Judgements.{finds-then}
 use Rattle.jh_rules.proofs.found.after.Goals as goal
 

@@ -1,4 +1,3 @@
-use Rattle.std.proofs.Common.{rules, refl}
 use Rattle.jh_rules.proofs.Judgements.{finds-both}
 use Rattle.jh_rules.proofs.found.both.Goals as goal
 

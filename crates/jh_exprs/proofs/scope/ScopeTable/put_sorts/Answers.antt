@@ -1,4 +1,3 @@
-use Rattle.std.proofs.Common.{rules, ◌≡◌, refl, sym, ap, ◌∙◌}
 use Rattle.jh_exprs.specs.Lookings.{scope_by}
 use Rattle.jh_exprs.proofs.Changes.{sorts-text}
 use Rattle.jh_exprs.proofs.scope.ScopeTable.put_sorts.Goals as goal
