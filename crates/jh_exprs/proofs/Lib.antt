@@ -3,3 +3,4 @@ mod Arguments
 mod Results
 mod Changes
 mod Undoing
+mod Behind

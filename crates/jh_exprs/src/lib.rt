@@ -3,10 +3,12 @@
 
 mod calls;
 mod expressions;
+mod firsts;
 mod looking;
 mod scope;
 
 pub use calls::{call_place, call_type};
 pub use expressions::{as_boolean, class_spelled, expr_type};
+pub use firsts::{Firsts, firsts_of};
 pub use looking::{Lookups, Members};
 pub use scope::{ScopeTable, Undo, class_type, kind_of_word, type_of};
