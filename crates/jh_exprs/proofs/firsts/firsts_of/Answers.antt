@@ -1,4 +1,3 @@
-use Rattle.std.proofs.Common.{rules, ◌≡◌, refl, sym, ap, ◌∙◌}
 use Rattle.jh_exprs.proofs.Behind.{holds-next, holds-end}
 use Rattle.jh_exprs.proofs.firsts.firsts_of.Goals as goal
 

@@ -1,4 +1,4 @@
-use Rattle.std.proofs.Common.{rules, ◌≡◌, refl, sym, ap, ◌∙◌, Some, if◌then◌else◌}
+use Rattle.std.proofs.Common.{ap, ◌∙◌, Some, if◌then◌else◌}
 use Rattle.indexmap.specs.IndexMap.{get_by_text}
 use Rattle.jh_rules.specs.Words.{same_text, text_of}
 use Rattle.jh_exprs.specs.Firsts.{earlier, first}
