@@ -1,0 +1,6 @@
+mod Lists
+mod Arguments
+mod Results
+mod Changes
+mod Undoing
+mod Behind

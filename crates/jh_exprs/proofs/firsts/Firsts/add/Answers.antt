@@ -1,0 +1,11 @@
+use Rattle.std.proofs.Common.{ap, ◌∙◌, Some, if◌then◌else◌}
+use Rattle.indexmap.specs.IndexMap.{get_by_text}
+use Rattle.jh_rules.specs.Words.{same_text, text_of}
+use Rattle.jh_exprs.specs.Firsts.{earlier, first}
+use Rattle.jh_exprs.proofs.Changes.{at-text}
+use Rattle.jh_exprs.proofs.firsts.Firsts.add.Goals as goal
+
+-- src/firsts.rt
+pub returns : goal.returns
+returns c = λ x. at-text c.args.self.now.places c.insert.new.self c.in_ok-key.key c.earlier-place.result (text_of c.args.word.now) (c.in_ok-key.ensures.ok ∙ c.text-text.ensures) c.in_ok-insert.ensures.updates x
+    ∙ ap (λ p. if same_text (text_of c.args.word.now) x then Some p else get_by_text c.args.self.now.places x) (c.earlier-place.ensures ∙ ap (λ o. earlier o c.args.word.now.place) (c.first.ensures ∙ ap (first c.args.self.now) c.text-text.ensures))

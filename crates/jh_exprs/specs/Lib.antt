@@ -1,0 +1,4 @@
+pub mod Lookings
+pub mod Asking
+pub mod Changing
+pub mod Firsts

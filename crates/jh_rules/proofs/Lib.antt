@@ -1,0 +1,4 @@
+pub mod Judgements
+mod Ends
+mod Cases
+mod Counts

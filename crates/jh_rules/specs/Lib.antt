@@ -1,0 +1,12 @@
+pub mod Faults
+pub mod Found
+pub mod Words
+pub mod Names
+pub mod Kinds
+pub mod Scopes
+pub mod Rules
+pub mod Exprs
+pub mod Formulas
+pub mod Statements
+pub mod Breaks
+pub mod Shape

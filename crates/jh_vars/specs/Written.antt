@@ -1,0 +1,188 @@
+-- The state that a method may write, and the state that it names.
+use Rattle.std.specs.Prelude.{◌≡◌, ◌↔◌, IsTrue, filter, ℕ, ◌+◌, Bool, false, List, [], ◌∷◌, ◌++◌, map, Option, Some, None, is_some, slice_get, codes, if◌then◌else◌}
+use Rattle.std.specs.List.{flat_map, Contains}
+use Rattle.std.specs.Option.{option_map_or}
+use Rattle.jh_name.specs.declared.naming.Name.{Name}
+use Rattle.jh_ast.specs.declared.word.Word.{Word}
+use Rattle.jh_ast.specs.Exprs.{ExprTree}
+use Rattle.jh_ast.specs.Exprs as e
+use Rattle.jh_ast.specs.Forms.{FormTree}
+use Rattle.jh_ast.specs.Forms as f
+use Rattle.jh_ast.specs.Stmts.{StmtTree, StmtTrees, RhsTree, CallTree}
+use Rattle.jh_ast.specs.Stmts as s
+use Rattle.jh_ast.specs.Programs.{ProgramTree, ClassPart, FieldPart, VarPart, MethodPart}
+use Rattle.jh_rules.specs.declared.types.Ty.{Ty}
+use Rattle.jh_rules.specs.Words.{text_of, is_before}
+use Rattle.jh_rules.specs.Kinds.{class_of}
+use Rattle.jh_rules.specs.Names.{MemberPart, method, declared_in, number_of, member_of}
+use Rattle.jh_vars.specs.States.{State, state_spelled, state_named}
+use Rattle.jh_rules.specs.Scopes.{Scope, behind, text_behind, declare_all, outermost}
+use Rattle.jh_vars.specs.Reading.{Reads}
+use Rattle.jh_vars.specs.Resolved.{own}
+use Rattle.jh_rules.specs.Exprs.{expr_type, class_spelled, callee_class}
+
+-- what a method may change: the sets of objects, or a static, field or ghost variable by its state
+pub data Written : Type 0 where
+  allocated : Written
+  objects : ℕ → Written
+  plain_objects : Written
+  state : ℕ → List ℕ → Written
+
+-- a method, by its class and its name
+pub record Callee : Type 0 where
+  pub class : ℕ
+  pub name : List ℕ
+
+module _ (p : ProgramTree) where
+  abbrev pub some_state : Option State → List Written
+  some_state x = option_map_or (λ (y : State). state y.entry.class y.name ∷ []) x []
+
+  abbrev pub member_written : Option (Option ℕ) → Option Ty → List ℕ → List Written
+  member_written (Some c) t x = option_map_or (λ k. state k x ∷ []) c []
+  member_written None t x = option_map_or (λ u. option_map_or (λ k. state k x ∷ []) (class_of u) []) t []
+
+  -- what an assignment to an expression writes
+  abbrev pub target_writes : Scope → ExprTree → List Written
+  target_writes at (e.name q w) = if is_some (at.local (text_of w)) then [] else state at.class (text_of w) ∷ []
+  target_writes at (e.member q a w) = member_written (class_spelled (declared_in p) at a) (expr_type (declared_in p) at a).known (text_of w)
+  target_writes at _ = []
+
+  abbrev pub class_written : Option ℕ → List Written
+  class_written (Some c) = allocated ∷ objects c ∷ []
+  class_written None = allocated ∷ plain_objects ∷ []
+
+  abbrev pub rhs_writes : RhsTree → List Written
+  rhs_writes (s.value a) = []
+  rhs_writes (s.result_of c) = []
+  rhs_writes (s.new w) = class_written (number_of p (text_of w))
+
+  abbrev pub ghost_writes : Scope → FormTree → List Written
+  ghost_writes at (f.name q w) = some_state (state_spelled p at.class (text_of w))
+  ghost_writes at (f.member q a w) = some_state (state_named p at.class (text_of w))
+  ghost_writes at _ = []
+
+  -- the method that a call calls
+  abbrev pub calls_of : Scope → CallTree → List Callee
+  calls_of at c = option_map_or (λ r. option_map_or (λ k. record { class = k; name = text_of c.method } ∷ []) r.0 []) (callee_class (declared_in p) at c.receiver).known []
+
+  abbrev pub rhs_calls : Scope → RhsTree → List Callee
+  rhs_calls at (s.value a) = []
+  rhs_calls at (s.result_of c) = calls_of at c
+  rhs_calls at (s.new w) = []
+
+  unfoldable mutual
+    -- what a statement assigns itself
+    pub assigns : StmtTree → Scope → List Written
+    assigns (s.block q ss) at = all_assign ss at
+    assigns (s.local q d r) at = option_map_or rhs_writes r []
+    assigns (s.assign q a r) at = target_writes at a ++ rhs_writes r
+    assigns (s.branch q c a b) at = assigns a at ++ all_assign b (text_behind at a)
+    assigns (s.loop q is c a) at = assigns a at
+    assigns (s.ghost q l r) at = ghost_writes at l.form
+    assigns _ at = []
+
+    pub all_assign : StmtTrees → Scope → List Written
+    all_assign s.none at = []
+    all_assign (s.more a ss) at = assigns a at ++ all_assign ss (behind (declared_in p) at a)
+
+  unfoldable mutual
+    -- the methods that a statement calls itself
+    pub calls : StmtTree → Scope → List Callee
+    calls (s.block q ss) at = all_call ss at
+    calls (s.local q d r) at = option_map_or (rhs_calls at) r []
+    calls (s.assign q a r) at = rhs_calls at r
+    calls (s.call q c) at = calls_of at c
+    calls (s.branch q c a b) at = calls a at ++ all_call b (text_behind at a)
+    calls (s.loop q is c a) at = calls a at
+    calls _ at = []
+
+    pub all_call : StmtTrees → Scope → List Callee
+    all_call s.none at = []
+    all_call (s.more a ss) at = calls a at ++ all_call ss (behind (declared_in p) at a)
+
+  abbrev pub method_part : Option MemberPart → Option MethodPart
+  method_part (Some (method m)) = Some m
+  method_part _ = None
+
+  -- a method of the program
+  abbrev pub part_of : Callee → Option MethodPart
+  part_of m = method_part (member_of p m.class m.name)
+
+  abbrev pub own_writes : Callee → List Written
+  own_writes m = option_map_or (λ (x : MethodPart). all_assign x.body (declare_all (declared_in p) (outermost m.class x.fixed) x.params)) (part_of m) []
+
+  abbrev pub own_calls : Callee → List Callee
+  own_calls m = option_map_or (λ (x : MethodPart). all_call x.body (declare_all (declared_in p) (outermost m.class x.fixed) x.params)) (part_of m) []
+
+  -- what a method may write, itself or by the methods that it calls
+  pub data MayWrite : Callee → Written → Type 0 where
+    itself : (m : Callee) (x : Written) → Contains (own_writes m) x → MayWrite m x
+    called : (m n : Callee) (x : Written) → Contains (own_calls m) n → MayWrite n x → MayWrite m x
+
+  -- The state names in order: the sets of objects, then, class by class, statics, fields and ghost variables by
+  -- their places.
+  abbrev pub placed_of : ClassPart → List Word
+  placed_of c = map (λ (x : FieldPart). x.name) c.fields ++ flat_map (λ (v : VarPart). if v.is_ghost then v.name ∷ [] else []) c.vars
+
+  unfoldable pub put_in : Word → List Word → List Word
+  put_in w [] = w ∷ []
+  put_in w (v ∷ vs) = if is_before w.place v.place then w ∷ v ∷ vs else v ∷ put_in w vs
+
+  unfoldable pub in_order : List Word → List Word
+  in_order [] = []
+  in_order (w ∷ ws) = put_in w (in_order ws)
+
+  unfoldable pub members_in_order : ℕ → List ClassPart → List Written
+  members_in_order n [] = []
+  members_in_order n (c ∷ cs) = map (λ w. state n (text_of w)) (in_order (placed_of c)) ++ members_in_order (n + 1) cs
+
+  unfoldable pub class_sets : ℕ → List ClassPart → List Written
+  class_sets n [] = plain_objects ∷ []
+  class_sets n (c ∷ cs) = objects n ∷ class_sets (n + 1) cs
+
+  abbrev pub all_state : List Written
+  all_state = allocated ∷ class_sets 0 p.classes ++ members_in_order 0 p.classes
+
+  -- the state names of a test, in their order
+  pub record IsSelected (holds : Written → Type 0) (result : List Written) : Type 0 where
+    pub test : Written → Bool
+    pub exact : (x : Written) → IsTrue (test x) ↔ holds x
+    pub is : result ≡ filter test all_state
+
+  -- `written` of a method
+  abbrev pub IsWrittenList : Callee → List Written → Type 0
+  IsWrittenList m result = IsSelected (MayWrite m) result
+
+  -- what `modifies` names: state, or all that a definition reads, through others too
+  abbrev pub as_written : State → Written
+  as_written x = state x.entry.class x.name
+
+  pub data Names : List State → Written → Type 0 where
+    plainly : (named : List State) (x : State) → Contains named x → x.entry.is_defined ≡ false → Names named (as_written x)
+    through : (named : List State) (x y : State) → Contains named x → Reads p x y → y.entry.is_defined ≡ false → Names named (as_written y)
+
+  abbrev pub named_by : ℕ → MethodPart → List State
+  named_by n m = flat_map (λ w. option_map_or (λ x. x ∷ []) (state_named p n (text_of w)) []) m.modifies
+
+  abbrev pub IsModifiedList : ℕ → MethodPart → List Written → Type 0
+  IsModifiedList n m result = IsSelected (Names (named_by n m)) result
+
+  -- the name of each piece of state
+  abbrev pub class_word : ℕ → List ℕ
+  class_word n = option_map_or (λ (c : ClassPart). text_of c.name) (slice_get p.classes n) []
+
+  abbrev pub written_name : Written → Name
+  written_name allocated = own (codes "alloc") 0
+  written_name (objects n) = own (class_word n) 0
+  written_name plain_objects = own (codes "Object") 0
+  written_name (state n x) = own (class_word n ++ codes "." ++ x) 0
+
+  -- all state names, in their order
+  abbrev pub state_names : List Name
+  state_names = map written_name all_state
+
+  -- a list of the names of the state that a test holds of, in the order of all state names
+  pub record IsListOf (holds : Written → Type 0) (names : List Name) : Type 0 where
+    pub state : List Written
+    pub selected : IsSelected holds state
+    pub named : names ≡ map written_name state
