@@ -1,0 +1,5 @@
+pub mod Facts
+pub mod Ends
+pub mod Starts
+pub mod Sound
+pub mod Complete

@@ -1,0 +1,2 @@
+//! Expressions, calls and targets.
+#![tactic(auto)]
