@@ -3,3 +3,4 @@ pub mod Ends
 pub mod Starts
 pub mod Sound
 pub mod Complete
+mod Levels

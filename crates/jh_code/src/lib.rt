@@ -1,2 +1,9 @@
-//! Expressions, calls and targets.
+//! The parser of expressions, of calls and of what is assigned to.
 #![tactic(auto)]
+
+mod calls;
+mod expressions;
+mod operators;
+
+
+pub use expressions::{expression, reads};

@@ -1,0 +1,1 @@
+//! Calls, what is assigned, and what is assigned to.
