@@ -4,3 +4,4 @@ pub mod Starts
 pub mod Sound
 pub mod Complete
 mod Levels
+mod Rests

@@ -13,9 +13,7 @@ use crate::operators::{constant, operator};
 use jh_ast::{Expr, ExprBody, Op, Word};
 use jh_lex::{Symbol, Token};
 use jh_name::NoMemory;
-use jh_peek::{
-    ReadError, behind, boxed, boxed_two, is_plain_word, is_symbol, number, place, word,
-};
+use jh_peek::{ReadError, behind, boxed, boxed_two, is_plain_word, is_symbol, number, place, word};
 use std::alloc::Global;
 
 #[tactic(auto, using(jh_ast::proofs::ExprSteps::expr_steps))]
@@ -91,11 +89,7 @@ fn dots(
 
 /// A word, a number or a constant.
 #[tactic(auto, using(jh_ast::proofs::ExprSteps::expr_steps, crate::proofs::Levels::level_steps), unfolding(crate::specs::Reading::simple_at, jh_peek::specs::Choices::and_then, jh_peek::specs::Choices::choose, jh_peek::specs::Choices::given))]
-fn simple(
-    alloc: Global,
-    tokens: &[Token],
-    at: usize,
-) -> Result<(Expr, usize), ReadError>
+fn simple(alloc: Global, tokens: &[Token], at: usize) -> Result<(Expr, usize), ReadError>
     requires { at ≤ length tokens.now }
     ensures value { GivesExpr (read.simple_at tokens.now at) result }
     ensures within { IfOk result (λ read. IsWithin (length tokens.now) at read.1) }
@@ -336,11 +330,7 @@ fn bracket(
 
 /// The expression at a place, and the place after it.
 #[tactic(auto, using(jh_ast::proofs::ExprSteps::expr_steps, crate::proofs::Levels::level_steps), unfolding(crate::specs::Reading::expression_at, jh_peek::specs::Choices::and_then, jh_peek::specs::Choices::choose, jh_peek::specs::Choices::given))]
-pub fn expression(
-    alloc: Global,
-    tokens: &[Token],
-    at: usize,
-) -> Result<(Expr, usize), ReadError>
+pub fn expression(alloc: Global, tokens: &[Token], at: usize) -> Result<(Expr, usize), ReadError>
     requires { at ≤ length tokens.now }
     ensures value { GivesExpr (read.expression_at tokens.now at) result }
     ensures within { IfOk result (λ read. IsWithin (length tokens.now) at read.1) }

@@ -5,5 +5,5 @@ mod calls;
 mod expressions;
 mod operators;
 
-
+pub use calls::{call, call_after, rhs, target_of};
 pub use expressions::{expression, reads};
