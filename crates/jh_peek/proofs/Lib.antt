@@ -1,6 +1,6 @@
 pub mod Facts
 pub mod Lists
-pub mod Modifiers
+pub mod Modified
 pub mod Options
 pub mod Symbols
 pub mod Words

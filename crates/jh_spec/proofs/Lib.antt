@@ -8,3 +8,4 @@ pub mod PartComplete
 mod Levels
 mod Turns
 mod Members
+mod Separated

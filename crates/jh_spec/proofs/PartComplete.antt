@@ -1,5 +1,5 @@
 -- What stands there of a specification is read.
-use Rattle.std.proofs.Common.{◌≡◌, ℕ, zero, suc, ◌+◌, ◌<◌, ◌≤◌, Bool, true, false, List, [], length, refl, ap, sym, subst, arith}
+use Rattle.std.proofs.Common.{◌≡◌, ℕ, zero, suc, ◌+◌, ◌<◌, ◌≤◌, Bool, true, false, List, length, refl, ap, sym, subst, arith}
 use Rattle.std.proofs.lemmas.Bool.{and_from, or_right}
 use Rattle.std.specs.Prelude.{Option, None, Some, ◌==◌, ◌&&◌, ◌||◌, codes}
 use Rattle.jh_name.specs.declared.place.Kind.{Kind}
@@ -16,12 +16,12 @@ use Rattle.jh_peek.specs.Modifiers as modifier
 use Rattle.jh_peek.specs.Standing.{Is, kind_at, is_at, is_spec_close_at, is_quote_open_at, place_at}
 use Rattle.jh_peek.proofs.Facts.{kinds-apart, within, kind-within, word-kind, name-other}
 use Rattle.jh_peek.proofs.Lists.{many-complete}
-use Rattle.jh_peek.proofs.Modifiers.{modifiers-complete, modifiers-end}
+use Rattle.jh_peek.proofs.Modified.{modifiers-complete, modifiers-end}
 use Rattle.jh_peek.proofs.Options.{Holds, nothing, found, choose_holds, of_found, then_is, choose_on, choose_off, behind_on}
 use Rattle.jh_peek.proofs.Words.{text-kind, text-other, kind-no_text}
-use Rattle.jh_spec.specs.Parts.{ItemTree, Quoted, Label, MaybeSemicolon, Clause, ModifiesItem, ModifiesItems, Modifies, Contract, SpecType, Declared, Visibility, Item, LoopItem, FromWords, From, Spoken, Target, Statement, Items, Loop, Statements, Contracted, Claimed, of_variables}
+use Rattle.jh_spec.specs.Parts.{ItemTree, Quoted, Label, MaybeSemicolon, Clause, ModifiesItem, ModifiesItems, Modifies, Contract, SpecType, Declared, Visibility, Defined, Labelled, Item, LoopItem, FromWords, From, Spoken, Target, Statement, Items, Loop, Statements, Contracted, Claimed, of_variables}
 use Rattle.jh_spec.specs.Parts as part
-use Rattle.jh_spec.specs.PartReading.{quoted_at, label_at, semicolon_at, clause_at, modifies_item_at, separated_at, words_after, contract_at, kind_of_at, declared_at, flags_at, variable_at, definition_at, invariant_at, is_seen_invariant_at, item_at, loop_item_at, word_reader, spoken_at, target_at, ghost_at, said_at, statement_at, items_at, loop_at, statements_at, contracted_at, claimed_at}
+use Rattle.jh_spec.specs.PartReading.{quoted_at, label_at, semicolon_at, clause_at, modifies_item_at, separated_at, words_after, contract_at, kind_of_at, declared_at, flags_at, variable_at, defined_at, definition_at, labelled_at, named_at, invariant_at, is_seen_invariant_at, item_at, loop_item_at, word_reader, spoken_at, target_at, ghost_at, said_at, statement_at, items_at, loop_at, statements_at, contracted_at, claimed_at}
 use Rattle.jh_spec.proofs.Ends.{operand-end, postfix-end}
 use Rattle.jh_spec.proofs.Complete.{formula-complete, postfix-complete}
 use Rattle.jh_spec.proofs.Facts.{quote-rank}
@@ -173,44 +173,58 @@ module _ (ts : List Token) where
   variable-complete {i = i} {j = j} {a = a} {ms = ms} p s q r d = then_is _ (then_is _ (modifiers-complete ts of_variables (suc (length ts)) i a ms p (none_allowed a s) (omega (arith, modifiers-end p, within ts a symbol.Specvar refl s))) refl)
       (then_is _ (behind_on ts a symbol.Specvar s) (then_is _ (declared-complete q) (then_is _ (clause-complete r (kinds-apart ts j _ _ d refl)) (then_is _ (behind_on ts j symbol.Semicolon d) refl))))
 
-  invariant-complete : (a : ℕ) {n b j : ℕ} {l : Option Word} {q : SpecPart} → Label ts (a + 1) l b → Quoted ts n b q j → Is ts j symbol.Semicolon → invariant_at ts n a ≡ Some (part.invariant (record { label = l; spec = q; from = [] }), j + 1, n + 1)
+  defined-end : {n i j : ℕ} {w : Word} {q : SpecPart} → Defined ts n i w q j → i < j
+  defined-end (part.defined o e q p) = omega (arith, operand-end ts p.formula)
+
+  defined-complete : {n i j : ℕ} {w : Word} {q : SpecPart} → Defined ts n i w q j → defined_at ts n i ≡ Some ((w, q), j)
+  unfolding defined_at
+  defined-complete {i = i} (part.defined {j = k} {t = t} o e q p) = choose_on _ o (then_is _ e (then_is _ (behind_on ts (i + 2) symbol.EqualEqual q) (then_is _ (formula-complete ts (i + 3) k t p) refl)))
+
+  labelled-end : {n i j : ℕ} {l : LabelledPart} → Labelled ts n i l j → i < j
+  labelled-end (part.labelled_formula p q) = omega (arith, label-end p, quoted-end q)
+
+  labelled-complete : {n i j : ℕ} {l : LabelledPart} → Labelled ts n i l j → labelled_at ts n i ≡ Some (l, j)
+  unfolding labelled_at
+  labelled-complete (part.labelled_formula p q) = then_is _ (label-complete p (quoted-opens q)) (then_is _ (quoted-complete q) refl)
+
+  invariant-complete : (n a j : ℕ) (l : LabelledPart) → Labelled ts n (a + 1) l j → Is ts j symbol.Semicolon → invariant_at ts n a ≡ Some (part.invariant l, j + 1, n + 1)
   unfolding invariant_at
-  invariant-complete a {j = j} p q d = then_is _ (label-complete p (quoted-opens q)) (then_is _ (quoted-complete q) (then_is _ (behind_on ts j symbol.Semicolon d) refl))
+  invariant-complete n a j l p d = then_is _ (labelled-complete p) (then_is _ (behind_on ts j symbol.Semicolon d) refl)
 
   item-complete : (n i j m : ℕ) (x : ItemTree) → Item ts n i x j m → item_at ts n i ≡ Some (x, j, m)
   unfolding item_at definition_at
   item-complete n i j m x (part.a_variable {a = a} p s q r d) = choose_off _ (modified_not (symbol_number symbol.Vardefs) refl refl refl refl refl p s) (choose_off _ (modified_not (symbol_number symbol.Invariant) refl refl refl refl refl p s) (choose_off _ (not_seen p s) (variable-complete p s q r d)))
-  item-complete n i j m x (part.a_definition {j = k} {w = w} {t = t} v o e q p d) = choose_on _ v (choose_on _ o (then_is _ e (then_is _ (behind_on ts (i + 3) symbol.EqualEqual q) (then_is _ (formula-complete ts (i + 4) k t p) (then_is _ (behind_on ts (k + 1) symbol.Semicolon d) refl)))))
-  item-complete n i j m x (part.an_invariant part.unsaid s p q d) = choose_off _ (kinds-apart ts i _ _ s refl) (choose_on _ s (invariant-complete _ p q d))
-  item-complete n i j m x (part.an_invariant (part.for_all v) s p q d) = choose_off _ (kinds-apart ts i _ _ v refl) (choose_off _ (kinds-apart ts i _ _ v refl) (choose_on _ (and_from _ _ (ap (λ b. b || is_at ts i symbol.Private) v) s) (invariant-complete _ p q d)))
-  item-complete n i j m x (part.an_invariant (part.for_class v) s p q d) = choose_off _ (kinds-apart ts i _ _ v refl) (choose_off _ (kinds-apart ts i _ _ v refl) (choose_on _ (and_from _ _ (or_right _ _ v) s) (invariant-complete _ p q d)))
+  item-complete n i j m x (part.a_definition {j = k} v p d) = choose_on _ v (then_is _ (defined-complete p) (then_is _ (behind_on ts k symbol.Semicolon d) refl))
+  item-complete n i j m x (part.an_invariant part.unsaid s p d) = choose_off _ (kinds-apart ts i _ _ s refl) (choose_on _ s (invariant-complete n _ _ _ p d))
+  item-complete n i j m x (part.an_invariant (part.for_all v) s p d) = choose_off _ (kinds-apart ts i _ _ v refl) (choose_off _ (kinds-apart ts i _ _ v refl) (choose_on _ (and_from _ _ (ap (λ b. b || is_at ts i symbol.Private) v) s) (invariant-complete n _ _ _ p d)))
+  item-complete n i j m x (part.an_invariant (part.for_class v) s p d) = choose_off _ (kinds-apart ts i _ _ v refl) (choose_off _ (kinds-apart ts i _ _ v refl) (choose_on _ (and_from _ _ (or_right _ _ v) s) (invariant-complete n _ _ _ p d)))
 
   modifiers-forward : {seen ms : List Symbol} {i j : ℕ} → ModifiersAfter ts of_variables seen i ms j → i ≤ j
   modifiers-forward p = omega (arith, modifiers-end p)
 
   item-end : (n i j m : ℕ) (x : ItemTree) → Item ts n i x j m → i < j
   item-end n i j m x (part.a_variable p s q r d) = omega (arith, modifiers-forward p, declared-end q, clause-end r)
-  item-end n i j m x (part.a_definition v o e q p d) = omega (arith, operand-end ts p.formula)
-  item-end n i j m x (part.an_invariant part.unsaid s p q d) = omega (arith, label-end p, quoted-end q)
-  item-end n i j m x (part.an_invariant (part.for_all v) s p q d) = omega (arith, label-end p, quoted-end q)
-  item-end n i j m x (part.an_invariant (part.for_class v) s p q d) = omega (arith, label-end p, quoted-end q)
+  item-end n i j m x (part.a_definition v p d) = omega (arith, defined-end p)
+  item-end n i j m x (part.an_invariant part.unsaid s p d) = omega (arith, labelled-end p)
+  item-end n i j m x (part.an_invariant (part.for_all v) s p d) = omega (arith, labelled-end p)
+  item-end n i j m x (part.an_invariant (part.for_class v) s p d) = omega (arith, labelled-end p)
 
   item-opens : (n i j m : ℕ) (x : ItemTree) → Item ts n i x j m → is_spec_close_at ts i ≡ false
   item-opens n i j m x (part.a_variable p s q r d) = modified_not 79 refl refl refl refl refl p s
-  item-opens n i j m x (part.a_definition v o e q p d) = kinds-apart ts i _ 79 v refl
-  item-opens n i j m x (part.an_invariant part.unsaid s p q d) = kinds-apart ts i _ 79 s refl
-  item-opens n i j m x (part.an_invariant (part.for_all v) s p q d) = kinds-apart ts i _ 79 v refl
-  item-opens n i j m x (part.an_invariant (part.for_class v) s p q d) = kinds-apart ts i _ 79 v refl
+  item-opens n i j m x (part.a_definition v p d) = kinds-apart ts i _ 79 v refl
+  item-opens n i j m x (part.an_invariant part.unsaid s p d) = kinds-apart ts i _ 79 s refl
+  item-opens n i j m x (part.an_invariant (part.for_all v) s p d) = kinds-apart ts i _ 79 v refl
+  item-opens n i j m x (part.an_invariant (part.for_class v) s p d) = kinds-apart ts i _ 79 v refl
 
   pub items-complete : {n i j m : ℕ} {xs : List ItemTree} → Items ts n i xs j m → items_at ts n i ≡ Some (xs, j, m)
   items-complete {j = j} p = many-complete (Item ts) (is_spec_close_at ts) (item_at ts) (λ _. Unit {0}) (λ n i j m x q. (item-opens n i j m x q, item-end n i j m x q, tt)) (λ _ _. tt) (λ n i j m x q _. item-complete n i j m x q) (length ts) p.0 p.1 (omega (arith, kind-within ts j 79 refl p.1))
 
   loop_item-complete : (n i j m : ℕ) (x : LabelledPart) → LoopItem ts n i x j m → is_at ts j symbol.Semicolon ≡ false → loop_item_at ts n i ≡ Some (x, j, m)
   unfolding loop_item_at
-  loop_item-complete n i j m x (part.loop_item {l = l} {q = q} s p r d) stop = then_is _ (behind_on ts i symbol.Inv s) (then_is _ (label-complete p (quoted-opens r)) (then_is _ (quoted-complete r) (ap (λ k. Some (record { label = l; spec = q; from = [] }, k, n + 1)) (semicolon-complete d stop))))
+  loop_item-complete n i j m x (part.loop_item {l = l} s p d) stop = then_is _ (behind_on ts i symbol.Inv s) (then_is _ (labelled-complete p) (ap (λ k. Some (l, k, n + 1)) (semicolon-complete d stop)))
 
   loop_item-begins : (n i j m : ℕ) (x : LabelledPart) → LoopItem ts n i x j m → (is_spec_close_at ts i ≡ false) × (i < j) × (is_at ts i symbol.Semicolon ≡ false)
-  loop_item-begins n i j m x (part.loop_item s p r d) = (kinds-apart ts i _ 79 s refl, omega (arith, label-end p, quoted-end r, semicolon-end d), kinds-apart ts i _ _ s refl)
+  loop_item-begins n i j m x (part.loop_item s p d) = (kinds-apart ts i _ 79 s refl, omega (arith, labelled-end p, semicolon-end d), kinds-apart ts i _ _ s refl)
 
   pub loop-complete : {n i j m : ℕ} {xs : List LabelledPart} → Loop ts n i xs j m → loop_at ts n i ≡ Some (xs, j, m)
   loop-complete {j = j} p = many-complete (LoopItem ts) (is_spec_close_at ts) (loop_item_at ts) (λ i. is_at ts i symbol.Semicolon ≡ false) loop_item-begins (λ i e. kinds-apart ts i 79 _ e refl) loop_item-complete (length ts) p.0 p.1 (omega (arith, kind-within ts j 79 refl p.1))
@@ -231,7 +245,7 @@ module _ (ts : List Token) where
   spoken-complete (part.spoken p q r) e f h = then_is _ (label-complete p (quoted-opens q)) (then_is _ (quoted-complete q) (then_is _ (from-complete r e f h) refl))
 
   target-complete : {n i j : ℕ} {v : SpecPart} → Target ts n i v j → target_at ts n i ≡ Some (v, j)
-  unfolding target_at
+  unfolding target_at named_at
   target-complete {i = i} (part.a_name {w = w} e) = choose_off _ (name-other ts i 80 w e refl refl) (then_is _ e refl)
   target-complete {i = i} (part.a_read {j = j} o p c) = choose_on _ o (then_is _ (postfix-complete ts p (omega (arith, quote-rank ts j c)) (length ts) (omega arith) (omega (arith, kind-within ts j 81 refl c))) (choose_on _ c refl))
 
@@ -254,7 +268,7 @@ module _ (ts : List Token) where
   unfolding statement_at said_at ghost_at
   statement-complete n i j m x (part.an_assert {l = l} s p d) f = choose_on _ s (then_is _ (spoken-complete p (semicolon-not _ refl d f.from) (semicolon-not _ refl d f.comma) (omega (arith, semicolon-end d, f.inside))) (ap (λ k. Some (stmt.assert (place_at ts i) l, k, n + 1)) (semicolon-complete d f.semicolon)))
   statement-complete n i j m x (part.a_note {l = l} s p d) f = choose_off _ (kinds-apart ts i _ _ s refl) (choose_on _ s (then_is _ (spoken-complete p (semicolon-not _ refl d f.from) (semicolon-not _ refl d f.comma) (omega (arith, semicolon-end d, f.inside))) (ap (λ k. Some (stmt.note (place_at ts i) l, k, n + 1)) (semicolon-complete d f.semicolon))))
-  statement-complete n i j m x (part.a_ghost {a = a} {v = v} {q = q} p s r d) f = choose_off _ (target-not _ refl refl refl p) (choose_off _ (target-not _ refl refl refl p) (then_is _ (target-complete p) (then_is _ (behind_on ts a symbol.ColonEqual s) (then_is _ (quoted-complete r) (ap (λ k. Some (stmt.ghost (place_at ts i) v q, k, n + 2)) (semicolon-complete d f.semicolon))))))
+  statement-complete n i j m x (part.a_ghost {a = a} {v = v} {q = q} p s r d) f = choose_off _ (target-not _ refl refl refl p) (choose_off _ (target-not _ refl refl refl p) (then_is _ (target-complete p) (then_is _ (behind_on ts a symbol.ColonEqual s) (then_is _ (quoted-complete r) (ap (λ k. Some (stmt.ghost (place_at ts i) v q, k, n + 1 + 1)) (semicolon-complete d f.semicolon))))))
 
   statement-begins : (n i j m : ℕ) (x : StmtTree) → Statement ts n i x j m → (is_spec_close_at ts i ≡ false) × (i < j) × After i
   statement-begins n i j m x (part.an_assert s p d) = (kinds-apart ts i _ 79 s refl, omega (arith, spoken-end p, semicolon-end d), record { semicolon = kinds-apart ts i _ _ s refl; from = kinds-apart ts i _ _ s refl; comma = kinds-apart ts i _ _ s refl; inside = within ts i symbol.Assert refl s })

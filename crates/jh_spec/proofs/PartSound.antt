@@ -10,11 +10,11 @@ use Rattle.jh_peek.specs.Choices.{choose}
 use Rattle.jh_peek.specs.Modifiers.{Modifiers, has}
 use Rattle.jh_peek.specs.Standing.{Is, is_at, is_word_at, is_spec_close_at, is_quote_open_at, is_plain_word_at, word_at}
 use Rattle.jh_peek.proofs.Lists.{many-sound}
-use Rattle.jh_peek.proofs.Modifiers.{modifiers-sound}
+use Rattle.jh_peek.proofs.Modified.{modifiers-sound}
 use Rattle.jh_peek.proofs.Options.{Holds, nothing, found, then_holds, then_found, choose_holds, behind_holds}
-use Rattle.jh_spec.specs.Parts.{ItemTree, Quoted, Label, MaybeSemicolon, Clause, ModifiesItem, ModifiesItems, Modifies, Contract, SpecType, Declared, Visibility, Item, LoopItem, FromWords, From, Spoken, Target, Statement, Items, Loop, Statements, Contracted, Claimed, of_variables}
+use Rattle.jh_spec.specs.Parts.{ItemTree, Quoted, Label, MaybeSemicolon, Clause, ModifiesItem, ModifiesItems, Modifies, Contract, SpecType, Declared, Visibility, Defined, Labelled, Item, LoopItem, FromWords, From, Spoken, Target, Statement, Items, Loop, Statements, Contracted, Claimed, of_variables}
 use Rattle.jh_spec.specs.Parts as part
-use Rattle.jh_spec.specs.PartReading.{quoted_at, label_at, semicolon_at, clause_at, modifies_item_at, separated_at, words_after, contract_at, kind_of_at, declared_at, flags_at, variable_at, definition_at, invariant_at, item_at, loop_item_at, word_reader, spoken_at, target_at, ghost_at, said_at, statement_at, items_at, loop_at, statements_at, contracted_at, claimed_at}
+use Rattle.jh_spec.specs.PartReading.{quoted_at, label_at, semicolon_at, clause_at, modifies_item_at, separated_at, words_after, contract_at, kind_of_at, declared_at, flags_at, variable_at, defined_at, definition_at, labelled_at, named_at, invariant_at, item_at, loop_item_at, word_reader, spoken_at, target_at, ghost_at, said_at, statement_at, items_at, loop_at, statements_at, contracted_at, claimed_at}
 use Rattle.jh_spec.specs.Reading.{inside}
 use Rattle.jh_spec.proofs.Sound.{formula-sound, postfix-sound, inside-sound}
 
@@ -71,15 +71,23 @@ module _ (ts : List Token) where
   unfolding variable_at flags_at
   variable-sound n i = then_holds (then_holds {Q = λ f. (ms : List Symbol) × Modifiers ts of_variables i ms f.1 × (f.0.0 ≡ has ms symbol.Static) × (f.0.1 ≡ has ms symbol.Ghost)} (modifiers-sound ts of_variables (suc (length ts)) i) (λ ms p. found (ms.0, p, refl, refl)))
       (λ f p. behind_holds ts f.1 symbol.Specvar _ _ (λ s. then_holds (declared-sound (f.1 + 1)) (λ d q. then_holds (clause-sound symbol.Equal n d.1) (λ init r. behind_holds ts init.1 symbol.Semicolon _ _ (λ e.
-        found (subst (λ (x : Bool × Bool). Item ts n i (part.variable (record { name = d.0.0; kind = d.0.1; fixed = x.0; is_ghost = x.1; init = init.0 })) (init.1 + 1) init.2) (λ k. (sym p.2 k, sym p.3 k)) (part.a_variable p.1 s q r e)))))))
+      found (subst (λ (x : Bool × Bool). Item ts n i (part.variable (record { name = d.0.0; kind = d.0.1; fixed = x.0; is_ghost = x.1; init = init.0 })) (init.1 + 1) init.2) (λ k. (sym p.2 k, sym p.3 k)) (part.a_variable p.1 s q r e)))))))
+
+  defined-sound : (n i : ℕ) → Holds (λ r. Defined ts n i r.0.0 r.0.1 r.1) (defined_at ts n i)
+  unfolding defined_at
+  defined-sound n i = choose_holds (λ o. then_found (λ w e. behind_holds ts (i + 2) symbol.EqualEqual _ _ (λ q. then_holds (formula-sound ts (i + 3)) (λ t p. found (part.defined o e q p))))) (λ _. nothing)
 
   definition-sound : (n i : ℕ) → Is ts i symbol.Vardefs → Holds (λ r. Item ts n i r.0 r.1 r.2) (definition_at ts n i)
   unfolding definition_at
-  definition-sound n i v = choose_holds (λ o. then_found (λ w e. behind_holds ts (i + 3) symbol.EqualEqual _ _ (λ q. then_holds (formula-sound ts (i + 4)) (λ t p. behind_holds ts (t.1 + 1) symbol.Semicolon _ _ (λ d. found (part.a_definition v o e q p d)))))) (λ _. nothing)
+  definition-sound n i v = then_holds (defined-sound n (i + 1)) (λ d p. behind_holds ts d.1 symbol.Semicolon _ _ (λ e. found (part.a_definition v p e)))
+
+  labelled-sound : (n i : ℕ) → Holds (λ r. Labelled ts n i r.0 r.1) (labelled_at ts n i)
+  unfolding labelled_at
+  labelled-sound n i = then_holds (label-sound i) (λ l p. then_holds (quoted-sound n l.1) (λ q r. found (part.labelled_formula p r)))
 
   invariant-sound : (n i a : ℕ) → Visibility ts i a → Is ts a symbol.Invariant → Holds (λ r. Item ts n i r.0 r.1 r.2) (invariant_at ts n a)
   unfolding invariant_at
-  invariant-sound n i a v s = then_holds (label-sound (a + 1)) (λ l p. then_holds (quoted-sound n l.1) (λ q r. behind_holds ts q.1 symbol.Semicolon _ _ (λ d. found (part.an_invariant v s p r d))))
+  invariant-sound n i a v s = then_holds (labelled-sound n (a + 1)) (λ l p. behind_holds ts l.1 symbol.Semicolon _ _ (λ d. found (part.an_invariant v s p d)))
 
   seen : (i : ℕ) (a b : Bool) → is_at ts i symbol.Public ≡ a → is_at ts i symbol.Private ≡ b → (a || b) ≡ true → Visibility ts i (i + 1)
   seen i true b e f h = part.for_all e
@@ -92,7 +100,7 @@ module _ (ts : List Token) where
 
   loop_item-sound : (n i : ℕ) → Holds (λ r. LoopItem ts n i r.0 r.1 r.2) (loop_item_at ts n i)
   unfolding loop_item_at
-  loop_item-sound n i = behind_holds ts i symbol.Inv _ _ (λ s. then_holds (label-sound (i + 1)) (λ l p. then_holds (quoted-sound n l.1) (λ q r. found (part.loop_item s p r (semicolon-sound q.1)))))
+  loop_item-sound n i = behind_holds ts i symbol.Inv _ _ (λ s. then_holds (labelled-sound n (i + 1)) (λ l p. found (part.loop_item s p (semicolon-sound l.1))))
 
   from_words-sound : (k i : ℕ) → Holds (λ r. FromWords ts i r.0 r.1) (separated_at ts (word_reader ts) k i)
   unfolding separated_at
@@ -100,8 +108,10 @@ module _ (ts : List Token) where
   from_words-sound (suc k) i = then_holds (word-sound i) (λ w p. choose_holds (λ c. then_holds (from_words-sound k (w.1 + 1)) (λ r q. found (one_more i w.0 w.1 r.0 r.1 p c q))) (λ _. found (only i w.0 w.1 p))) where
     word-sound : (i : ℕ) → Holds (λ r. (word_at ts i ≡ Some r.0) × (r.1 ≡ i + 1)) (word_reader ts i)
     word-sound i = then_found (λ w e. found (e, refl))
+
     only : (i : ℕ) (w : Word) (j : ℕ) → (word_at ts i ≡ Some w) × (j ≡ i + 1) → FromWords ts i (w ∷ []) j
     only i w j p = subst (λ k. FromWords ts i (w ∷ []) k) (sym p.1) (part.last_word p.0)
+
     one_more : (i : ℕ) (w : Word) (j : ℕ) (ws : List Word) (k : ℕ) → (word_at ts i ≡ Some w) × (j ≡ i + 1) → Is ts j symbol.Comma → FromWords ts (j + 1) ws k → FromWords ts i (w ∷ ws) k
     one_more i w j ws k p c q = part.more_words p.0 (subst (λ x. Is ts x symbol.Comma) p.1 c) (subst (λ x. FromWords ts (x + 1) ws k) p.1 q)
 
@@ -117,7 +127,7 @@ module _ (ts : List Token) where
   spoken-sound n i = then_holds (label-sound i) (λ l p. then_holds (quoted-sound n l.1) (λ q r. then_holds (from-sound q.1) (λ ws s. found (part.spoken p r s))))
 
   target-sound : (n i : ℕ) → Holds (λ r. Target ts n i r.0 r.1) (target_at ts n i)
-  unfolding target_at
+  unfolding target_at named_at
   target-sound n i = choose_holds (λ o. then_holds (postfix-sound ts (inside ts (length ts)) (inside-sound ts (length ts)) (i + 1)) (λ t p. choose_holds (λ c. found (part.a_read o p c)) (λ _. nothing))) (λ _. then_found (λ w e. found (part.a_name e)))
 
   ghost-sound : (n i : ℕ) → Holds (λ r. Statement ts n i r.0 r.1 r.2) (ghost_at ts n i)

@@ -35,8 +35,8 @@ clause_at ts s n i = choose (is_at ts i s) (quoted_at ts n (i + 1) >>= λ q. Som
 unfoldable pub modifies_item_at : List Token → ℕ → Option (Word × ℕ)
 modifies_item_at ts i =
     choose (is_quote_open_at ts i)
-      (name_at ts (i + 1) >>= λ w. choose (is_quote_close_at ts (i + 2)) (Some (w, i + 3)) None)
-      (name_at ts i >>= λ w. Some (w, i + 1))
+    (name_at ts (i + 1) >>= λ w. choose (is_quote_close_at ts (i + 2)) (Some (w, i + 3)) None)
+    (name_at ts i >>= λ w. Some (w, i + 1))
 
 -- words with commas between them, each read by a reader, no more than k
 unfoldable pub separated_at : List Token → (ℕ → Option (Word × ℕ)) → ℕ → ℕ → Option (List Word × ℕ)
@@ -52,13 +52,17 @@ unfoldable pub contract_at : List Token → ℕ → ℕ → Option (Found (Optio
 contract_at ts n i = clause_at ts symbol.Requires n i >>= λ pre. words_after ts symbol.Modifies (modifies_item_at ts) pre.1 >>= λ ws.
     clause_at ts symbol.Ensures pre.2 ws.1 >>= λ post. Some ((pre.0, ws.0, post.0), post.1, post.2)
 
+-- `"obj set"`
+abbrev pub is_quoted_set_at : List Token → ℕ → Bool
+is_quoted_set_at ts i = is_quote_open_at ts i && (is_word_at ts (i + 1) (codes "obj") && (is_word_at ts (i + 2) (codes "set") && is_quote_close_at ts (i + 3)))
+
 unfoldable pub kind_of_at : List Token → ℕ → Option (Kind × ℕ)
 kind_of_at ts i =
     choose (is_word_at ts i (codes "obj")) (Some (sort.Obj, i + 1))
     (choose (is_at ts i symbol.Int) (Some (sort.Int, i + 1))
     (choose (is_word_at ts i (codes "bool")) (Some (sort.Bool, i + 1))
     (choose (is_word_at ts i (codes "objset")) (Some (sort.Set, i + 1))
-    (choose (is_quote_open_at ts i && (is_word_at ts (i + 1) (codes "obj") && (is_word_at ts (i + 2) (codes "set") && is_quote_close_at ts (i + 3)))) (Some (sort.Set, i + 4)) None))))
+    (choose (is_quoted_set_at ts i) (Some (sort.Set, i + 4)) None))))
 
 unfoldable pub declared_at : List Token → ℕ → Option ((Word × Kind) × ℕ)
 declared_at ts i = word_at ts i >>= λ w. behind ts (i + 1) symbol.ColonColon >>= λ a. kind_of_at ts (i + 2) >>= λ k. Some ((w, k.0), k.1)
@@ -68,17 +72,25 @@ unfoldable pub flags_at : List Token → ℕ → Option ((Bool × Bool) × ℕ)
 flags_at ts i = modifiers_at ts of_variables (suc (length ts)) [] i >>= λ ms. Some ((has ms.0 symbol.Static, has ms.0 symbol.Ghost), ms.1)
 
 unfoldable pub variable_at : List Token → ℕ → ℕ → Option (Found ItemTree)
-variable_at ts n i = flags_at ts i >>= λ f. behind ts f.1 symbol.Specvar >>= λ a. declared_at ts (f.1 + 1) >>= λ d. clause_at ts symbol.Equal n d.1 >>= λ init.
+variable_at ts n i = flags_at ts i >>= λ f. behind ts f.1 symbol.Specvar >>= λ a. declared_at ts a >>= λ d. clause_at ts symbol.Equal n d.1 >>= λ init.
     behind ts init.1 symbol.Semicolon >>= λ j. Some (variable (record { name = d.0.0; kind = d.0.1; fixed = f.0.0; is_ghost = f.0.1; init = init.0 }), j, init.2)
 
-unfoldable pub definition_at : List Token → ℕ → ℕ → Option (Found ItemTree)
-definition_at ts n i = choose (is_quote_open_at ts (i + 1)) (word_at ts (i + 2) >>= λ w. behind ts (i + 3) symbol.EqualEqual >>= λ a. formula_at ts (i + 4) >>= λ t.
-    behind ts (t.1 + 1) symbol.Semicolon >>= λ j. Some (definition (record { name = w; spec = numbered ts (i + 1) n t.0 }), j, n + 1)) None
+-- a definition in quotes, and the place after the closing one
+unfoldable pub defined_at : List Token → ℕ → ℕ → Option ((Word × SpecPart) × ℕ)
+defined_at ts n i = choose (is_quote_open_at ts i)
+    (word_at ts (i + 1) >>= λ w. behind ts (i + 2) symbol.EqualEqual >>= λ a. formula_at ts (i + 3) >>= λ t. Some ((w, numbered ts i n t.0), t.1 + 1))
+    None
 
--- an invariant that begins at i, with its word `invariant` at a
+unfoldable pub definition_at : List Token → ℕ → ℕ → Option (Found ItemTree)
+definition_at ts n i = defined_at ts n (i + 1) >>= λ d. behind ts d.1 symbol.Semicolon >>= λ j. Some (definition (record { name = d.0.0; spec = d.0.1 }), j, n + 1)
+
+-- a formula with a label before it, where one stands
+unfoldable pub labelled_at : List Token → ℕ → ℕ → Option (LabelledPart × ℕ)
+labelled_at ts n i = label_at ts i >>= λ l. quoted_at ts n l.1 >>= λ q. Some (record { label = l.0; spec = q.0; from = [] }, q.1)
+
+-- an invariant with its word `invariant` at a
 unfoldable pub invariant_at : List Token → ℕ → ℕ → Option (Found ItemTree)
-invariant_at ts n a = label_at ts (a + 1) >>= λ l. quoted_at ts n l.1 >>= λ q. behind ts q.1 symbol.Semicolon >>= λ j.
-    Some (invariant (record { label = l.0; spec = q.0; from = [] }), j, n + 1)
+invariant_at ts n a = labelled_at ts n (a + 1) >>= λ l. behind ts l.1 symbol.Semicolon >>= λ j. Some (invariant l.0, j, n + 1)
 
 -- whether an invariant begins there with a word that says who may see it
 abbrev pub is_seen_invariant_at : List Token → ℕ → Bool
@@ -91,8 +103,7 @@ item_at ts n i =
     (choose (is_seen_invariant_at ts i) (invariant_at ts n (i + 1)) (variable_at ts n i)))
 
 unfoldable pub loop_item_at : List Token → ℕ → ℕ → Option (Found LabelledPart)
-loop_item_at ts n i = behind ts i symbol.Inv >>= λ a. label_at ts (i + 1) >>= λ l. quoted_at ts n l.1 >>= λ q.
-    Some (record { label = l.0; spec = q.0; from = [] }, semicolon_at ts q.1, n + 1)
+loop_item_at ts n i = behind ts i symbol.Inv >>= λ a. labelled_at ts n a >>= λ l. Some (l.0, semicolon_at ts l.1, n + 1)
 
 abbrev pub word_reader : List Token → ℕ → Option (Word × ℕ)
 word_reader ts i = word_at ts i >>= λ w. Some (w, i + 1)
@@ -101,15 +112,18 @@ unfoldable pub spoken_at : List Token → ℕ → ℕ → Option (LabelledPart �
 spoken_at ts n i = label_at ts i >>= λ l. quoted_at ts n l.1 >>= λ q. words_after ts symbol.From (word_reader ts) q.1 >>= λ ws.
     Some (record { label = l.0; spec = q.0; from = ws.0 }, ws.1)
 
+unfoldable pub named_at : List Token → ℕ → ℕ → Option (SpecPart × ℕ)
+named_at ts n i = name_at ts i >>= λ w. Some (numbered ts i n (form.name (place_at ts i) w), i + 1)
+
 unfoldable pub target_at : List Token → ℕ → ℕ → Option (SpecPart × ℕ)
 target_at ts n i =
     choose (is_quote_open_at ts i)
-      (postfix_of ts (inside ts (length ts)) (i + 1) >>= λ t. choose (is_quote_close_at ts t.1) (Some (numbered ts i n t.0, t.1 + 1)) None)
-      (name_at ts i >>= λ w. Some (numbered ts i n (form.name (place_at ts i) w), i + 1))
+    (postfix_of ts (inside ts (length ts)) (i + 1) >>= λ t. choose (is_quote_close_at ts t.1) (Some (numbered ts i n t.0, t.1 + 1)) None)
+    (named_at ts n i)
 
 unfoldable pub ghost_at : List Token → ℕ → ℕ → Option (Found StmtTree)
-ghost_at ts n i = target_at ts n i >>= λ v. behind ts v.1 symbol.ColonEqual >>= λ a. quoted_at ts (n + 1) (v.1 + 1) >>= λ q.
-    Some (stmt.ghost (place_at ts i) v.0 q.0, semicolon_at ts q.1, n + 2)
+ghost_at ts n i = target_at ts n i >>= λ v. behind ts v.1 symbol.ColonEqual >>= λ a. quoted_at ts (n + 1) a >>= λ q.
+    Some (stmt.ghost (place_at ts i) v.0 q.0, semicolon_at ts q.1, n + 1 + 1)
 
 -- after `assert` or `note`
 unfoldable pub said_at : List Token → (Place → LabelledPart → StmtTree) → ℕ → ℕ → Option (Found StmtTree)

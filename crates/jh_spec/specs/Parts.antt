@@ -95,20 +95,26 @@ pub data Visibility (ts : List Token) : ℕ → ℕ → Type 0 where
   for_all : {i : ℕ} → Is ts i symbol.Public → Visibility ts i (i + 1)
   for_class : {i : ℕ} → Is ts i symbol.Private → Visibility ts i (i + 1)
 
+-- Q(WORD "==" F)
+pub data Defined (ts : List Token) (n i : ℕ) : Word → SpecPart → ℕ → Type 0 where
+  defined : {j : ℕ} {w : Word} {t : FormTree} → is_quote_open_at ts i ≡ true → word_at ts (i + 1) ≡ Some w → Is ts (i + 2) symbol.EqualEqual → Spelled ts (i + 3) t j → Defined ts n i w (numbered ts i n t) (j + 1)
+
+-- [ WORD ":" ] Q(F)
+pub data Labelled (ts : List Token) (n i : ℕ) : LabelledPart → ℕ → Type 0 where
+  labelled_formula : {a j : ℕ} {l : Option Word} {q : SpecPart} → Label ts i l a → Quoted ts n a q j → Labelled ts n i (record { label = l; spec = q; from = [] }) j
+
 -- { "public" | "private" | "static" | "ghost" } "specvar" WORD "::" spectype [ "=" Q(F) ] ";"
 -- | "vardefs" Q(WORD "==" F) ";"
 -- | [ "public" | "private" ] "invariant" [ WORD ":" ] Q(F) ";"
 pub data Item (ts : List Token) (n : ℕ) : ℕ → ItemTree → ℕ → ℕ → Type 0 where
   a_variable : {i a b j m : ℕ} {ms : List Symbol} {w : Word} {k : Kind} {init : Option SpecPart} → Modifiers ts of_variables i ms a → Is ts a symbol.Specvar → Declared ts (a + 1) w k b → Clause ts symbol.Equal n b init j m → Is ts j symbol.Semicolon
       → Item ts n i (variable (record { name = w; kind = k; fixed = has ms symbol.Static; is_ghost = has ms symbol.Ghost; init = init })) (j + 1) m
-  a_definition : {i j : ℕ} {w : Word} {t : FormTree} → Is ts i symbol.Vardefs → is_quote_open_at ts (i + 1) ≡ true → word_at ts (i + 2) ≡ Some w → Is ts (i + 3) symbol.EqualEqual → Spelled ts (i + 4) t j → Is ts (j + 1) symbol.Semicolon
-      → Item ts n i (definition (record { name = w; spec = numbered ts (i + 1) n t })) (j + 1 + 1) (n + 1)
-  an_invariant : {i a b j : ℕ} {l : Option Word} {q : SpecPart} → Visibility ts i a → Is ts a symbol.Invariant → Label ts (a + 1) l b → Quoted ts n b q j → Is ts j symbol.Semicolon
-      → Item ts n i (invariant (record { label = l; spec = q; from = [] })) (j + 1) (n + 1)
+  a_definition : {i j : ℕ} {w : Word} {q : SpecPart} → Is ts i symbol.Vardefs → Defined ts n (i + 1) w q j → Is ts j symbol.Semicolon → Item ts n i (definition (record { name = w; spec = q })) (j + 1) (n + 1)
+  an_invariant : {i a j : ℕ} {l : LabelledPart} → Visibility ts i a → Is ts a symbol.Invariant → Labelled ts n (a + 1) l j → Is ts j symbol.Semicolon → Item ts n i (invariant l) (j + 1) (n + 1)
 
 -- "inv" [ WORD ":" ] Q(F) [ ";" ]
 pub data LoopItem (ts : List Token) (n : ℕ) : ℕ → LabelledPart → ℕ → ℕ → Type 0 where
-  loop_item : {i a b j : ℕ} {l : Option Word} {q : SpecPart} → Is ts i symbol.Inv → Label ts (i + 1) l a → Quoted ts n a q b → MaybeSemicolon ts b j → LoopItem ts n i (record { label = l; spec = q; from = [] }) j (n + 1)
+  loop_item : {i a j : ℕ} {l : LabelledPart} → Is ts i symbol.Inv → Labelled ts n (i + 1) l a → MaybeSemicolon ts a j → LoopItem ts n i l j (n + 1)
 
 -- [ "from" WORD { "," WORD } ]
 pub data FromWords (ts : List Token) : ℕ → List Word → ℕ → Type 0 where
@@ -132,7 +138,7 @@ pub data Target (ts : List Token) (n : ℕ) : ℕ → SpecPart → ℕ → Type 
 pub data Statement (ts : List Token) (n : ℕ) : ℕ → StmtTree → ℕ → ℕ → Type 0 where
   an_assert : {i a j : ℕ} {l : LabelledPart} → Is ts i symbol.Assert → Spoken ts n (i + 1) l a → MaybeSemicolon ts a j → Statement ts n i (stmt.assert (place_at ts i) l) j (n + 1)
   a_note : {i a j : ℕ} {l : LabelledPart} → Is ts i symbol.Note → Spoken ts n (i + 1) l a → MaybeSemicolon ts a j → Statement ts n i (stmt.note (place_at ts i) l) j (n + 1)
-  a_ghost : {i a b j : ℕ} {v q : SpecPart} → Target ts n i v a → Is ts a symbol.ColonEqual → Quoted ts (n + 1) (a + 1) q b → MaybeSemicolon ts b j → Statement ts n i (stmt.ghost (place_at ts i) v q) j (n + 2)
+  a_ghost : {i a b j : ℕ} {v q : SpecPart} → Target ts n i v a → Is ts a symbol.ColonEqual → Quoted ts (n + 1) (a + 1) q b → MaybeSemicolon ts b j → Statement ts n i (stmt.ghost (place_at ts i) v q) j (n + 1 + 1)
 
 -- the lists of parts, each up to the token that closes the specification
 abbrev pub Items : List Token → ℕ → ℕ → List ItemTree → ℕ → ℕ → Type 0

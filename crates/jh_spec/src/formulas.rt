@@ -262,7 +262,7 @@ fn operand(
 /// An operand.
 #[cycle(reading)]
 #[tactic(auto, using(jh_ast::proofs::FormSteps::form_steps, crate::proofs::Turns::turn_steps, crate::proofs::Levels::level_steps), unfolding(crate::specs::Reading::operand_of, jh_peek::specs::Choices::and_then, jh_peek::specs::Choices::choose, jh_peek::specs::Choices::given))]
-pub fn open_operand(
+pub(crate) fn open_operand(
     alloc: Global,
     tokens: &[Token],
     room: usize,
@@ -604,7 +604,7 @@ fn rtrancl(
 /// An operand and reads of fields after it.
 #[cycle(reading)]
 #[tactic(auto, using(jh_ast::proofs::FormSteps::form_steps, crate::proofs::Turns::turn_steps, crate::proofs::Levels::level_steps), unfolding(crate::specs::Reading::postfix_of, jh_peek::specs::Choices::and_then, jh_peek::specs::Choices::choose, jh_peek::specs::Choices::given))]
-fn postfix(
+pub(crate) fn postfix(
     alloc: Global,
     tokens: &[Token],
     room: usize,

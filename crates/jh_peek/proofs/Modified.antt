@@ -1,9 +1,9 @@
 -- Modifiers are read as they stand.
-use Rattle.std.proofs.Common.{◌≡◌, ℕ, zero, suc, ◌+◌, ◌<◌, List, [], ◌∷◌, ◌++◌, append_assoc, append-nil, length, ap, sym, ◌∙◌, subst, arith}
+use Rattle.std.proofs.Common.{◌-◌, false, ◌≡◌, ℕ, zero, suc, ◌+◌, ◌<◌, List, [], ◌∷◌, ◌++◌, append_assoc, append-nil, length, ap, sym, ◌∙◌, subst, arith}
 use Rattle.std.specs.Prelude.{Option, None, Some}
 use Rattle.jh_lex.specs.declared.symbol.Symbol.{Symbol}
 use Rattle.jh_lex.specs.declared.token.Token.{Token}
-use Rattle.jh_peek.specs.Modifiers.{ModifiersAfter, no_more, one_more, Modifiers, allowed_at, modifiers_at}
+use Rattle.jh_peek.specs.Modifiers.{has, ModifiersAfter, no_more, one_more, Modifiers, allowed_at, modifiers_at}
 use Rattle.jh_peek.proofs.Options.{Holds, nothing, found, given_holds, choose_holds, choose_off, given_on, given_off}
 
 -- a fact of what is read, by another
@@ -22,10 +22,10 @@ unfolding modifiers_at
 modifiers-from ts allowed zero seen i = nothing
 modifiers-from ts allowed (suc k) seen i = given_holds
     (λ s e. choose_holds (λ _. nothing) (λ new. weaker (modifiers-from ts allowed k (seen ++ s ∷ []) (i + 1)) (λ r x. record {
-        these = s ∷ x.these;
-        joined = x.joined ∙ append_assoc seen (s ∷ []) x.these;
-        stand = one_more e new x.stand;
-      })))
+      these = s ∷ x.these;
+      joined = x.joined ∙ append_assoc seen (s ∷ []) x.these;
+      stand = one_more e new x.stand;
+    })))
     (λ _. found (record { these = []; joined = sym (append-nil seen); stand = no_more }))
 
 -- what is read, from none before, are the modifiers that stand there
@@ -46,3 +46,11 @@ modifiers-complete ts allowed k i j ms p stop few = modifiers-after ts allowed k
 pub modifiers-end : {ts : List Token} {allowed seen ms : List Symbol} {i j : ℕ} → ModifiersAfter ts allowed seen i ms j → j ≡ i + length ms
 modifiers-end no_more = omega arith
 modifiers-end (one_more e new p) = omega (arith, modifiers-end p)
+
+-- one more modifier
+pub modifiers-next : (ts : List Token) (allowed : List Symbol) (k i : ℕ) (s : Symbol) (seen new : List Symbol) → 0 < k → allowed_at ts allowed i ≡ Some s → has seen s ≡ false → new ≡ seen ++ s ∷ [] → modifiers_at ts allowed k seen i ≡ modifiers_at ts allowed (k - 1) new (i + 1)
+unfolding modifiers_at
+modifiers-next ts allowed zero i s seen new h e n q = absurd (omega (arith, h))
+modifiers-next ts allowed (suc k) i s seen new h e n q = given_on _ _ e (choose_off _ n (λ l. modifiers_at ts allowed (before l) (sym q l) (i + 1))) where
+  before : k ≡ suc k - 1
+  before = omega arith

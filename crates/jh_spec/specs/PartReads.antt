@@ -1,0 +1,57 @@
+-- What the readers of specifications answer, seen as trees.
+use Rattle.std.specs.Prelude.{ℕ, Option, option_map, Result, List}
+use Rattle.jh_ast.specs.declared.spec.Spec.{Spec}
+use Rattle.jh_ast.specs.declared.spec.Labelled.{Labelled}
+use Rattle.jh_ast.specs.declared.stmt.Stmt.{Stmt}
+use Rattle.jh_ast.specs.declared.word.Word.{Word}
+use Rattle.jh_lex.specs.declared.token.Token.{Token}
+use Rattle.jh_ast.specs.Bare.{spec_part, labelled_part, stmt_tree, var_part, def_part}
+use Rattle.jh_ast.specs.Forms.{SpecPart, LabelledPart}
+use Rattle.jh_ast.specs.Stmts.{StmtTree}
+use Rattle.jh_peek.specs.declared.error.ReadError.{ReadError}
+use Rattle.jh_peek.specs.Answers.{Gives}
+use Rattle.jh_peek.specs.Lists.{Found}
+use Rattle.jh_spec.specs.declared.part.SpecItem.{SpecItem}
+use Rattle.jh_spec.specs.declared.part.SpecItem.TheVariants as item
+use Rattle.jh_spec.specs.declared.clauses.Listed.{Listed}
+use Rattle.jh_spec.specs.declared.clauses.Listed.TheVariants as listed
+use Rattle.jh_spec.specs.PartReading.{modifies_item_at, word_reader}
+use Rattle.jh_spec.specs.Parts.{ItemTree, variable, definition, invariant}
+
+-- the item without memory
+abbrev pub item_tree : SpecItem → ItemTree
+item_tree (item.Var v) = variable (var_part v)
+item_tree (item.Def d) = definition (def_part d)
+item_tree (item.Invariant l) = invariant (labelled_part l)
+
+-- one word of a list
+abbrev pub listed_at : List Token → Listed → ℕ → Option (Word × ℕ)
+listed_at ts listed.Modified i = modifies_item_at ts i
+listed_at ts listed.Facts i = word_reader ts i
+
+-- a thing and the place after it
+abbrev pub GivesSpec : Option (SpecPart × ℕ) → Result (Spec × ℕ) ReadError → Type 0
+GivesSpec wanted result = Gives (λ r. (spec_part r.0, r.1)) wanted result
+
+abbrev pub GivesLabel : Option (Option Word × ℕ) → Result (Option Word × ℕ) ReadError → Type 0
+GivesLabel wanted result = Gives (λ r. (r.0, r.1)) wanted result
+
+abbrev pub GivesWord : Option (Word × ℕ) → Result (Word × ℕ) ReadError → Type 0
+GivesWord wanted result = Gives (λ r. (r.0, r.1)) wanted result
+
+abbrev pub GivesLabelled : Option (LabelledPart × ℕ) → Result (Labelled × ℕ) ReadError → Type 0
+GivesLabelled wanted result = Gives (λ r. (labelled_part r.0, r.1)) wanted result
+
+-- a thing, the place after it and the number after its formulas
+abbrev pub GivesItem : Option (Found ItemTree) → Result (SpecItem × ℕ × ℕ) ReadError → Type 0
+GivesItem wanted result = Gives (λ r. (item_tree r.0, r.1, r.2)) wanted result
+
+abbrev pub GivesLoopItem : Option (Found LabelledPart) → Result (Labelled × ℕ × ℕ) ReadError → Type 0
+GivesLoopItem wanted result = Gives (λ r. (labelled_part r.0, r.1, r.2)) wanted result
+
+abbrev pub GivesStatement : Option (Found StmtTree) → Result (Stmt × ℕ × ℕ) ReadError → Type 0
+GivesStatement wanted result = Gives (λ r. (stmt_tree r.0, r.1, r.2)) wanted result
+
+-- a clause, which may be absent
+abbrev pub GivesClause : Option (Found (Option SpecPart)) → Result (Option Spec × ℕ × ℕ) ReadError → Type 0
+GivesClause wanted result = Gives (λ r. (option_map spec_part r.0, r.1, r.2)) wanted result
