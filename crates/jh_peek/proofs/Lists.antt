@@ -1,6 +1,9 @@
 -- Lists are read as they stand, and one turn of a loop that reads them.
 use Rattle.std.proofs.Common.{◌≡◌, ℕ, zero, suc, ◌+◌, ◌-◌, ◌<◌, ◌≤◌, Bool, true, false, List, [], ◌∷◌, ◌++◌, append_assoc, append-nil, map, refl, ap, sym, ◌∙◌, arith}
-use Rattle.std.specs.Prelude.{Option, None, Some}
+use Rattle.std.specs.Prelude.{Err, Option, None, Some}
+use Rattle.jh_peek.specs.declared.error.ReadError.{ReadError}
+use Rattle.jh_peek.specs.declared.error.ReadError.TheVariants as error
+use Rattle.jh_peek.specs.Answers.{Gives}
 use Rattle.jh_peek.specs.Choices.{and_then, choose}
 use Rattle.jh_peek.specs.Lists.{Many, none, more, Found, many_at}
 use Rattle.jh_peek.proofs.Options.{Holds, nothing, found, then_holds, choose_holds, then_is, choose_on, choose_off}
@@ -85,3 +88,8 @@ module _ {A X : Type 0} (ends : ℕ → Bool) (one : ℕ → ℕ → Option (Fou
     same : (o : Option (Found (List A))) → and_then {B = Found (List A)} o (λ r. Some (r.0, r.1, r.2)) ≡ o
     same None = refl
     same (Some r) = refl
+
+-- an error that is passed on: nothing is read where nothing was read inside
+pub error-passes : {X Y U V : Type 0} (view : X → Y) (outer : U → V) {w : Option Y} {v : Option V} (e : ReadError) → Gives view w (Err e) → (w ≡ None → v ≡ None) → Gives outer v (Err e)
+error-passes view outer (error.Refused n) h go = go h
+error-passes view outer error.Memory h go = tt

@@ -21,7 +21,7 @@ use Rattle.jh_peek.proofs.Options.{Holds, nothing, found, choose_holds, of_found
 use Rattle.jh_peek.proofs.Words.{text-kind, text-other, kind-no_text}
 use Rattle.jh_spec.specs.Parts.{ItemTree, Quoted, Label, MaybeSemicolon, Clause, ModifiesItem, ModifiesItems, Modifies, Contract, SpecType, Declared, Visibility, Defined, Labelled, Item, LoopItem, FromWords, From, Spoken, Target, Statement, Items, Loop, Statements, Contracted, Claimed, of_variables}
 use Rattle.jh_spec.specs.Parts as part
-use Rattle.jh_spec.specs.PartReading.{quoted_at, label_at, semicolon_at, clause_at, modifies_item_at, separated_at, words_after, contract_at, kind_of_at, declared_at, flags_at, variable_at, defined_at, definition_at, labelled_at, named_at, invariant_at, is_seen_invariant_at, item_at, loop_item_at, word_reader, spoken_at, target_at, ghost_at, said_at, statement_at, items_at, loop_at, statements_at, contracted_at, claimed_at}
+use Rattle.jh_spec.specs.PartReading.{quoted_at, label_at, semicolon_at, clause_at, modifies_item_at, separated_at, words_after, ensured_at, promised_at, kind_of_at, declared_at, flags_at, variable_at, defined_at, definition_at, labelled_at, named_at, invariant_at, is_seen_invariant_at, item_at, loop_item_at, word_reader, spoken_at, target_at, ghost_at, said_at, statement_at, items_at, loop_at, statements_at, contracted_at, claimed_at}
 use Rattle.jh_spec.proofs.Ends.{operand-end, postfix-end}
 use Rattle.jh_spec.proofs.Complete.{formula-complete, postfix-complete}
 use Rattle.jh_spec.proofs.Facts.{quote-rank}
@@ -116,12 +116,6 @@ module _ (ts : List Token) where
   unfolding words_after
   modifies-complete part.modifies_nothing e f h = choose_off _ e refl
   modifies-complete (part.modifies s p) e f h = choose_on _ s (modifies_items-complete (length ts) p f (omega (arith, h)))
-
-  contract-complete : {n i j m : ℕ} {pre post : Option SpecPart} {ws : List Word} → Contract ts n i pre ws post j m → is_spec_close_at ts j ≡ true → contract_at ts n i ≡ Some ((pre, ws, post), j, m)
-  unfolding contract_at
-  contract-complete {j = j} (part.contract_of {a = a} {b = b} p q r) c = then_is _ (clause-complete p (modifies-not _ refl q (clause-not _ refl r (kinds-apart ts j 79 _ c refl))))
-      (then_is _ (modifies-complete q (clause-not _ refl r (kinds-apart ts j 79 _ c refl)) (clause-not _ refl r (kinds-apart ts j 79 _ c refl)) (omega (arith, clause-end r, kind-within ts j 79 refl c)))
-      (then_is _ (clause-complete r (kinds-apart ts j 79 _ c refl)) refl))
 
   kind-complete : {i j : ℕ} {k : Kind} → SpecType ts i k j → kind_of_at ts i ≡ Some (k, j)
   unfolding kind_of_at
@@ -279,8 +273,10 @@ module _ (ts : List Token) where
   statements-complete {j = j} p = many-complete (Statement ts) (is_spec_close_at ts) (statement_at ts) After statement-begins (λ i e. record { semicolon = kinds-apart ts i 79 _ e refl; from = kinds-apart ts i 79 _ e refl; comma = kinds-apart ts i 79 _ e refl; inside = kind-within ts i 79 refl e }) statement-complete (length ts) p.0 p.1 (omega (arith, kind-within ts j 79 refl p.1))
 
   pub contracted-complete : {n i j m : ℕ} {pre post : Option SpecPart} {ws : List Word} → Contracted ts n i pre ws post j m → contracted_at ts n i ≡ Some ((pre, ws, post), j, m)
-  unfolding contracted_at
-  contracted-complete p = then_is _ (contract-complete p.0 p.1) (choose_on _ p.1 refl)
+  unfolding contracted_at promised_at ensured_at
+  contracted-complete {j = j} (part.contract_of p q r, c) = then_is _ (clause-complete p (modifies-not _ refl q (clause-not _ refl r (kinds-apart ts j 79 _ c refl))))
+      (then_is _ (then_is _ (modifies-complete q (clause-not _ refl r (kinds-apart ts j 79 _ c refl)) (clause-not _ refl r (kinds-apart ts j 79 _ c refl)) (omega (arith, clause-end r, kind-within ts j 79 refl c)))
+      (then_is _ (then_is _ (clause-complete r (kinds-apart ts j 79 _ c refl)) (choose_on _ c refl)) refl)) refl)
 
   pub claimed-complete : (i j : ℕ) (w : Word) → Claimed ts i w j → claimed_at ts i ≡ Some (w, j)
   unfolding claimed_at

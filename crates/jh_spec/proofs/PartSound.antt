@@ -14,7 +14,7 @@ use Rattle.jh_peek.proofs.Modified.{modifiers-sound}
 use Rattle.jh_peek.proofs.Options.{Holds, nothing, found, then_holds, then_found, choose_holds, behind_holds}
 use Rattle.jh_spec.specs.Parts.{ItemTree, Quoted, Label, MaybeSemicolon, Clause, ModifiesItem, ModifiesItems, Modifies, Contract, SpecType, Declared, Visibility, Defined, Labelled, Item, LoopItem, FromWords, From, Spoken, Target, Statement, Items, Loop, Statements, Contracted, Claimed, of_variables}
 use Rattle.jh_spec.specs.Parts as part
-use Rattle.jh_spec.specs.PartReading.{quoted_at, label_at, semicolon_at, clause_at, modifies_item_at, separated_at, words_after, contract_at, kind_of_at, declared_at, flags_at, variable_at, defined_at, definition_at, labelled_at, named_at, invariant_at, item_at, loop_item_at, word_reader, spoken_at, target_at, ghost_at, said_at, statement_at, items_at, loop_at, statements_at, contracted_at, claimed_at}
+use Rattle.jh_spec.specs.PartReading.{quoted_at, label_at, semicolon_at, clause_at, modifies_item_at, separated_at, words_after, ensured_at, promised_at, kind_of_at, declared_at, flags_at, variable_at, defined_at, definition_at, labelled_at, named_at, invariant_at, item_at, loop_item_at, word_reader, spoken_at, target_at, ghost_at, said_at, statement_at, items_at, loop_at, statements_at, contracted_at, claimed_at}
 use Rattle.jh_spec.specs.Reading.{inside}
 use Rattle.jh_spec.proofs.Sound.{formula-sound, postfix-sound, inside-sound}
 
@@ -53,10 +53,6 @@ module _ (ts : List Token) where
     holds_by : {A : Type 0} {P Q : A → Type 0} {o : Option A} → Holds P o → ((x : A) → P x → Q x) → Holds Q o
     holds_by nothing go = nothing
     holds_by (found p) go = found (go _ p)
-
-  contract-sound : (n i : ℕ) → Holds (λ r. Contract ts n i r.0.0 r.0.1 r.0.2 r.1 r.2) (contract_at ts n i)
-  unfolding contract_at
-  contract-sound n i = then_holds (clause-sound symbol.Requires n i) (λ pre p. then_holds (modifies-sound pre.1) (λ ws q. then_holds (clause-sound symbol.Ensures pre.2 ws.1) (λ post r. found (part.contract_of p q r))))
 
   kind-sound : (i : ℕ) → Holds (λ r. SpecType ts i r.0 r.1) (kind_of_at ts i)
   unfolding kind_of_at
@@ -148,9 +144,14 @@ module _ (ts : List Token) where
   pub statements-sound : (n i : ℕ) → Holds (λ r. Statements ts n i r.0 r.1 r.2) (statements_at ts n i)
   statements-sound n i = many-sound (Statement ts) (is_spec_close_at ts) (statement_at ts) statement-sound (length ts) n i
 
+  ensured-sound : (n i : ℕ) → Holds (λ r. Clause ts symbol.Ensures n i r.0 r.1 r.2 × (is_spec_close_at ts r.1 ≡ true)) (ensured_at ts n i)
+  unfolding ensured_at
+  ensured-sound n i = then_holds (clause-sound symbol.Ensures n i) (λ c p. choose_holds (λ e. found (p, e)) (λ _. nothing))
+
   pub contracted-sound : (n i : ℕ) → Holds (λ r. Contracted ts n i r.0.0 r.0.1 r.0.2 r.1 r.2) (contracted_at ts n i)
-  unfolding contracted_at
-  contracted-sound n i = then_holds (contract-sound n i) (λ c p. choose_holds (λ e. found (p, e)) (λ _. nothing))
+  unfolding contracted_at promised_at
+  contracted-sound n i = then_holds (clause-sound symbol.Requires n i) (λ pre p. then_holds {Q = λ r. (b : ℕ) × Modifies ts pre.1 r.0.0 b × Clause ts symbol.Ensures pre.2 b r.0.1 r.1 r.2 × (is_spec_close_at ts r.1 ≡ true)}
+      (then_holds (modifies-sound pre.1) (λ ws q. then_holds (ensured-sound pre.2 ws.1) (λ post r. found (ws.1, q, r.0, r.1)))) (λ r q. found (part.contract_of p q.1 q.2, q.3)))
 
   pub claimed-sound : (i : ℕ) → Holds (λ r. Claimed ts i r.0 r.1) (claimed_at ts i)
   unfolding claimed_at

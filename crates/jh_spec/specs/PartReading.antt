@@ -48,9 +48,16 @@ separated_at ts one (suc k) i = one i >>= λ w.
 unfoldable pub words_after : List Token → Symbol → (ℕ → Option (Word × ℕ)) → ℕ → Option (List Word × ℕ)
 words_after ts s one i = choose (is_at ts i s) (separated_at ts one (length ts) (i + 1)) (Some ([], i))
 
-unfoldable pub contract_at : List Token → ℕ → ℕ → Option (Found (Option SpecPart × List Word × Option SpecPart))
-contract_at ts n i = clause_at ts symbol.Requires n i >>= λ pre. words_after ts symbol.Modifies (modifies_item_at ts) pre.1 >>= λ ws.
-    clause_at ts symbol.Ensures pre.2 ws.1 >>= λ post. Some ((pre.0, ws.0, post.0), post.1, post.2)
+-- the last clause of a contract, up to the token that closes the specification
+unfoldable pub ensured_at : List Token → ℕ → ℕ → Option (Found (Option SpecPart))
+ensured_at ts n i = clause_at ts symbol.Ensures n i >>= λ post. choose (is_spec_close_at ts post.1) (Some post) None
+
+unfoldable pub promised_at : List Token → ℕ → ℕ → Option (Found (List Word × Option SpecPart))
+promised_at ts n i = words_after ts symbol.Modifies (modifies_item_at ts) i >>= λ ws. ensured_at ts n ws.1 >>= λ post. Some ((ws.0, post.0), post.1, post.2)
+
+-- a contract up to the token that closes the specification
+unfoldable pub contracted_at : List Token → ℕ → ℕ → Option (Found (Option SpecPart × List Word × Option SpecPart))
+contracted_at ts n i = clause_at ts symbol.Requires n i >>= λ pre. promised_at ts pre.2 pre.1 >>= λ r. Some ((pre.0, r.0.0, r.0.1), r.1, r.2)
 
 -- `"obj set"`
 abbrev pub is_quoted_set_at : List Token → ℕ → Bool
@@ -143,10 +150,6 @@ loop_at ts n i = many_at (is_spec_close_at ts) (loop_item_at ts) (length ts) n i
 
 abbrev pub statements_at : List Token → ℕ → ℕ → Option (Found (List StmtTree))
 statements_at ts n i = many_at (is_spec_close_at ts) (statement_at ts) (length ts) n i
-
--- a contract up to the token that closes the specification
-unfoldable pub contracted_at : List Token → ℕ → ℕ → Option (Found (Option SpecPart × List Word × Option SpecPart))
-contracted_at ts n i = contract_at ts n i >>= λ c. choose (is_spec_close_at ts c.1) (Some c) None
 
 unfoldable pub claimed_at : List Token → ℕ → Option (Word × ℕ)
 claimed_at ts i = behind ts i symbol.ClaimedBy >>= λ a. word_at ts (i + 1) >>= λ w. choose (is_spec_close_at ts (i + 2)) (Some (w, i + 2)) None

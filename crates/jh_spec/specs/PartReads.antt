@@ -1,5 +1,7 @@
 -- What the readers of specifications answer, seen as trees.
-use Rattle.std.specs.Prelude.{ℕ, Option, option_map, Result, List}
+use Rattle.std.specs.Prelude.{ℕ, Option, option_map, Result, List, map}
+use Rattle.std.specs.declared.alloc.Global.{Global}
+use Rattle.std.specs.declared.vec.Vec.{Vec}
 use Rattle.jh_ast.specs.declared.spec.Spec.{Spec}
 use Rattle.jh_ast.specs.declared.spec.Labelled.{Labelled}
 use Rattle.jh_ast.specs.declared.stmt.Stmt.{Stmt}
@@ -55,3 +57,19 @@ GivesStatement wanted result = Gives (λ r. (stmt_tree r.0, r.1, r.2)) wanted re
 -- a clause, which may be absent
 abbrev pub GivesClause : Option (Found (Option SpecPart)) → Result (Option Spec × ℕ × ℕ) ReadError → Type 0
 GivesClause wanted result = Gives (λ r. (option_map spec_part r.0, r.1, r.2)) wanted result
+
+-- lists, the place of the token that closes the specification and the number after their formulas
+abbrev pub GivesItems : Option (Found (List ItemTree)) → Result (Vec SpecItem Global × ℕ × ℕ) ReadError → Type 0
+GivesItems wanted result = Gives (λ r. (map item_tree r.0.items, r.1, r.2)) wanted result
+
+abbrev pub GivesLoop : Option (Found (List LabelledPart)) → Result (Vec Labelled Global × ℕ × ℕ) ReadError → Type 0
+GivesLoop wanted result = Gives (λ r. (map labelled_part r.0.items, r.1, r.2)) wanted result
+
+abbrev pub GivesStatements : Option (Found (List StmtTree)) → Result (Vec Stmt Global × ℕ × ℕ) ReadError → Type 0
+GivesStatements wanted result = Gives (λ r. (map stmt_tree r.0.items, r.1, r.2)) wanted result
+
+abbrev pub GivesContract : Option (Found (Option SpecPart × List Word × Option SpecPart)) → Result ((Option Spec × Vec Word Global × Option Spec) × ℕ × ℕ) ReadError → Type 0
+GivesContract wanted result = Gives (λ r. ((option_map spec_part r.0.0, r.0.1.items, option_map spec_part r.0.2), r.1, r.2)) wanted result
+
+abbrev pub GivesPromise : Option (Found (List Word × Option SpecPart)) → Result ((Vec Word Global × Option Spec) × ℕ × ℕ) ReadError → Type 0
+GivesPromise wanted result = Gives (λ r. ((r.0.0.items, option_map spec_part r.0.1), r.1, r.2)) wanted result

@@ -216,7 +216,7 @@ fn is_seen_invariant(tokens: &[Token], at: usize) -> bool
 
 /// One of the items of a class.
 #[tactic(auto, unfolding(crate::specs::PartReading::item_at, jh_peek::specs::Choices::choose))]
-fn item(
+pub(crate) fn item(
     alloc: Global,
     tokens: &[Token],
     number: u32,
@@ -240,7 +240,7 @@ fn item(
 
 /// One of the invariants of a loop.
 #[tactic(auto, unfolding(crate::specs::PartReading::loop_item_at, jh_peek::specs::Choices::and_then))]
-fn loop_item(
+pub(crate) fn loop_item(
     alloc: Global,
     tokens: &[Token],
     number: u32,
@@ -412,7 +412,7 @@ fn note_statement(
 
 /// A statement of a specification.
 #[tactic(auto, unfolding(crate::specs::PartReading::statement_at, jh_peek::specs::Choices::choose))]
-fn statement(
+pub(crate) fn statement(
     alloc: Global,
     tokens: &[Token],
     number: u32,
