@@ -2,3 +2,4 @@ pub mod Ends
 pub mod Starts
 pub mod Sound
 pub mod Complete
+mod Rests
