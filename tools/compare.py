@@ -719,61 +719,92 @@ pub fn same_fields(left: &[FieldTerm], right: &[FieldTerm]) -> bool
 
 
 
+# what a tree with exchanged parts means, where the parts of a constructor do not all mean the very same
+SAME_SETS = {
+    'union': 'λ y lt i. {a} || {b}', 'inter': 'λ y lt i. {a} && {b}', 'diff': 'λ y lt i. {a} && not ({b})', 'compl': 'λ y lt i. not ({a})',
+}
+
+
 def exchange_meanings():
-    from forms import MEANING, VALUE, MEANING_USES
+    from forms import MEANING, VALUE
     out = [f"""-- Exchanging parts for others of the same meaning keeps the meaning.
-use Rattle.std.proofs.Common.{{◌≡◌, refl, ap, ◌∙◌, ℕ, suc, ◌==◌, Bool, true, false, not, ◌&&◌, ◌||◌, List, [], ◌∷◌, ℤ, pos, ◌+ℤ◌, ◌-ℤ◌, ◌*ℤ◌, neg_ℤ, int_lt, int_le}}
-{HEAD.replace("use Rattle.jh_tree.specs.Passing.{name_equal}" + chr(10) + "use Rattle.jh_compare.specs.Marks.{mark_equal}" + chr(10), "")}use Rattle.jh_tree.specs.Meaning.{{{MEANING_USES}}}
+use Rattle.std.proofs.Common.{{◌≡◌, refl, sym, ap, subst, ◌∙◌, ℕ, zero, suc, ◌<◌, ◌==◌, not, ◌&&◌, ◌||◌, List, [], ◌∷◌, slice_index, pos, ◌+ℤ◌, ◌-ℤ◌, ◌*ℤ◌, neg_ℤ, int_lt, int_le, arith}}
+{HEAD.replace("use Rattle.jh_tree.specs.Passing.{name_equal}" + chr(10) + "use Rattle.jh_compare.specs.Marks.{mark_equal}" + chr(10), "")}use Rattle.jh_tree.specs.Meaning.{{Datum, Interp, InUniverse, every, some, agree, divides_number, reaches, {', '.join(VALUE[c] for c in ORDER + 'L')}}}
+use Rattle.jh_tree.proofs.Universes.{{term_inside}}
+use Rattle.jh_tree.proofs.ClosedLemmas.{{datum-closed}}
 use Rattle.jh_compare.specs.Related.{{{', '.join(REL[c] for c in ORDER + 'L')}}}
 use Rattle.jh_compare.specs.Related as r
+use Rattle.jh_compare.specs.Exchanged.{{ExchangeKeepsMeaning}}
+use Rattle.jh_compare.specs.Inside.{{SameMembers, SameFields, SameIn, AreInside}}
+use Rattle.jh_compare.proofs.Insides.{{AllSame, fields-same, updated-same, count-same, every-same, some-same, reaches-same, forest-same}}
 
--- the value inside, where it is of that sort
-no_fields : Fields
-no_fields = record {{ objects = λ x. 0; numbers = λ x. pos 0; truths = λ x. false; sets = λ x y. false }}
+-- one more object of the universe
+inside-more : (n x : ℕ) (e : List ℕ) → x < suc n → AreInside n e → AreInside n (x ∷ e)
+inside-more n x e lt w zero = lt
+inside-more n x e lt w (suc k) = w k
 
-abbrev object_in : Datum → ℕ
-object_in (an_object v) = v
-object_in (a_number v) = 0
-object_in (a_truth v) = 0
-object_in (a_set v) = 0
-object_in (a_field v) = 0
-
-abbrev number_in : Datum → ℤ
-number_in (an_object v) = pos 0
-number_in (a_number v) = v
-number_in (a_truth v) = pos 0
-number_in (a_set v) = pos 0
-number_in (a_field v) = pos 0
-
-abbrev truth_in : Datum → Bool
-truth_in (an_object v) = false
-truth_in (a_number v) = false
-truth_in (a_truth v) = v
-truth_in (a_set v) = false
-truth_in (a_field v) = false
-
-abbrev set_in : Datum → ℕ → Bool
-set_in (an_object v) = λ x. false
-set_in (a_number v) = λ x. false
-set_in (a_truth v) = λ x. false
-set_in (a_set v) = v
-set_in (a_field v) = λ x. false
-
-abbrev field_in : Datum → Fields
-field_in (an_object v) = no_fields
-field_in (a_number v) = no_fields
-field_in (a_truth v) = no_fields
-field_in (a_set v) = no_fields
-field_in (a_field v) = v
-
-module _ (X : ValueTree → ValueTree → Type 0) (m : Interp) (keeps : (u v : ValueTree) → X u v → (e : List ℕ) → datum u m e ≡ datum v m e) where
+module _ (X : ValueTree → ValueTree → Type 0) (m : Interp) (universe : InUniverse m)
+    (keeps : (u v : ValueTree) → X u v → (e : List ℕ) → AreInside m.last e → SameIn m.last (datum u m e) (datum v m e)) where
   mutual"""]
-    inside = {'T': 'object_in', 'I': 'number_in', 'S': 'set_in', 'F': 'field_in', 'P': 'truth_in'}
+    means = {
+        'T': 'term_value a m e ≡ term_value b m e', 'I': 'int_value a m e ≡ int_value b m e', 'P': 'truth a m e ≡ truth b m e',
+        'S': 'SameMembers m.last (set_value a m e) (set_value b m e)', 'F': 'SameFields m.last (field_value a m e) (field_value b m e)',
+        'V': 'SameIn m.last (datum a m e) (datum b m e)', 'L': 'AllSame m.last (fields_value a m e) (fields_value b m e)',
+    }
+
+    def proof(code, ctor, kinds, ns, ms, hyp):
+        """The proof in one case: rel(n) is that of the part n, of(n) and at(n) its value on both sides."""
+        parts = {n: (core(k), q) for k, n, q in zip(kinds, ns, ms) if is_part(k)}
+
+        def rel(n):
+            c, q = parts[n]
+            return f"{VALUE[c]}-related {n} {q} {hyp[n]} e w"
+
+        def deep(n, x):
+            c, q = parts[n]
+            return f"{VALUE[c]}-related {n} {q} {hyp[n]} ({x} ∷ e) (inside-more m.last {x} e lt w)"
+        if ctor in ('of_object', 'of_number', 'of_truth', 'of_set', 'of_field', 'mark'):
+            return rel('a')
+        if ctor in ('read_object', 'read_number', 'read_truth'):
+            return f"λ i. ({rel('a')}).{ {'T': 'objects', 'I': 'numbers', 'P': 'truths'}[code]} i ({rel('b')} i)"
+        if ctor == 'read_set':
+            return f"λ y lt. ({rel('a')}).sets (term_value b m e) y lt ∙ (λ i. (field_value a' m e).sets ({rel('b')} i) y)"
+        if ctor == 'card':
+            return f"ap pos (count-same m.last (set_value a m e) (set_value a' m e) ({rel('a')}))"
+        if ctor == 'single':
+            return f"λ y lt i. y == {rel('a')} i"
+        if ctor in SAME_SETS:
+            return SAME_SETS[ctor].replace('{a}', f"({rel('a')} y lt i)").replace('{b}', f"({rel('b')} y lt i)" if 'b' in parts else '')
+        if ctor == 'compr':
+            return f"λ y lt. {deep('a', 'y')}"
+        if ctor == 'update':
+            return f"updated-same m.last (field_value a m e) (field_value a' m e) (term_value b m e) (term_value b' m e) (datum c m e) (datum c' m e) ({rel('a')}) ({rel('b')}) ({rel('c')})"
+        if ctor in ('all', 'ex'):
+            every = 'every' if ctor == 'all' else 'some'
+            return f"{every}-same m.last (λ x. truth a m (x ∷ e)) (λ x. truth a' m (x ∷ e)) (λ x lt. {deep('a', 'x')})"
+        if ctor in ('eq_set', 'subset'):
+            test = 'agree ({} x) ({} x)' if ctor == 'eq_set' else 'not ({} x) || {} x'
+            both = [test.format(f"set_value a{p} m e", f"set_value b{p} m e") for p in ('', "'")]
+            step = f"agree ({rel('a')} x lt i) ({rel('b')} x lt i)" if ctor == 'eq_set' else f"not ({rel('a')} x lt i) || {rel('b')} x lt i"
+            return f"every-same m.last (λ x. {both[0]}) (λ x. {both[1]}) (λ x lt i. {step})"
+        if ctor == 'member':
+            return f"{rel('b')} (term_value a m e) (term_inside m universe e w a) ∙ ap (set_value b' m e) ({rel('a')})"
+        if ctor == 'reach':
+            return f"reaches-same m.last (fields_value fs m e) (fields_value fs' m e) ({rel('fs')}) (term_value a m e) (term_value b m e) ∙ (λ i. reaches m.last (fields_value fs' m e) ({rel('a')} i) ({rel('b')} i))"
+        if ctor == 'tree':
+            return f"forest-same m.last (fields_value fs m e) (fields_value fs' m e) ({rel('fs')})"
+        if ctor == 'more':
+            return f"({rel('f')}, {rel('fs')})"
+        text = MEANING[ctor]
+        for n in parts:
+            text = text.replace('{' + n + '}', f"{rel(n)} i")
+        return f"λ i. {text}"
+
     for code in ORDER + 'L':
         f = f"{VALUE[code]}-related"
-        out.append(f"    pub {f} : (a b : {tree_type(code)}) → {REL[code]} X a b → (e : List ℕ) → {VALUE[code]} a m e ≡ {VALUE[code]} b m e")
+        out.append(f"    pub {f} : (a b : {tree_type(code)}) → {REL[code]} X a b → (e : List ℕ) → AreInside m.last e → {means[code]}")
         if code not in ('V', 'L'):
-            out.append(f"    {f} _ _ (r.{fn_of(code)}_here a b x) e = ap {inside[code]} (keeps (t.{WRAP[code]} a) (t.{WRAP[code]} b) x e)")
+            out.append(f"    {f} _ _ (r.{fn_of(code)}_here a b x) e w = keeps (t.{WRAP[code]} a) (t.{WRAP[code]} b) x e w")
         for c, variant, ctor, kinds, ns in all_ctors():
             if c != code:
                 continue
@@ -787,22 +818,21 @@ module _ (X : ValueTree → ValueTree → Type 0) (m : Interp) (keeps : (u v : V
                 else:
                     args.append(n)
             pat = apply(f"r.{ctor}", args + prems)
-            if code == 'L':
-                text = None if ctor == 'none' else '{f} ∷ {fs}'
-            else:
-                text = MEANING.get(ctor)
-            if text is None or not prems:
-                out.append(f"    {f} _ _ {pat} e = refl")
+            if not prems:
+                nothing = {'S': 'λ y lt. refl', 'L': 'tt', 'F': 'fields-same m.last (m.field x)'}.get(code, 'refl')
+                out.append(f"    {f} _ _ {pat} e w = {nothing}")
                 continue
-            for k, n, q in zip(kinds, ns, ms):
-                if not is_part(k):
-                    continue
-                kk = core(k)
-                text = text.replace('{' + n + '+}', f"{VALUE[kk]}-related {n} {q} {hyp[n]} (x ∷ e) i")
-                text = text.replace('{' + n + '}', f"{VALUE[kk]}-related {n} {q} {hyp[n]} e i")
-            text = text.replace('{last}', 'm.last')
-            out.append(f"    {f} _ _ {pat} e = λ i. {text}")
+            out.append(f"    {f} _ _ {pat} e w = {proof(code, ctor, kinds, ns, ms, hyp)}")
         out.append('')
+    out.append("""pub exchange-keeps : ExchangeKeepsMeaning
+exchange-keeps a b old new x closed closed' m universe same e inside =
+    truth-related (λ u v. (u ≡ old) × (v ≡ new)) m universe
+    (λ u v p g w.
+    let left : datum old m [] ≡ datum u m g = datum-closed old m 0 [] g (λ k lt. absurd (omega arith)) closed ∙ ap (λ z. datum z m g) (sym p.0) in
+    let right : datum new m [] ≡ datum v m g = datum-closed new m 0 [] g (λ k lt. absurd (omega arith)) closed' ∙ ap (λ z. datum z m g) (sym p.1) in
+    subst (λ (d : Datum). SameIn m.last d (datum v m g)) left (subst (λ (d : Datum). SameIn m.last (datum old m []) d) right same))
+    a b x e inside
+""")
     return '\n'.join(out)
 
 

@@ -86,6 +86,46 @@ fn enter_fields(table: &mut Table, fields: &[FieldTerm]) -> Result<usize, NoMemo
     return '\n'.join(out)
 
 
+def guards():
+    """The calls for others, which ask first how deep the tree nests."""
+    out = ["""// Written by tools/door.py.
+ghost use Rattle.std.specs.Prelude.{◌≡◌, ◌≤◌, IfOk, Some, slice_get};
+ghost use Rattle.jh_tree.specs.Tree.{of_object, of_number, of_truth, of_set, of_field};
+ghost use Rattle.jh_tree.specs.Bare.{term_tree, int_tree, set_tree, field_tree, value_tree, formula_tree};
+ghost use Rattle.jh_walk.specs.Sizes.{value_depth};
+ghost use Rattle.jh_table.specs.Growth.{Extends};
+ghost use Rattle.jh_table.specs.Nodes.{nodes};
+ghost use Rattle.jh_door.specs.Entered.{IsKept};
+
+use crate::entering;
+use jh_name::NoMemory;
+use jh_table::{MOST_LEVELS, Table};
+use jh_tree::{FieldTerm, Formula, IntTerm, SetTerm, Term, Value};
+use jh_walk::Walk;
+"""]
+    doc = {'T': 'a term for an object', 'I': 'a term for a number', 'S': 'a term for a set', 'F': 'a field', 'V': 'a value of any sort', 'P': 'a formula'}
+    for c in 'TISFPV':
+        rust, tree, fn, variants = TYPES[c]
+        p = PARAM[c]
+        wanted = f"(value_tree {p}.now)" if c == 'V' else f"({WRAP[c]} ({fn}_tree {p}.now))"
+        out.append(f"""/// The node of {doc[c]}. Nodes that are new are made, those before stay. Where the tree is listed
+/// already, no node is made. The answer is want of memory where the tree nests deeper than MOST_LEVELS, and
+/// nothing is entered then.
+""" + ("#[tactic(auto, using(crate::proofs::DoorSteps::value_steps))]\n" if c == 'V' else '') + f"""pub fn enter{'' if c == 'V' else '_' + WORD[c]}(table: &mut Table, {p}: &{rust}) -> Result<usize, NoMemory>
+    ensures node {{ IfOk result (λ node. slice_get (nodes table.new) node ≡ Some {wanted}) }}
+    ensures shallow {{ IfOk result (λ node. value_depth {wanted} ≤ 10001) }}
+    ensures grows {{ Extends table.old table.new }}
+    ensures kept {{ IsKept table.old table.new {wanted} }}
+{{
+""" + (f"""    match value {{
+""" + ''.join(f"        Value::{v}(a) => enter_{WORD[core(kinds[0])]}(table, a),\n" for v, ctor, kinds in variants) + "    }\n" if c == 'V' else f"""    if {p}.depth() > MOST_LEVELS {{
+        return Err(NoMemory);
+    }}
+    entering::enter_{WORD[c]}(table, {p})
+""") + "}\n")
+    return '\n'.join(out)
+
+
 def steps():
     uses, rules = [], []
     shape_rules = []
@@ -387,5 +427,6 @@ if __name__ == '__main__':
         os.makedirs(os.path.dirname(path), exist_ok=True)
         open(path, 'w').write(text)
     write('src/entering.rt', code())
+    write('src/guarded.rt', guards())
     write('proofs/DoorSteps.antt', steps())
     write('proofs/entering/+entered/Answers.antt', answers())

@@ -689,6 +689,174 @@ unfolding shape_tree free_shape""")
     return text.replace('{Sort}\nuse Rattle.jh_tree.specs.Tree.{Value', '{Sort}\nuse Rattle.jh_name.specs.declared.place.Sort.TheVariants as Sort\nuse Rattle.jh_tree.specs.Tree.{Value').replace('declared.place.Sort.{Sort}', 'declared.place.Sort as place').replace('(sort : Sort)', '(sort : place.Sort)')
 
 
+def lacking():
+    """A tree that lacks a part stays where the part is exchanged."""
+    wraps = {'T': 'of_object', 'I': 'of_number', 'S': 'of_set', 'F': 'of_field', 'P': 'of_truth'}
+    taken = {'T': 'object_or', 'I': 'number_or', 'S': 'set_or', 'F': 'field_or', 'P': 'truth_or'}
+    out = [f"""-- Written by tools/passes.py: a tree that lacks a part stays where the part is exchanged.
+use Rattle.std.proofs.Common.{{◌≡◌, refl, ap, ◌∙◌, subst, ℕ, ◌+◌, ◌<◌, Bool, true, false, if◌then◌else◌, List, Option, Some, None, slice_get, arith}}
+use Rattle.jh_tree.specs.Tree.{{{TREES}}}
+use Rattle.jh_tree.specs.Tree as t
+use Rattle.jh_walk.specs.Parts.{{Among, first, later, IsChild, IsPart, child, within}}
+use Rattle.jh_walk.specs.Parts as part
+use Rattle.jh_compare.specs.Exchanged.{{equal_trees}}
+use Rattle.jh_compare.proofs.Equalities.{{equal_trees-true}}
+use Rattle.jh_table.specs.Growth.{{AreDifferent}}
+use Rattle.jh_pass.specs.Exchanging.{{new_for, exchanging}}
+use Rattle.jh_pass.specs.Rewritten.{{{', '.join(taken[c] for c in 'TISFP')}, {', '.join('rewritten_' + fn_of(c) for c in ORDER + 'L')}}}
+
+-- the tree is not the old one, and neither is a part of it
+pub record Lacks (old v : ValueTree) : Type 0 where
+  pub self : v ≡ old → ⊥
+  pub part : IsPart old v → ⊥
+
+down : (old a c : ValueTree) → IsChild a c → Lacks old c → Lacks old a
+down old a c h l = record {{ self = λ e. l.part (subst (λ (z : ValueTree). IsPart z c) e (child a c h)); part = λ q. l.part (within old a c q h) }}
+
+module _ (old new : ValueTree) where
+  unless : (v : ValueTree) (b : Bool) → equal_trees v old ≡ b → (v ≡ old → ⊥) → (if b then Some new else None) ≡ None
+  unless v true e differs = absurd (differs (equal_trees-true v old e))
+  unless v false e differs = refl
+
+  pub none-for : (v : ValueTree) → (v ≡ old → ⊥) → new_for old new v ≡ None
+  none-for v differs = unless v (equal_trees v old) refl differs
+
+  mutual
+    unfolding {' '.join('rewritten_' + fn_of(c) for c in ORDER + 'L')} {' '.join(taken[c] for c in 'TISFP')}
+"""]
+    for c in ORDER:
+        f = f"{fn_of(c)}-lacks"
+        whole = '(t.{} a)'.format(wraps[c]) if c != 'V' else 'a'
+        out.append(f"    pub {f} : (a : {tree_type(c)}) (d : ℕ) → Lacks old {whole} → rewritten_{fn_of(c)} a (exchanging old new) d ≡ a")
+        for _, ctor, kinds in TYPES[c][3]:
+            ns = names(kinds)
+            tree = apply('t.' + ctor, ns)
+            if ctor == 'bound':
+                out.append(f"    {f} {tree} d l = refl")
+                continue
+            if c == 'V':
+                out.append(f"    {f} {tree} d l = λ i. t.{ctor} ({fn_of(core(kinds[0]))}-lacks a d l i)")
+                continue
+            here = f"(t.{wraps[c]} {tree})"
+            parts = [n for k, n in zip(kinds, ns) if is_part(k)]
+            several = len(parts) > 1
+            words = []
+            for k, n in zip(kinds, ns):
+                if not is_part(k):
+                    words.append(n)
+                    continue
+                if core(k) == 'L':
+                    rest = ' '.join(x for x in ns if x != n)
+                    member = f"part.{ctor}-field f fs {rest} m".replace('  ', ' ')
+                    words.append(f"(fields-lack fs d (λ f m. down old (t.of_field f) {here} ({member}) l) i)")
+                    continue
+                depth = '(d + 1)' if k.endswith('+') else 'd'
+                tree_of_part = n if core(k) == 'V' else f"(t.{wraps[core(k)]} {n})"
+                step = f"part.{ctor}" + (f"-{n}" if several else '') + ' ' + ' '.join(ns)
+                words.append(f"({fn_of(core(k))}-lacks {n} {depth} (down old {tree_of_part} {here} ({step}) l) i)")
+            made = f"(t.{ctor} {' '.join(words)})" if words else f"t.{ctor}"
+            out.append(f"    {f} {tree} d l = λ i. {taken[c]} (none-for {here} l.self i) {made}")
+        out.append('')
+    out.append("""    pub fields-lack : (a : FieldTrees) (d : ℕ) → ((f : FieldTree) → Among f a → Lacks old (t.of_field f)) → rewritten_fields a (exchanging old new) d ≡ a
+    fields-lack t.none d l = refl
+    fields-lack (t.more f fs) d l = λ i. t.more (field-lacks f d (l f (first f fs)) i) (fields-lack fs d (λ g m. l g (later g f fs m)) i)
+
+-- each part of a node is a node before it
+abbrev pub PartsFirst : List ValueTree → Type 0
+PartsFirst ts = (n : ℕ) (v w : ValueTree) → slice_get ts n ≡ Some v → IsChild w v → (m : ℕ) × (m < n) × (slice_get ts m ≡ Some w)
+
+part-stands : (ts : List ValueTree) → PartsFirst ts → (a b : ValueTree) → IsPart a b → (n : ℕ) → slice_get ts n ≡ Some b → (m : ℕ) × (m < n) × (slice_get ts m ≡ Some a)
+part-stands ts law _ _ (child a b h) n at = law n b a at h
+part-stands ts law _ _ (within a b c p h) n at =
+    let q = law n c b at h in
+    let r = part-stands ts law a b p q.0 q.2 in
+    let less : r.0 < n = let one : r.0 < q.0 = r.1 in let two : q.0 < n = q.1 in omega arith in
+    (r.0, less, r.2)
+
+away : (n m : ℕ) → n < m → n ≡ m → ⊥
+away n m lt e = omega arith
+
+-- a node before another lacks the other's tree
+pub earlier-lacks : (ts : List ValueTree) (n from : ℕ) (v old : ValueTree) → PartsFirst ts → AreDifferent ts → n < from → slice_get ts n ≡ Some v → slice_get ts from ≡ Some old → Lacks old v
+earlier-lacks ts n from v old law differ lt at there = record {
+  self = λ e. away n from lt (differ n from old (at ∙ ap (λ z. Some z) e) there);
+  part = λ q.
+      let r = part-stands ts law old v q n at in
+      let less : r.0 < from = let one : r.0 < n = r.1 in omega arith in
+      away r.0 from less (differ r.0 from old r.2 there);
+}
+""")
+    return '\n'.join(out)
+
+
+
+def exchanged_pairs():
+    """What an exchange answers is the tree with some occurrences exchanged."""
+    relation = {'T': 'TermsRelated', 'I': 'IntsRelated', 'S': 'SetsRelated', 'F': 'FieldsRelated', 'V': 'ValuesRelated', 'P': 'FormulasRelated', 'L': 'ListsRelated'}
+    here = {'T': 'term_here', 'I': 'int_here', 'S': 'set_here', 'F': 'field_here', 'P': 'formula_here'}
+    wraps = {'T': 'of_object', 'I': 'of_number', 'S': 'of_set', 'F': 'of_field', 'P': 'of_truth'}
+    taken = {'T': 'object_or', 'I': 'number_or', 'S': 'set_or', 'F': 'field_or', 'P': 'truth_or'}
+    out = [f"""-- Written by tools/passes.py: what an exchange answers is the tree with some occurrences exchanged.
+use Rattle.std.proofs.Common.{{◌≡◌, refl, sym, ℕ, ◌+◌, Bool, true, false, if◌then◌else◌, Option, Some, None}}
+use Rattle.jh_tree.specs.Tree.{{{TREES}}}
+use Rattle.jh_tree.specs.Tree as t
+use Rattle.jh_compare.specs.Exchanged.{{equal_trees}}
+use Rattle.jh_compare.specs.Related.{{{', '.join(relation[c] for c in ORDER + 'L')}}}
+use Rattle.jh_compare.specs.Related as r
+use Rattle.jh_compare.proofs.Equalities.{{equal_trees-true}}
+use Rattle.jh_pass.specs.Exchanging.{{new_for, exchanging}}
+use Rattle.jh_pass.specs.Rewritten.{{{', '.join(taken[c] for c in 'TISFP')}, {', '.join('rewritten_' + fn_of(c) for c in ORDER + 'L')}}}
+
+module _ (old new : ValueTree) where
+  abbrev pub Pair : ValueTree → ValueTree → Type 0
+  Pair u v = (u ≡ old) × (v ≡ new)
+
+  chosen-pair : (v w : ValueTree) (b : Bool) → equal_trees v old ≡ b → (if b then Some new else None) ≡ Some w → Pair v w
+  chosen-pair v w true is q = (equal_trees-true v old is, cc)
+  chosen-pair v w false is q = absurd (cc)
+
+  pair-of : (v w : ValueTree) → new_for old new v ≡ Some w → Pair v w
+  pair-of v w q = chosen-pair v w (equal_trees v old) refl q
+"""]
+    for c in 'TISFP':
+        out.append(f"""
+  {SORT[c]}-here : (o : Option ValueTree) (a b : {tree_type(c)}) → ((w : ValueTree) → o ≡ Some w → Pair (t.{wraps[c]} a) w) → {relation[c]} Pair a b → {relation[c]} Pair a ({taken[c]} o b)
+  unfolding {taken[c]}
+  {SORT[c]}-here (Some (t.{wraps[c]} x)) a b h k = r.{here[c]} a x (h (t.{wraps[c]} x) refl)
+  {SORT[c]}-here _ a b h k = k""")
+    out.append(f"""
+  mutual
+    unfolding {' '.join('rewritten_' + fn_of(c) for c in ORDER + 'L')}
+""")
+    for c in ORDER + 'L':
+        f = f"{fn_of(c)}-exchanged"
+        out.append(f"    pub {f} : (a : {tree_type(c)}) (d : ℕ) → {relation[c]} Pair a (rewritten_{fn_of(c)} a (exchanging old new) d)")
+        variants = [(None, 'none', []), (None, 'more', ['F', 'L'])] if c == 'L' else TYPES[c][3]
+        for _, ctor, kinds in variants:
+            ns = ['f', 'fs'] if ctor == 'more' else names(kinds)
+            tree = apply('t.' + ctor, ns)
+            args, parts, news = [], [], []
+            for k, n in zip(kinds, ns):
+                if not is_part(k):
+                    args.append(n)
+                    news.append(n)
+                    continue
+                depth = '(d + 1)' if k.endswith('+') else 'd'
+                made = f"(rewritten_{fn_of(core(k))} {n} (exchanging old new) {depth})"
+                args += [n, made]
+                news.append(made)
+                parts.append(f"({fn_of(core(k))}-exchanged {n} {depth})")
+            rel = f"r.{ctor} {' '.join(args + parts)}" if args + parts else f"r.{ctor}"
+            if c in 'VL' or ctor == 'bound':
+                out.append(f"    {f} {tree} d = {rel}")
+                continue
+            whole = f"(t.{wraps[c]} {tree})"
+            after = f"(t.{ctor} {' '.join(news)})" if news else f"t.{ctor}"
+            out.append(f"    {f} {tree} d = {SORT[c]}-here (new_for old new {whole}) {tree} {after} (pair-of {whole}) ({rel})")
+        out.append('')
+    return '\n'.join(out)
+
+
 if __name__ == '__main__':
     with open(os.path.join(HERE, 'proofs', 'SubstitutionRules.antt'), 'w') as out:
         out.write(substitution())
@@ -704,3 +872,7 @@ if __name__ == '__main__':
         out.write(sort_lemmas())
     with open(os.path.join(HERE, 'proofs', 'Remakes.antt'), 'w') as out:
         out.write(remakes())
+    with open(os.path.join(HERE, 'proofs', 'Exchanged.antt'), 'w') as out:
+        out.write(exchanged_pairs())
+    with open(os.path.join(HERE, 'proofs', 'Lacking.antt'), 'w') as out:
+        out.write(lacking())

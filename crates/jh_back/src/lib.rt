@@ -6,6 +6,5 @@ mod standing;
 mod taking;
 
 pub use taking::{
-    MOST_LEVELS, MOST_NODES, boxed_field, boxed_formula, boxed_int, boxed_set, boxed_term,
-    boxed_value as value,
+    MOST_NODES, boxed_field, boxed_formula, boxed_int, boxed_set, boxed_term, boxed_value as value,
 };

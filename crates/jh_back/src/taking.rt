@@ -6,14 +6,11 @@ ghost use Rattle.jh_back.specs.Room.{IsSmall};
 
 use crate::making::{formula_box, make_field, make_int, make_set, make_term, value_box};
 use jh_name::NoMemory;
-use jh_table::Table;
+use jh_table::{MOST_LEVELS, Table};
 use jh_tree::{FieldTerm, Formula, IntTerm, SetTerm, Term, Value};
 
 /// The most nodes of a tree that is taken out of a table: 2^26.
 pub const MOST_NODES: u64 = 1 << 26;
-
-/// The deepest nesting of a tree that is taken out of a table.
-pub const MOST_LEVELS: u64 = 10_001;
 
 /// Whether the tree of a node is small enough to be made.
 fn has_room(table: &Table, node: usize) -> bool

@@ -7,3 +7,4 @@ pub mod SameSteps
 pub mod Equalities
 pub mod SameLists
 pub mod ExchangeMeanings
+mod Insides

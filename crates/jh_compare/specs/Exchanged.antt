@@ -3,7 +3,8 @@ use Rattle.std.specs.Prelude.{◌≡◌, Bool, true, false, ℕ, List, []}
 use Rattle.jh_tree.specs.Tree.{ValueTree, FormulaTree}
 use Rattle.jh_compare.specs.Compared.{related_value}
 use Rattle.jh_tree.specs.Closed.{is_closed_value}
-use Rattle.jh_tree.specs.Meaning.{Interp, truth, datum}
+use Rattle.jh_tree.specs.Meaning.{Interp, InUniverse, truth, datum}
+use Rattle.jh_compare.specs.Inside.{SameIn, AreInside}
 use Rattle.jh_compare.specs.Related.{FormulasRelated}
 
 -- The second formula is the first with some occurrences of the old value, none or all of them maybe,
@@ -19,9 +20,12 @@ nothing u v = false
 abbrev pub equal_trees : ValueTree → ValueTree → Bool
 equal_trees u v = related_value u nothing v
 
--- exchanging a closed value for another of the same meaning keeps the meaning of the whole
+-- Exchanging a closed value for another of the same meaning keeps the meaning of the whole, under objects of
+-- the universe. Two sets have the same meaning where they have the same members in the universe, so where
+-- they are equal.
 abbrev pub ExchangeKeepsMeaning : Type 0
 ExchangeKeepsMeaning =
     (a b : FormulaTree) (old new : ValueTree) → Exchanged a b old new →
     is_closed_value old 0 ≡ true → is_closed_value new 0 ≡ true →
-    (m : Interp) → datum old m [] ≡ datum new m [] → (e : List ℕ) → truth a m e ≡ truth b m e
+    (m : Interp) → InUniverse m → SameIn m.last (datum old m []) (datum new m []) →
+    (e : List ℕ) → AreInside m.last e → truth a m e ≡ truth b m e

@@ -2,5 +2,6 @@ pub mod Marks
 pub mod Related
 pub mod Compared
 pub mod Exchanged
+pub mod Inside
 pub mod Unmarked
 pub mod Sameness

@@ -12,7 +12,7 @@ use Rattle.jh_digits.specs.Table.{taken_of, halved_of, CanTake, CanHalve}
 use Rattle.jh_digits.specs.Walk.{passed_of, CanPass, IsLayer, Completes, onto}
 use Rattle.jh_digits.proofs.Sums.{equal_parts, plus_total-split, minus_total-split, plus_total-zero, minus_total-zero}
 use Rattle.jh_digits.proofs.Coordinates.{after_need, after_row, radix_row, start_range, end_range}
-use Rattle.jh_digits.proofs.Walks.{AreDigits}
+use Rattle.jh_digits.proofs.Walks.{AreDigits, digit_cases, zero_test}
 use Rattle.jh_digits.proofs.Cells.{coordinate_of}
 
 -- ---- the coordinates of the next cells
@@ -33,15 +33,8 @@ halved_range : (s : System) (c i : ℕ) → CanHalve s c → i < coordinates s �
 unfolding CanHalve
 halved_range s c i h k = h i k
 
-digit_cases : (n : ℕ) → n ≤ 1 → (n ≡ 1) ⊎ (n ≡ 0)
-digit_cases zero h = inr refl
-digit_cases (suc n) h = inl (omega arith)
-
 one_test : (n : ℕ) → n ≡ 1 → eqb n 1 ≡ true
 one_test n h = eq-eqb n 1 h
-
-zero_test : (n : ℕ) → n ≡ 0 → eqb n 1 ≡ false
-zero_test n h = rw h refl
 
 -- ---- rows
 

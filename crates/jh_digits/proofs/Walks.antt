@@ -42,7 +42,7 @@ walked_row s d x (suc j) i h =
 abbrev pub AreDigits : (ℕ → ℕ) → Type 0
 AreDigits d = (j : ℕ) → d j ≤ 1
 
-digit_cases : (n : ℕ) → n ≤ 1 → (n ≡ 1) ⊎ (n ≡ 0)
+pub digit_cases : (n : ℕ) → n ≤ 1 → (n ≡ 1) ⊎ (n ≡ 0)
 digit_cases zero h = inr refl
 digit_cases (suc n) h = inl (omega arith)
 
@@ -77,7 +77,7 @@ negative_more e j (suc n) h =
     (λ (l : suc n ≤ j). let f : j ≡ suc n = omega arith in rw f (omega arith))
     (cases_lt j (suc n))
 
-zero_test : (n : ℕ) → n ≡ 0 → eqb n 1 ≡ false
+pub zero_test : (n : ℕ) → n ≡ 0 → eqb n 1 ≡ false
 zero_test n h = rw h refl
 
 take_is : (e : ℤ) (w y : ℕ) → plus e ≤ y + minus e → row_take e w y ≡ y + minus e - plus e

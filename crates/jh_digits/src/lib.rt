@@ -16,6 +16,3 @@ pub use checking::holds;
 pub use counting::nodes;
 pub use solving::solve;
 pub use system::{Digits, Solved, System};
-
-#[cfg(test)]
-mod tests;

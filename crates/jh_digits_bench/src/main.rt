@@ -1,51 +1,158 @@
-//! Times `solve` on systems near its limit, and prints the answers on small ones.
+//! Prints the nodes of small systems and what `solve` finds, with the numbers of a solution. With an argument it
+//! also times `solve` on systems near its limit.
 #![tactic(auto)]
 
 mod systems;
 
 ghost use Rattle.std.specs.Prelude.{◌≤◌, ◌<◌, ◌^◌, length};
 ghost use Rattle.jh_digits.specs.Solution.{IsWellFormed};
+ghost use Rattle.jh_digits.specs.Answers.{IfSolution};
 
-use jh_digits::{Solved, System, nodes, solve};
+use jh_digits::{Digits, Solved, System, holds, nodes, solve};
 use std::alloc::Global;
 use std::io::Print;
 use std::time::{Clock, Instant};
 use std::{env, io};
-use systems::one_row;
+use systems::{one_need, one_row};
 
-/// What `solve` says of a system, in a word.
-fn answer(alloc: Global, system: &System) -> &'static str
-    requires { IsWellFormed system.now }
+/// One row: its factors, its right side, and how many of the first columns have a need.
+#[derive(Clone, Copy)]
+struct Trial {
+    entries: &'static [i64],
+    right: i64,
+    needs: u32,
+}
+
+/// The small rows.
+static SMALL: &[Trial] = &[
+    Trial {
+        entries: &[2],
+        right: 1,
+        needs: 0,
+    },
+    Trial {
+        entries: &[3, 5],
+        right: 8,
+        needs: 0,
+    },
+    Trial {
+        entries: &[3, 5],
+        right: 7,
+        needs: 0,
+    },
+    Trial {
+        entries: &[1],
+        right: 300,
+        needs: 0,
+    },
+    Trial {
+        entries: &[1],
+        right: 40_000_000,
+        needs: 0,
+    },
+];
+
+/// The rows near the limit.
+static LARGE: &[Trial] = &[
+    Trial {
+        entries: &[15_000_149],
+        right: 1,
+        needs: 0,
+    },
+    Trial {
+        entries: &[1],
+        right: 33_000_000,
+        needs: 0,
+    },
+    Trial {
+        entries: &[5, 10, 15, 20, 25, 30, 35, 40, 45, 50],
+        right: 4472,
+        needs: 10,
+    },
+    Trial {
+        entries: &[6007, -10_009, 8009],
+        right: 1,
+        needs: 0,
+    },
+    Trial {
+        entries: &[2_500_001, -2_500_033, 2_499_999],
+        right: 1,
+        needs: 0,
+    },
+    Trial {
+        entries: &[1001, -1003, 997, -1009, 991, -1013],
+        right: 123_457,
+        needs: 6,
+    },
+];
+
+/// A column's number modulo 2 to the power of 63.
+fn number(digits: &Digits, column: usize) -> u64 {
+    let mut sum = 0u64;
+    for layer in digits.layers.items().iter().rev() {
+        let digit = layer.items().get(column).copied().unwrap_or(false);
+        sum = sum % (1 << 62) * 2 + if digit { 1 } else { 0 };
+    }
+    sum
+}
+
+/// Prints what was found for a system, in a word, with the numbers of a solution.
+fn print_found(rt: &impl Print, system: &System, found: &Solved) -> io::Result<()>
+    requires formed { IsWellFormed system.now }
+    requires found { IfSolution system.now found.now }
 {
-    match solve(alloc, system) {
-        Solved::Solution(_) => "solution",
-        Solved::NoSolution => "no solution",
-        Solved::TooLarge(_) => "too large",
-        Solved::Memory => "no memory",
+    match found {
+        Solved::Solution(digits) => {
+            let word = if holds(system, digits) {
+                "solution"
+            } else {
+                "wrong"
+            };
+            print!(rt; "{word}")?;
+            for column in 0..system.columns {
+                print!(rt; " {}", number(digits, column as usize))?;
+            }
+            Ok(())
+        }
+        Solved::NoSolution => print!(rt; "no solution"),
+        Solved::TooLarge(count) => print!(rt; "too large with {count}"),
+        Solved::Memory => print!(rt; "no memory"),
     }
 }
 
-/// Prints the nodes of a system and its answer, and the time where that is asked for.
+/// Prints the nodes of a system and what `solve` finds, and the time where that is asked for.
 fn report(
     rt: &(impl Print + Clock),
     alloc: Global,
-    entries: &[i64],
-    right: i64,
-    needs: u32,
+    system: &System,
     is_timed: bool,
 ) -> io::Result<()>
-    requires short { length entries.now < 2 ^ 32 }
-    requires needs { needs ≤ length entries.now }
+    requires { IsWellFormed system.now }
 {
-    let system = one_row(alloc, entries, right, needs)?;
-    let count = nodes(&system);
+    print!(rt; "{} nodes: ", nodes(system))?;
     let start = Instant::now(rt)?;
-    let word = answer(alloc, &system);
+    let found = solve(alloc, system);
+    let time = start.elapsed(rt)?.as_millis();
+    print_found(rt, system, &found)?;
     if is_timed {
-        let time = start.elapsed(rt)?.as_millis();
-        println!(rt; "{count} nodes, {needs} needs: {word}, {time} ms")?;
-    } else {
-        println!(rt; "{count} nodes, {needs} needs: {word}")?;
+        print!(rt; ", {time} ms")?;
+    }
+    println!(rt; "")
+}
+
+/// Reports on each row of a table that is a row: no more needs than columns.
+fn report_all(
+    rt: &(impl Print + Clock),
+    alloc: Global,
+    trials: &[Trial],
+    is_timed: bool,
+) -> io::Result<()> {
+    for trial in trials {
+        let width = trial.entries.len();
+        if width < 1 << 32 && trial.needs as usize <= width {
+            let system = one_row(alloc, trial.entries, trial.right, trial.needs)?;
+            report(rt, alloc, &system, is_timed)?;
+        }
     }
     Ok(())
 }
@@ -56,7 +163,7 @@ fn report_thousand(rt: &(impl Print + Clock), alloc: Global) -> io::Result<()> {
     let mut solved = 0u32;
     for right in 0..1000i64 {
         let system = one_row(alloc, &[3, 5], right % 14, 0)?;
-        if answer(alloc, &system).len() == 8 {
+        if matches!(solve(alloc, &system), Solved::Solution(_)) {
             solved = solved.saturating_add(1);
         }
     }
@@ -67,33 +174,12 @@ fn report_thousand(rt: &(impl Print + Clock), alloc: Global) -> io::Result<()> {
 fn main(rt: HostRuntime) -> io::Result<()> {
     let alloc = rt.alloc();
     let words = env::args(&rt)?.count();
-    report(&rt, alloc, &[2], 1, 0, false)?;
-    report(&rt, alloc, &[3, 5], 8, 0, false)?;
-    report(&rt, alloc, &[3, 5], 7, 0, false)?;
-    report(&rt, alloc, &[1], 300, 0, false)?;
-    report(&rt, alloc, &[1], 40000000, 0, false)?;
+    report_all(&rt, alloc, SMALL, false)?;
+    let need = one_need(alloc)?;
+    report(&rt, alloc, &need, false)?;
     if words > 1 {
         report_thousand(&rt, alloc)?;
-        report(&rt, alloc, &[15000149], 1, 0, true)?;
-        report(&rt, alloc, &[1], 33000000, 0, true)?;
-        report(
-            &rt,
-            alloc,
-            &[5, 10, 15, 20, 25, 30, 35, 40, 45, 50],
-            4472,
-            10,
-            true,
-        )?;
-        report(&rt, alloc, &[6007, -10009, 8009], 1, 0, true)?;
-        report(&rt, alloc, &[2500001, -2500033, 2499999], 1, 0, true)?;
-        report(
-            &rt,
-            alloc,
-            &[1001, -1003, 997, -1009, 991, -1013],
-            123457,
-            6,
-            true,
-        )?;
+        report_all(&rt, alloc, LARGE, true)?;
     }
     Ok(())
 }

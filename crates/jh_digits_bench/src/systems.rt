@@ -1,9 +1,9 @@
-ghost use Rattle.std.specs.Prelude.{◌≤◌, ◌<◌, ◌^◌, length, IfOk};
+ghost use Rattle.std.specs.Prelude.{◌≡◌, ◌≤◌, ◌<◌, ◌^◌, length, IfOk};
 ghost use Rattle.jh_digits.specs.Solution.{IsWellFormed};
 
 use jh_digits::System;
 use jh_name::Row;
-use std::alloc::{AllocError, AllocFailed, Global};
+use std::alloc::{AllocError, Global};
 
 /// One row with these factors and this right side, and a need on each of the first columns.
 pub fn one_row(alloc: Global, entries: &[i64], right: i64, needs: u32) -> Result<System, AllocError>
@@ -21,5 +21,18 @@ pub fn one_row(alloc: Global, entries: &[i64], right: i64, needs: u32) -> Result
         entries: Row::of(entries.to_vec(alloc)?),
         right: Row::of(vec![in alloc; right]?),
         needs: Row::of(rows),
+    })
+}
+
+/// No row, and one column with a need on it.
+pub fn one_need(alloc: Global) -> Result<System, AllocError>
+    ensures { IfOk result (λ made. IsWellFormed made) }
+{
+    Ok(System {
+        rows: 0,
+        columns: 1,
+        entries: Row::of(Vec::new(alloc)),
+        right: Row::of(Vec::new(alloc)),
+        needs: Row::of(vec![in alloc; Row::of(vec![in alloc; 0]?)]?),
     })
 }

@@ -2,7 +2,6 @@
 #![tactic(auto)]
 
 mod entering;
+mod guarded;
 
-pub use entering::{
-    enter_field, enter_formula, enter_int, enter_set, enter_term, enter_value as enter,
-};
+pub use guarded::{enter, enter_field, enter_formula, enter_int, enter_set, enter_term};

@@ -16,6 +16,3 @@ pub use host::{HostFiles, HostSink};
 pub use mem::{MemFiles, MemSink};
 pub use sink::{Sink, put_all};
 pub use sure::{SureFiles, SureSink};
-
-#[cfg(test)]
-mod tests;

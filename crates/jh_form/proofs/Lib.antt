@@ -1,2 +1,1 @@
-pub mod Samples
 pub use Rattle.jh_subst.proofs.Substitutions

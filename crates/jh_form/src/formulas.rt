@@ -1,13 +1,15 @@
-ghost use Rattle.std.specs.Prelude.{◌≡◌, ◌<◌, ℕ, List, [], ◌∷◌, true, false, IfOk, Some, length, slice_get};
+ghost use Rattle.std.specs.Prelude.{◌≡◌, ◌<◌, ◌≤◌, ◌↔◌, IsOk, ℕ, List, [], ◌∷◌, true, false, IfOk, Some, length, slice_get};
 ghost use Rattle.jh_tree.specs.Tree.{of_truth};
 ghost use Rattle.jh_tree.specs.Bare.{value_tree};
 ghost use Rattle.jh_tree.specs.Sorts.{tree_sort};
 ghost use Rattle.jh_tree.specs.Closed.{is_closed_term, is_closed_value};
 ghost use Rattle.jh_tree.specs.Passing.{formula_passes, value_passes};
-ghost use Rattle.jh_tree.specs.Meaning.{Interp, truth, term_value, datum};
+ghost use Rattle.jh_tree.specs.Meaning.{Interp, InUniverse, truth, term_value, datum};
 ghost use Rattle.jh_tree.specs.Assigned.{assigned};
+ghost use Rattle.jh_walk.specs.Sizes.{value_depth};
 ghost use Rattle.jh_subst.specs.Opened.{opened};
 ghost use Rattle.jh_subst.specs.Substituted.{substituted, stands_only_at};
+ghost use Rattle.jh_compare.specs.Inside.{SameIn, AreInside};
 ghost use Rattle.jh_table.specs.Entries.{Listing, is_object, is_truth, the_value, the_object, the_truth};
 ghost use Rattle.jh_table.specs.Growth.{Extends};
 ghost use Rattle.jh_table.specs.Nodes.{nodes};
@@ -51,8 +53,8 @@ pub trait Formulas {
         requires closed { is_closed_value (the_value (slice_get (nodes (listing self.old)) value)) 0 ≡ true }
         ensures tree { IfOk result (λ made. slice_get (nodes (listing self.new)) made ≡ Some (of_truth (substituted (the_truth (slice_get (nodes (listing self.old)) node)) name.now (the_value (slice_get (nodes (listing self.old)) value))))) }
         ensures meaning { IfOk result (λ made. (m : Interp) (env : List ℕ) → truth (the_truth (slice_get (nodes (listing self.new)) made)) m env ≡ truth (the_truth (slice_get (nodes (listing self.old)) node)) (assigned m name.now (datum (the_value (slice_get (nodes (listing self.old)) value)) m [])) env) }
-        ensures ill_sorted { result ≡ Err FormFault.IllSorted → formula_passes (the_truth (slice_get (nodes (listing self.old)) node)) (stands_only_at name.now (tree_sort (the_value (slice_get (nodes (listing self.old)) value)))) ≡ false }
-        ensures sorted { IfOk result (λ made. formula_passes (the_truth (slice_get (nodes (listing self.old)) node)) (stands_only_at name.now (tree_sort (the_value (slice_get (nodes (listing self.old)) value)))) ≡ true) }
+        ensures ill_sorted { value_depth (the_value (slice_get (nodes (listing self.old)) node)) ≤ 10001 → ((result ≡ Err FormFault.IllSorted) ↔ (formula_passes (the_truth (slice_get (nodes (listing self.old)) node)) (stands_only_at name.now (tree_sort (the_value (slice_get (nodes (listing self.old)) value)))) ≡ false)) }
+        ensures shallow { IfOk result (λ made. value_depth (the_value (slice_get (nodes (listing self.old)) node)) ≤ 10001) }
         ensures grows { Extends (listing self.old) (listing self.new) };
 
     /// The body of a binder with a term, which has no loose bound variables, for the binder's own
@@ -75,14 +77,15 @@ pub trait Formulas {
         requires closed_old { is_closed_value (the_value (slice_get (nodes (listing self.old)) old)) 0 ≡ true }
         requires closed_new { is_closed_value (the_value (slice_get (nodes (listing self.old)) new)) 0 ≡ true }
         ensures tree { IfOk result (λ made. slice_get (nodes (listing self.new)) made ≡ Some (of_truth (rewritten_formula (the_truth (slice_get (nodes (listing self.old)) formula)) (exchanging (the_value (slice_get (nodes (listing self.old)) old)) (the_value (slice_get (nodes (listing self.old)) new))) 0))) }
-        ensures meaning { IfOk result (λ made. (m : Interp) (e : List ℕ) → datum (the_value (slice_get (nodes (listing self.old)) old)) m [] ≡ datum (the_value (slice_get (nodes (listing self.old)) new)) m [] → truth (the_truth (slice_get (nodes (listing self.new)) made)) m e ≡ truth (the_truth (slice_get (nodes (listing self.old)) formula)) m e) }
+        ensures meaning { IfOk result (λ made. (m : Interp) (e : List ℕ) → InUniverse m → AreInside m.last e → SameIn m.last (datum (the_value (slice_get (nodes (listing self.old)) old)) m []) (datum (the_value (slice_get (nodes (listing self.old)) new)) m []) → truth (the_truth (slice_get (nodes (listing self.new)) made)) m e ≡ truth (the_truth (slice_get (nodes (listing self.old)) formula)) m e) }
         ensures grows { Extends (listing self.old) (listing self.new) };
 
     /// Whether each free name in the tree of a node passes the test at the sort at which it stands. Names
     /// in labels are no free names.
     fn names<T: NameTest>(&self, node: usize, test: &T) -> Result<bool, NoMemory>
         requires { node < length (nodes (listing self.now)) }
-        ensures { IfOk result (λ passes. passes ≡ value_passes (the_value (slice_get (nodes (listing self.now)) node)) (T.test test.now)) };
+        ensures passes { IfOk result (λ passes. passes ≡ value_passes (the_value (slice_get (nodes (listing self.now)) node)) (T.test test.now)) }
+        ensures answers { value_depth (the_value (slice_get (nodes (listing self.now)) node)) ≤ 10001 → IsOk result };
 }
 
 impl Formulas for Table {

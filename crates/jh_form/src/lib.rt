@@ -2,25 +2,107 @@
 //! formulas as shared nodes of a table. All of it is made in the crates below and given out here.
 #![tactic(auto)]
 
-#[cfg(test)]
-mod examples;
 mod formulas;
-#[cfg(test)]
-mod table_tests;
-#[cfg(test)]
-mod tests;
 
 pub use formulas::Formulas;
-pub use jh_back::{MOST_LEVELS, MOST_NODES};
-pub use jh_compare::{exchange_keeps_meaning, replaces, same};
-pub use jh_pass::{LeafRules, walked};
-pub use jh_subst::{FormFault, StandsOnlyAt, open, sort_of, subst};
-pub use jh_table::{Own, Shape, Table};
-pub use jh_tree::{
-    FieldTerm, Formula, IntTerm, Mark, MarkKind, SetTerm, Term, Value, closed_means_the_same,
-    names_decide_meaning,
-};
-pub use jh_walk::{
-    Extent, Leaves, NameTest, Unchanged, Walk, copy, copy_mark, copy_names, map_keeps_meaning,
-    part_is_smaller,
-};
+pub use jh_back::MOST_NODES;
+pub use jh_back::boxed_field;
+pub use jh_back::boxed_formula;
+pub use jh_back::boxed_int;
+pub use jh_back::boxed_set;
+pub use jh_back::boxed_term;
+pub use jh_back::value;
+pub use jh_compare::exchange_keeps_meaning;
+pub use jh_compare::replaces;
+pub use jh_compare::same;
+pub use jh_door::enter;
+pub use jh_door::enter_field;
+pub use jh_door::enter_formula;
+pub use jh_door::enter_int;
+pub use jh_door::enter_set;
+pub use jh_door::enter_term;
+pub use jh_make::all_objects;
+pub use jh_make::at_most;
+pub use jh_make::bound;
+pub use jh_make::cardinality;
+pub use jh_make::complement;
+pub use jh_make::comprehension;
+pub use jh_make::conjunction;
+pub use jh_make::conjunction_of;
+pub use jh_make::constant;
+pub use jh_make::difference;
+pub use jh_make::disjunction;
+pub use jh_make::divides;
+pub use jh_make::empty_set;
+pub use jh_make::equivalence;
+pub use jh_make::falsehood;
+pub use jh_make::for_all;
+pub use jh_make::for_some;
+pub use jh_make::free_field;
+pub use jh_make::free_number;
+pub use jh_make::free_object;
+pub use jh_make::free_set;
+pub use jh_make::free_truth;
+pub use jh_make::implication;
+pub use jh_make::intersection;
+pub use jh_make::labelled;
+pub use jh_make::less;
+pub use jh_make::member;
+pub use jh_make::multiple;
+pub use jh_make::negation;
+pub use jh_make::negative;
+pub use jh_make::null;
+pub use jh_make::read_number;
+pub use jh_make::read_object;
+pub use jh_make::read_set;
+pub use jh_make::read_truth;
+pub use jh_make::same_number;
+pub use jh_make::same_object;
+pub use jh_make::same_set;
+pub use jh_make::set_difference;
+pub use jh_make::singleton;
+pub use jh_make::subset;
+pub use jh_make::sum;
+pub use jh_make::truth;
+pub use jh_make::union_of;
+pub use jh_make::update;
+pub use jh_pass::LeafRules;
+pub use jh_pass::map_changes_nothing;
+pub use jh_pass::walked;
+pub use jh_rebuild::BuildRules;
+pub use jh_rebuild::Polarity;
+pub use jh_rebuild::rebuild;
+pub use jh_several::Instead;
+pub use jh_several::open_several;
+pub use jh_several::replacement;
+pub use jh_several::subst_several;
+pub use jh_subst::FormFault;
+pub use jh_subst::StandsOnlyAt;
+pub use jh_subst::open;
+pub use jh_subst::sort_of;
+pub use jh_subst::subst;
+pub use jh_table::Facts;
+pub use jh_table::MOST_LEVELS;
+pub use jh_table::Own;
+pub use jh_table::Shape;
+pub use jh_table::Table;
+pub use jh_tree::FieldTerm;
+pub use jh_tree::Formula;
+pub use jh_tree::IntTerm;
+pub use jh_tree::Mark;
+pub use jh_tree::MarkKind;
+pub use jh_tree::SetTerm;
+pub use jh_tree::Term;
+pub use jh_tree::Value;
+pub use jh_tree::closed_means_the_same;
+pub use jh_tree::names_decide_meaning;
+pub use jh_walk::Extent;
+pub use jh_walk::Leaves;
+pub use jh_walk::NameTest;
+pub use jh_walk::Unchanged;
+pub use jh_walk::Walk;
+pub use jh_walk::copy;
+pub use jh_walk::copy_mark;
+pub use jh_walk::copy_names;
+pub use jh_walk::map_keeps_meaning;
+pub use jh_walk::part_is_smaller;

@@ -21,6 +21,3 @@ pub use lexing::{at_most_one_fault, at_most_one_list, shape_of_tokens, tokens};
 pub use mode::Mode;
 pub use symbol::Symbol;
 pub use token::{Token, TokenKind};
-
-#[cfg(test)]
-mod tests;

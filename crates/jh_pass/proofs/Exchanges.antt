@@ -1,16 +1,17 @@
 -- The rules of an exchange, over a table, and that it keeps the meaning.
-use Rattle.std.proofs.Common.{◌≡◌, refl, sym, ap, ◌∙◌, ℕ, nat_lt, Bool, true, false, if◌then◌else◌, List, [], length, slice_get, Option, Some, None, is_some, arith}
+use Rattle.std.proofs.Common.{◌≡◌, refl, sym, ap, ◌∙◌, ℕ, ◌<◌, nat_lt, true, if◌then◌else◌, List, [], slice_get, Option, Some, None, arith}
 use Rattle.std.proofs.lemmas.Bool.{true≢false}
 use Rattle.std.proofs.lemmas.Bool.Decides.{nat_tests}
 use Rattle.jh_tree.specs.Tree.{ValueTree, FormulaTree, of_object, of_number, of_truth, of_set, of_field}
 use Rattle.jh_tree.specs.Tree as t
 use Rattle.jh_tree.specs.Closed.{is_closed_value, is_closed_term}
-use Rattle.jh_tree.specs.Meaning.{Interp, datum, truth}
+use Rattle.jh_tree.specs.Meaning.{Interp, InUniverse, datum, truth}
 use Rattle.jh_tree.specs.Sorts.{tree_sort}
-use Rattle.jh_tree.proofs.ClosedLemmas.{AgreeBelow, datum-closed}
-use Rattle.jh_walk.specs.Kept.{Keeps}
-use Rattle.jh_compare.specs.Exchanged.{equal_trees}
-use Rattle.jh_compare.proofs.Equalities.{equal_trees-true, equal_trees-same}
+use Rattle.jh_compare.specs.Inside.{SameIn, AreInside}
+use Rattle.jh_compare.proofs.Equalities.{equal_trees-same}
+use Rattle.jh_compare.proofs.ExchangeMeanings.{exchange-keeps}
+use Rattle.jh_pass.proofs.Exchanged.{formula-exchanged}
+use Rattle.jh_pass.proofs.Lacking.{PartsFirst, none-for, value-lacks, earlier-lacks}
 use Rattle.jh_table.specs.Entries.{Pools, Listing, the_name, the_value, the_truth, is_truth}
 use Rattle.jh_table.specs.Growth.{AreDifferent}
 use Rattle.jh_table.specs.Nodes.{nodes, shape_tree, tree_in}
@@ -18,9 +19,8 @@ use Rattle.jh_table.specs.declared.shapes.Shape.{Shape}
 use Rattle.jh_table.specs.declared.shapes.Shape.TheVariants as s
 use Rattle.jh_pass.specs.Leaf.{is_leaf}
 use Rattle.jh_pass.specs.Exchanging.{new_for, exchanging, CanExchange}
-use Rattle.jh_pass.specs.Rewritten.{KeepsWholes, object_or, number_or, truth_or, set_or, field_or, rewritten_value, rewritten_term, rewritten_int, rewritten_set, rewritten_field, rewritten_formula}
-use Rattle.jh_pass.specs.Walks.{IsRewritten, IsWhole, KeepsMeaning}
-use Rattle.jh_pass.proofs.Meanings.{truth-rewritten, object_or-means, number_or-means, truth_or-means, set_or-means, field_or-means}
+use Rattle.jh_pass.specs.Rewritten.{object_or, number_or, truth_or, set_or, field_or, rewritten_value, rewritten_term, rewritten_int, rewritten_set, rewritten_field, rewritten_formula}
+use Rattle.jh_pass.specs.Walks.{IsRewritten, IsWhole}
 use Rattle.jh_pass.proofs.Sorted.{stays-rewritten, exchanged-rewritten, value-listed, listed-value, listed-truth, truth-value}
 use Rattle.jh_pass.proofs.Wholes.{object-taken, number-taken, truth-taken, set-taken, field-taken}
 
@@ -33,13 +33,6 @@ bound-loose k h =
 module _ (old new : ValueTree) where
   new-for : (v : ValueTree) → v ≡ old → new_for old new v ≡ Some new
   new-for v e = ap (λ b. if b then Some new else None) (equal_trees-same v old e)
-
-  unless : (v : ValueTree) (b : Bool) → equal_trees v old ≡ b → (v ≡ old → ⊥) → (if b then Some new else None) ≡ None
-  unless v true e differs = absurd (differs (equal_trees-true v old e))
-  unless v false e differs = refl
-
-  none-for : (v : ValueTree) → (v ≡ old → ⊥) → new_for old new v ≡ None
-  none-for v differs = unless v (equal_trees v old) refl differs
 
   module _ (p : Pools) (ts : List ValueTree) (d : ℕ) where
     -- a leaf that is the old value
@@ -58,46 +51,12 @@ module _ (old new : ValueTree) where
     pub leaf-stays : (x : Shape) → is_leaf x ≡ true → (shape_tree p ts x ≡ old → ⊥) → rewritten_value (shape_tree p ts x) (exchanging old new) d ≡ shape_tree p ts x
     unfolding is_leaf shape_tree object_or number_or truth_or set_or field_or rewritten_value rewritten_term rewritten_int rewritten_set rewritten_field rewritten_formula
     leaf-stays (s.Bound k) leaf differs = refl
-    leaf-stays (s.FreeObject k) leaf differs = ap (λ q. of_object (object_or q (t.free_object (the_name (slice_get p.names k))))) (none-for _ differs)
-    leaf-stays (s.FreeNumber k) leaf differs = ap (λ q. of_number (number_or q (t.free_number (the_name (slice_get p.names k))))) (none-for _ differs)
-    leaf-stays (s.FreeTruth k) leaf differs = ap (λ q. of_truth (truth_or q (t.free_truth (the_name (slice_get p.names k))))) (none-for _ differs)
-    leaf-stays (s.FreeSet k) leaf differs = ap (λ q. of_set (set_or q (t.free_set (the_name (slice_get p.names k))))) (none-for _ differs)
-    leaf-stays (s.FreeField k) leaf differs = ap (λ q. of_field (field_or q (t.free_field (the_name (slice_get p.names k))))) (none-for _ differs)
+    leaf-stays (s.FreeObject k) leaf differs = ap (λ q. of_object (object_or q (t.free_object (the_name (slice_get p.names k))))) (none-for old new _ differs)
+    leaf-stays (s.FreeNumber k) leaf differs = ap (λ q. of_number (number_or q (t.free_number (the_name (slice_get p.names k))))) (none-for old new _ differs)
+    leaf-stays (s.FreeTruth k) leaf differs = ap (λ q. of_truth (truth_or q (t.free_truth (the_name (slice_get p.names k))))) (none-for old new _ differs)
+    leaf-stays (s.FreeSet k) leaf differs = ap (λ q. of_set (set_or q (t.free_set (the_name (slice_get p.names k))))) (none-for old new _ differs)
+    leaf-stays (s.FreeField k) leaf differs = ap (λ q. of_field (field_or q (t.free_field (the_name (slice_get p.names k))))) (none-for old new _ differs)
     leaf-stays _ leaf differs = absurd (true≢false (sym leaf))
-
-  -- no object stands below none
-  none_below : (e : List ℕ) → AgreeBelow 0 e []
-  none_below e k h = absurd (omega arith)
-
-  module _ (m : Interp) (closed_old : is_closed_value old 0 ≡ true) (closed_new : is_closed_value new 0 ≡ true) (same : datum old m [] ≡ datum new m []) where
-    chosen-means : (v w : ValueTree) (e : List ℕ) (b : Bool) → equal_trees v old ≡ b → (if b then Some new else None) ≡ Some w → datum w m e ≡ datum v m e
-    unfolding the_value
-    chosen-means v w e true is q =
-        ap (λ x. datum (the_value x) m e) (sym q)
-        ∙ datum-closed new m 0 e [] (none_below e) closed_new
-        ∙ sym same
-        ∙ sym (datum-closed old m 0 e [] (none_below e) closed_old)
-        ∙ ap (λ x. datum x m e) (sym (equal_trees-true v old is))
-    chosen-means v w e false is q = absurd (cc)
-
-    -- what stands for a part means what the part means
-    new-means : (v w : ValueTree) (e : List ℕ) → new_for old new v ≡ Some w → datum w m e ≡ datum v m e
-    new-means v w e q = chosen-means v w e (equal_trees v old) refl q
-
-    pub exchanging-keeps : Keeps (exchanging old new).leaves m m (λ d e. e)
-    exchanging-keeps = record {
-      last = refl;
-      under = λ d e x. refl;
-      object = λ x d e h. object_or-means (new_for old new (of_object (t.free_object x))) (t.free_object x) m e (m.object x) (λ w q. new-means (of_object (t.free_object x)) w e q) refl;
-      number = λ x d e h. number_or-means (new_for old new (of_number (t.free_number x))) (t.free_number x) m e (m.number x) (λ w q. new-means (of_number (t.free_number x)) w e q) refl;
-      truth = λ x d e h. truth_or-means (new_for old new (of_truth (t.free_truth x))) (t.free_truth x) m e (m.truth x) (λ w q. new-means (of_truth (t.free_truth x)) w e q) refl;
-      set = λ x d e h. set_or-means (new_for old new (of_set (t.free_set x))) (t.free_set x) m e (m.set x) (λ w q. new-means (of_set (t.free_set x)) w e q) refl;
-      field = λ x d e h. field_or-means (new_for old new (of_field (t.free_field x))) (t.free_field x) m e (m.field x) (λ w q. new-means (of_field (t.free_field x)) w e q) refl;
-      bound = λ k d e h. refl;
-    }
-
-    pub exchanging-keeps-wholes : KeepsWholes (exchanging old new) m m (λ d e. e)
-    exchanging-keeps-wholes = record { whole = λ v w d e h q. new-means v w e q }
 
 module _ (t : Listing) (from to d : ℕ) (ready : CanExchange from to t) where
   abbrev one : ValueTree
@@ -137,6 +96,12 @@ module _ (t : Listing) (from to d : ℕ) (ready : CanExchange from to t) where
   other-whole n v differ away there =
       none-for one other (the_value (slice_get (nodes t) n)) (λ same. elsewhere n v differ there away (sym (listed-value (slice_get (nodes t) n) v there) ∙ same))
 
+  -- a node before the old one stays
+  pub earlier-stays : (n : ℕ) (v : ValueTree) → PartsFirst (nodes t) → AreDifferent (nodes t) → n < from → slice_get (nodes t) n ≡ Some v → IsRewritten (exchanging one other) (nodes t) n d n
+  earlier-stays n v law differ lt there =
+      stays-rewritten (nodes t) (exchanging one other) n d v there
+      (value-lacks one other v d (earlier-lacks (nodes t) n from v one law differ lt there (value-listed (slice_get (nodes t) from) ready.old)))
+
 -- the formula that comes of it
 pub exchanged-truth : (old new : ValueTree) (o : Option ValueTree) → is_truth o ≡ true → Some (rewritten_value (the_value o) (exchanging old new) 0) ≡ Some (of_truth (rewritten_formula (the_truth o) (exchanging old new) 0))
 unfolding rewritten_value
@@ -145,7 +110,7 @@ exchanged-truth old new o h = ap (λ v. Some (rewritten_value v (exchanging old 
 -- and what it means
 pub exchanged-means : (old new : ValueTree) (o made : Option ValueTree) → is_truth o ≡ true → is_closed_value old 0 ≡ true → is_closed_value new 0 ≡ true →
     made ≡ Some (rewritten_value (the_value o) (exchanging old new) 0) →
-    (m : Interp) (e : List ℕ) → datum old m [] ≡ datum new m [] → truth (the_truth made) m e ≡ truth (the_truth o) m e
-exchanged-means old new o made h closed_old closed_new is m e same =
+    (m : Interp) (e : List ℕ) → InUniverse m → AreInside m.last e → SameIn m.last (datum old m []) (datum new m []) → truth (the_truth made) m e ≡ truth (the_truth o) m e
+exchanged-means old new o made h closed_old closed_new is m e universe inside same =
     ap (λ a. truth a m e) (listed-truth made (rewritten_formula (the_truth o) (exchanging old new) 0) (is ∙ exchanged-truth old new o h))
-    ∙ truth-rewritten (exchanging old new) m m (λ d e. e) (exchanging-keeps old new m closed_old closed_new same) (exchanging-keeps-wholes old new m closed_old closed_new same) (the_truth o) 0 e (omega arith)
+    ∙ sym (exchange-keeps (the_truth o) (rewritten_formula (the_truth o) (exchanging old new) 0) old new (formula-exchanged old new (the_truth o) 0) closed_old closed_new m universe same e inside)

@@ -10,4 +10,8 @@ pub mod Passings
 pub mod Passes
 pub mod SubstitutionRules
 pub mod Substituted
+pub mod Exchanged
 pub mod Exchanges
+pub mod Lacking
+pub mod Fixed
+pub mod Alone

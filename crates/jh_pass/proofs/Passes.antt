@@ -1,5 +1,6 @@
 -- Loops over parts that are to pass.
-use Rattle.std.proofs.Common.{◌≡◌, sym, ap, ◌∙◌, ℕ, zero, suc, ◌+◌, ◌≤◌, Bool, true, ◌&&◌, List, [], ◌∷◌, length, slice_get, Some, drop, add-one}
+use Rattle.std.proofs.Common.{◌≡◌, refl, sym, ap, ◌∙◌, ℕ, zero, suc, ◌+◌, ◌≤◌, Bool, true, false, not, IsTrue, ◌&&◌, List, [], ◌∷◌, length, slice_get, Some, drop, add-one}
+use Rattle.std.proofs.lemmas.Bool.{true≢false}
 use Rattle.std.proofs.lemmas.List.{drop_all}
 use Rattle.jh_name.specs.declared.naming.Name.{Name}
 use Rattle.jh_name.specs.declared.place.Sort.{Sort}
@@ -23,3 +24,7 @@ all_pass-next q ts ns i n e =
 
 pub all_pass-end : (q : Name → Sort → Bool) (ts : List ValueTree) (ns : List ℕ) (i : ℕ) → length ns ≤ i → all_pass q ts (drop i ns) ≡ true
 all_pass-end q ts ns i le = ap (all_pass q ts) (drop_all i ns le)
+
+pub not-true : (b : Bool) → IsTrue (not b) → b ≡ false
+not-true false h = refl
+not-true true h = absurd (true≢false (sym h))

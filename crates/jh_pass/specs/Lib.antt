@@ -7,3 +7,4 @@ pub mod Seen
 pub mod Substitution
 pub mod Exchanging
 pub mod Staying
+pub mod Fixing

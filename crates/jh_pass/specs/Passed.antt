@@ -1,9 +1,9 @@
 -- Nodes whose free names pass a test.
-use Rattle.std.specs.Prelude.{◌≡◌, ℕ, Bool, true, ◌&&◌, List, [], ◌∷◌, slice_get}
+use Rattle.std.specs.Prelude.{◌≡◌, ℕ, Bool, true, not, ◌&&◌, List, [], ◌∷◌, Some, slice_get}
 use Rattle.jh_name.specs.declared.naming.Name.{Name}
 use Rattle.jh_name.specs.declared.place.Sort.{Sort}
 use Rattle.jh_tree.specs.Tree.{ValueTree}
-use Rattle.jh_tree.specs.Passing.{value_passes}
+use Rattle.jh_tree.specs.Passing.{value_passes, name_equal}
 use Rattle.jh_table.specs.Entries.{the_value}
 
 -- the free names of each node of the set pass the test
@@ -14,3 +14,9 @@ pub record Passed (test : Name → Sort → Bool) (ts : List ValueTree) (has : �
 abbrev pub all_pass : (Name → Sort → Bool) → List ValueTree → List ℕ → Bool
 all_pass test ts [] = true
 all_pass test ts (n ∷ ns) = value_passes (the_value (slice_get ts n)) test && all_pass test ts ns
+
+-- The test passes each name but the one of this number.
+pub record PassesBut (test : Name → Sort → Bool) (names : List Name) (number : ℕ) : Type 0 where
+  pub name : Name
+  pub at : slice_get names number ≡ Some name
+  pub others : (y : Name) (s : Sort) → not (name_equal y name) ≡ true → test y s ≡ true

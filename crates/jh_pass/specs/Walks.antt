@@ -30,7 +30,7 @@ pub record IsWhole (l : Rewriting) (ts : List ValueTree) (k d r : ℕ) : Type 0 
 
 -- an answer that is a node stands for the whole tree at place k; where there is none, nothing does
 abbrev pub StandsFor : Rewriting → List ValueTree → ℕ → ℕ → Option ℕ → Type 0
-StandsFor l ts k d (Some r) = IsWhole l ts k d r
+StandsFor l ts k d (Some r) = IsRewritten l ts k d r
 StandsFor l ts k d None = l.whole_at (the_value (slice_get ts k)) d ≡ None
 
 -- each answer of a list is the rewritten part

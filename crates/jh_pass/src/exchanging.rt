@@ -1,8 +1,9 @@
 ghost use Rattle.std.specs.Prelude.{◌≡◌, ◌<◌, ℕ, List, [], true, IfOk, Some, length, slice_get};
 ghost use Rattle.jh_tree.specs.Tree.{of_truth};
 ghost use Rattle.jh_tree.specs.Closed.{is_closed_value};
-ghost use Rattle.jh_tree.specs.Meaning.{Interp, truth, datum};
+ghost use Rattle.jh_tree.specs.Meaning.{Interp, InUniverse, truth, datum};
 ghost use Rattle.jh_tree.specs.Sorts.{tree_sort};
+ghost use Rattle.jh_compare.specs.Inside.{SameIn, AreInside};
 ghost use Rattle.jh_table.specs.Entries.{is_truth, the_value, the_truth};
 ghost use Rattle.jh_table.specs.Growth.{Extends};
 ghost use Rattle.jh_table.specs.Nodes.{nodes};
@@ -50,8 +51,11 @@ impl LeafRules for Exchanging {
         _depth: u32,
     ) -> Result<Option<usize>, NoMemory> {
         table.nodes_differ();
+        table.parts_come_first();
         if node == self.old {
             Ok(Some(self.new))
+        } else if node < self.old {
+            Ok(Some(node))
         } else {
             Ok(None)
         }
@@ -61,8 +65,10 @@ impl LeafRules for Exchanging {
 }
 
 /// The node of a formula in which each part that is the node `old` is exchanged for the node `new`, which
-/// is of the same sort. Neither has loose bound variables, so that the parts stand under binders too.
-/// Names in labels stay. Where both have the same value, the formula means what it did.
+/// is of the same sort. Neither has loose bound variables, so that the parts stand under binders too. Nodes
+/// before the old one, which can't have it as a part, are left alone.
+/// Names in labels stay. Where both have the same value, for sets the same members in the universe, the
+/// formula means what it did. The answer is want of memory where the formula nests deeper than MOST_LEVELS.
 pub fn exchange(
     table: &mut Table,
     formula: usize,
@@ -76,7 +82,7 @@ pub fn exchange(
     requires closed_old { is_closed_value (the_value (slice_get (nodes table.old) old)) 0 ≡ true }
     requires closed_new { is_closed_value (the_value (slice_get (nodes table.old) new)) 0 ≡ true }
     ensures tree { IfOk result (λ made. slice_get (nodes table.new) made ≡ Some (of_truth (rewritten_formula (the_truth (slice_get (nodes table.old) formula)) (exchanging (the_value (slice_get (nodes table.old) old)) (the_value (slice_get (nodes table.old) new))) 0))) }
-    ensures meaning { IfOk result (λ made. (m : Interp) (e : List ℕ) → datum (the_value (slice_get (nodes table.old) old)) m [] ≡ datum (the_value (slice_get (nodes table.old) new)) m [] → truth (the_truth (slice_get (nodes table.new) made)) m e ≡ truth (the_truth (slice_get (nodes table.old) formula)) m e) }
+    ensures meaning { IfOk result (λ made. (m : Interp) (e : List ℕ) → InUniverse m → AreInside m.last e → SameIn m.last (datum (the_value (slice_get (nodes table.old) old)) m []) (datum (the_value (slice_get (nodes table.old) new)) m []) → truth (the_truth (slice_get (nodes table.new) made)) m e ≡ truth (the_truth (slice_get (nodes table.old) formula)) m e) }
     ensures grows { Extends table.old table.new }
 {
     walked(table, &Exchanging { old, new }, formula, 0)

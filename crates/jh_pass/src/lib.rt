@@ -3,6 +3,7 @@
 #![tactic(auto)]
 
 mod exchanging;
+mod laws;
 mod leaves;
 mod memo;
 mod naming;
@@ -13,6 +14,7 @@ mod substituting;
 mod walking;
 
 pub use exchanging::exchange;
+pub use laws::map_changes_nothing;
 pub use naming::names;
 pub use opening::open;
 pub use rules::LeafRules;

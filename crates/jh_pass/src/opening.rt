@@ -41,12 +41,16 @@ impl LeafRules for Opening {
 
     fn whole(
         &self,
-        _table: &mut Table,
-        _node: usize,
+        table: &mut Table,
+        node: usize,
         _shape: Shape,
-        _depth: u32,
+        depth: u32,
     ) -> Result<Option<usize>, NoMemory> {
-        Ok(None)
+        if table.loose(node) <= depth as u64 {
+            Ok(Some(node))
+        } else {
+            Ok(None)
+        }
     }
 
     ghost stays = { λ rules. opening-stays rules.with };
@@ -76,7 +80,9 @@ fn bound(
 }
 
 /// The node of a binder's body with the term at `with` for the binder's own variable, which has number
-/// 0 outside all inner binders. The numbers of the loose bound variables beyond it fall by one.
+/// 0 outside all inner binders. The numbers of the loose bound variables beyond it fall by one. Parts without
+/// loose bound variables are left alone. The answer is want of memory where the body nests deeper than
+/// MOST_LEVELS.
 pub fn open(table: &mut Table, body: usize, with: usize) -> Result<usize, NoMemory>
     requires body { is_truth (slice_get (nodes table.old) body) ≡ true }
     requires with { is_object (slice_get (nodes table.old) with) ≡ true }

@@ -8,4 +8,5 @@ pub mod PartComplete
 mod Levels
 mod Turns
 mod Members
+mod Refusals
 mod Separated

@@ -1,6 +1,6 @@
 -- What stands there of a specification is read.
-use Rattle.std.proofs.Common.{◌≡◌, ℕ, zero, suc, ◌+◌, ◌<◌, ◌≤◌, Bool, true, false, List, length, refl, ap, sym, subst, arith}
-use Rattle.std.proofs.lemmas.Bool.{and_from, or_right}
+use Rattle.std.proofs.Common.{◌∙◌, ◌≡◌, ℕ, zero, suc, ◌+◌, ◌<◌, ◌≤◌, Bool, true, false, List, length, refl, ap, sym, subst, arith}
+use Rattle.std.proofs.lemmas.Bool.{false≢true, and_from, or_right}
 use Rattle.std.specs.Prelude.{Option, None, Some, ◌==◌, ◌&&◌, ◌||◌, codes}
 use Rattle.jh_name.specs.declared.place.Kind.{Kind}
 use Rattle.jh_lex.specs.Numbers.{symbol_number}
@@ -11,17 +11,19 @@ use Rattle.jh_ast.specs.declared.word.Word.{Word}
 use Rattle.jh_ast.specs.Forms.{SpecPart, LabelledPart}
 use Rattle.jh_ast.specs.Stmts.{StmtTree}
 use Rattle.jh_ast.specs.Stmts as stmt
+use Rattle.jh_peek.specs.Lists as list
+use Rattle.jh_peek.specs.Lists.{Many}
 use Rattle.jh_peek.specs.Modifiers.{has, ModifiersAfter, Modifiers, allowed_at}
 use Rattle.jh_peek.specs.Modifiers as modifier
-use Rattle.jh_peek.specs.Standing.{Is, kind_at, is_at, is_spec_close_at, is_quote_open_at, place_at}
-use Rattle.jh_peek.proofs.Facts.{kinds-apart, within, kind-within, word-kind, name-other}
+use Rattle.jh_peek.specs.Standing.{is_name_at, Is, kind_at, is_at, is_spec_close_at, is_quote_open_at, place_at}
+use Rattle.jh_peek.proofs.Facts.{kinds-apart, within, kind-within, word-kind, name-kind, name-other}
 use Rattle.jh_peek.proofs.Lists.{many-complete}
 use Rattle.jh_peek.proofs.Modified.{modifiers-complete, modifiers-end}
 use Rattle.jh_peek.proofs.Options.{Holds, nothing, found, choose_holds, of_found, then_is, choose_on, choose_off, behind_on}
 use Rattle.jh_peek.proofs.Words.{text-kind, text-other, kind-no_text}
-use Rattle.jh_spec.specs.Parts.{ItemTree, Quoted, Label, MaybeSemicolon, Clause, ModifiesItem, ModifiesItems, Modifies, Contract, SpecType, Declared, Visibility, Defined, Labelled, Item, LoopItem, FromWords, From, Spoken, Target, Statement, Items, Loop, Statements, Contracted, Claimed, of_variables}
+use Rattle.jh_spec.specs.Parts.{ItemTree, Quoted, Label, MaybeSemicolon, Clause, ModifiesItem, ModifiesItems, Modifies, Contract, SpecType, Declared, Visibility, Defined, Labelled, Item, LoopItem, FromWords, From, Spoken, Target, Statement, Items, Loop, Statements, Contracted, Claimed, Part, PartTree, of_variables}
 use Rattle.jh_spec.specs.Parts as part
-use Rattle.jh_spec.specs.PartReading.{quoted_at, label_at, semicolon_at, clause_at, modifies_item_at, separated_at, words_after, ensured_at, promised_at, kind_of_at, declared_at, flags_at, variable_at, defined_at, definition_at, labelled_at, named_at, invariant_at, is_seen_invariant_at, item_at, loop_item_at, word_reader, spoken_at, target_at, ghost_at, said_at, statement_at, items_at, loop_at, statements_at, contracted_at, claimed_at}
+use Rattle.jh_spec.specs.PartReading.{quoted_at, label_at, semicolon_at, clause_at, modifies_item_at, separated_at, words_after, ensured_at, promised_at, kind_of_at, declared_at, flags_at, variable_at, defined_at, definition_at, labelled_at, named_at, invariant_at, is_seen_invariant_at, item_at, loop_item_at, word_reader, spoken_at, target_at, ghost_at, said_at, statement_at, items_at, loop_at, statements_at, contracted_at, claimed_at, begins_contract_at, begins_statement_at, part_at}
 use Rattle.jh_spec.proofs.Ends.{operand-end, postfix-end}
 use Rattle.jh_spec.proofs.Complete.{formula-complete, postfix-complete}
 use Rattle.jh_spec.proofs.Facts.{quote-rank}
@@ -281,3 +283,67 @@ module _ (ts : List Token) where
   pub claimed-complete : (i j : ℕ) (w : Word) → Claimed ts i w j → claimed_at ts i ≡ Some (w, j)
   unfolding claimed_at
   claimed-complete i j w p = then_is _ (behind_on ts i symbol.ClaimedBy p.0) (then_is _ p.1 (choose_on _ (subst (λ k. is_spec_close_at ts k ≡ true) p.2 p.3) (ap (λ k. Some (w, k)) (sym p.2))))
+
+  -- ---- whole parts
+  item-not : (u n i j m : ℕ) (x : ItemTree) → (symbol_number symbol.Public == u) ≡ false → (symbol_number symbol.Private == u) ≡ false → (symbol_number symbol.Static == u) ≡ false → (symbol_number symbol.Ghost == u) ≡ false → (symbol_number symbol.Specvar == u) ≡ false → (symbol_number symbol.Vardefs == u) ≡ false → (symbol_number symbol.Invariant == u) ≡ false → Item ts n i x j m → (kind_at ts i == u) ≡ false
+  item-not u n i j m x a b c d e f g (part.a_variable p s q r t) = modified_not u a b c d e p s
+  item-not u n i j m x a b c d e f g (part.a_definition v p t) = kinds-apart ts i _ u v f
+  item-not u n i j m x a b c d e f g (part.an_invariant part.unsaid s p t) = kinds-apart ts i _ u s g
+  item-not u n i j m x a b c d e f g (part.an_invariant (part.for_all v) s p t) = kinds-apart ts i _ u v a
+  item-not u n i j m x a b c d e f g (part.an_invariant (part.for_class v) s p t) = kinds-apart ts i _ u v b
+
+  items-not : (u : ℕ) {n i j m : ℕ} {xs : List ItemTree} → (79 == u) ≡ false → (symbol_number symbol.Public == u) ≡ false → (symbol_number symbol.Private == u) ≡ false → (symbol_number symbol.Static == u) ≡ false → (symbol_number symbol.Ghost == u) ≡ false → (symbol_number symbol.Specvar == u) ≡ false → (symbol_number symbol.Vardefs == u) ≡ false → (symbol_number symbol.Invariant == u) ≡ false
+      → Many (Item ts) n i xs j m → is_spec_close_at ts j ≡ true → (kind_at ts i == u) ≡ false
+  items-not u {i = i} z a b c d e f g list.none h = kinds-apart ts i 79 u h z
+  items-not u {n = n} {i = i} z a b c d e f g (list.more {j = k} {m = l} {x = x} p q) h = item-not u n i k l x a b c d e f g p
+
+  none_of : (a b : Bool) → a ≡ false → b ≡ false → (a || b) ≡ false
+  none_of a b e f = λ i. e i || f i
+
+  contract_begins : {n i j m : ℕ} {pre post : Option SpecPart} {ws : List Word} → Contract ts n i pre ws post j m → is_spec_close_at ts j ≡ true → is_spec_close_at ts i ≡ false → begins_contract_at ts i ≡ true
+  contract_begins {i = i} (part.contract_of (part.present s q) r t) c o = ap (λ b. b || (is_at ts i symbol.Modifies || is_at ts i symbol.Ensures)) s
+  contract_begins {i = i} (part.contract_of part.absent (part.modifies s q) t) c o = or_right _ _ (ap (λ b. b || is_at ts i symbol.Ensures) s)
+  contract_begins {i = i} (part.contract_of part.absent part.modifies_nothing (part.present s q)) c o = or_right _ _ (or_right _ _ s)
+  contract_begins (part.contract_of part.absent part.modifies_nothing part.absent) c o = absurd (false≢true (sym o ∙ c))
+
+  contract_not : (u : ℕ) {n i j m : ℕ} {pre post : Option SpecPart} {ws : List Word} → (79 == u) ≡ false → (symbol_number symbol.Requires == u) ≡ false → (symbol_number symbol.Modifies == u) ≡ false → (symbol_number symbol.Ensures == u) ≡ false → Contract ts n i pre ws post j m → is_spec_close_at ts j ≡ true → (kind_at ts i == u) ≡ false
+  contract_not u {j = j} z a b c (part.contract_of p q r) h = clause-not u a p (modifies-not u b q (clause-not u c r (kinds-apart ts j 79 u h z)))
+
+  target_begins : {n i j : ℕ} {v : SpecPart} → Target ts n i v j → (is_name_at ts i || is_quote_open_at ts i) ≡ true
+  target_begins {i = i} (part.a_name {w = w} e) = ap (λ b. b || is_quote_open_at ts i) (name-kind ts i w e)
+  target_begins (part.a_read o p c) = or_right _ _ o
+
+  statement_begins : (n i j m : ℕ) (x : StmtTree) → Statement ts n i x j m → begins_statement_at ts i ≡ true
+  statement_begins n i j m x (part.an_assert s p d) = ap (λ b. (b || is_at ts i symbol.Note) || (is_name_at ts i || is_quote_open_at ts i)) s
+  statement_begins n i j m x (part.a_note s p d) = ap (λ b. b || (is_name_at ts i || is_quote_open_at ts i)) (or_right (is_at ts i symbol.Assert) _ s)
+  statement_begins n i j m x (part.a_ghost p s r d) = or_right _ _ (target_begins p)
+
+  statement_not : (u n i j m : ℕ) (x : StmtTree) → (75 == u) ≡ false → (76 == u) ≡ false → (80 == u) ≡ false → (symbol_number symbol.Assert == u) ≡ false → (symbol_number symbol.Note == u) ≡ false → Statement ts n i x j m → (kind_at ts i == u) ≡ false
+  statement_not u n i j m x a b c d e (part.an_assert s p t) = kinds-apart ts i _ u s d
+  statement_not u n i j m x a b c d e (part.a_note s p t) = kinds-apart ts i _ u s e
+  statement_not u n i j m x a b c d e (part.a_ghost p s r t) = target-not u a b c p
+
+  pub part-complete : (i j : ℕ) (p : PartTree) → Part ts i p j → part_at ts i ≡ Some (p, j)
+  unfolding part_at
+  part-complete i j p (part.a_claim {w = w} q) = choose_on _ q.0 (then_is _ (claimed-complete i j w q) refl)
+  part-complete i j p (part.a_contract o q) = choose_off _ (contract_not _ refl refl refl refl q.0 q.1) (choose_on _ (contract_begins q.0 q.1 o) (then_is _ (contracted-complete q) refl))
+  part-complete i j p (part.some_invariants o (list.none, c)) = absurd (false≢true (sym o ∙ c))
+  part-complete i j p (part.some_invariants o (list.more (part.loop_item s l d) r, c)) = choose_off _ (kinds-apart ts i _ _ s refl) (choose_off _ (none_of _ _ (kinds-apart ts i _ _ s refl) (none_of _ _ (kinds-apart ts i _ _ s refl) (kinds-apart ts i _ _ s refl))) (choose_on _ s (then_is _ (loop-complete (list.more (part.loop_item s l d) r, c)) refl)))
+  part-complete i j p (part.some_statements o (list.none, c)) = absurd (false≢true (sym o ∙ c))
+  part-complete i j p (part.some_statements o (list.more {j = k} {m = l} {x = x} q r, c)) = let no : (u : ℕ) → (75 == u) ≡ false → (76 == u) ≡ false → (80 == u) ≡ false → (symbol_number symbol.Assert == u) ≡ false → (symbol_number symbol.Note == u) ≡ false → (kind_at ts i == u) ≡ false = λ u a b c d e. statement_not u 0 i k l x a b c d e q in
+      choose_off _ (no _ refl refl refl refl refl) (choose_off _ (none_of _ _ (no _ refl refl refl refl refl) (none_of _ _ (no _ refl refl refl refl refl) (no _ refl refl refl refl refl))) (choose_off _ (no _ refl refl refl refl refl)
+      (choose_on _ (statement_begins 0 i k l x q) (then_is _ (statements-complete (list.more q r, c)) refl))))
+  part-complete i j p (part.some_items q) = choose_off _ (items-not _ refl refl refl refl refl refl refl refl q.0 q.1) (choose_off _ (none_of _ _ (items-not _ refl refl refl refl refl refl refl refl q.0 q.1) (none_of _ _ (items-not _ refl refl refl refl refl refl refl refl q.0 q.1) (items-not _ refl refl refl refl refl refl refl refl q.0 q.1)))
+      (choose_off _ (items-not _ refl refl refl refl refl refl refl refl q.0 q.1) (choose_off _ (none_of _ _ (none_of _ _ (items-not _ refl refl refl refl refl refl refl refl q.0 q.1) (items-not _ refl refl refl refl refl refl refl refl q.0 q.1)) (none_of _ _ (none_of _ _ (items-not 75 refl refl refl refl refl refl refl refl q.0 q.1) (items-not 76 refl refl refl refl refl refl refl refl q.0 q.1)) (items-not 80 refl refl refl refl refl refl refl refl q.0 q.1)))
+      (then_is _ (items-complete q) refl))))
+
+-- at most one part begins at a place
+pub at_most_one : (ts : List Token) (i j k : ℕ) (p q : PartTree) → Part ts i p j → Part ts i q k → (p ≡ q) × (j ≡ k)
+at_most_one ts i j k p q a b = let same : Some (p, j) ≡ Some (q, k) = sym (part-complete ts i j p a) ∙ part-complete ts i k q b in (ap first same, ap place same) where
+  first : Option (PartTree × ℕ) → PartTree
+  first None = p
+  first (Some x) = x.0
+
+  place : Option (PartTree × ℕ) → ℕ
+  place None = j
+  place (Some x) = x.1

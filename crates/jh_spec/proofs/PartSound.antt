@@ -1,20 +1,22 @@
 -- What is read of a specification stands there.
 use Rattle.std.proofs.Common.{◌≡◌, ℕ, zero, suc, ◌+◌, Bool, true, false, List, [], ◌∷◌, length, refl, sym, subst, ◌∙◌}
 use Rattle.std.proofs.lemmas.Bool.{and_parts}
-use Rattle.std.specs.Prelude.{Option, Some, ◌||◌, codes}
+use Rattle.std.specs.Prelude.{Option, Some, ◌==◌, ◌||◌, codes}
 use Rattle.jh_lex.specs.declared.symbol.Symbol.{Symbol}
 use Rattle.jh_lex.specs.declared.symbol.Symbol.TheVariants as symbol
 use Rattle.jh_lex.specs.declared.token.Token.{Token}
 use Rattle.jh_ast.specs.declared.word.Word.{Word}
+use Rattle.jh_ast.specs.Forms.{SpecPart}
 use Rattle.jh_peek.specs.Choices.{choose}
 use Rattle.jh_peek.specs.Modifiers.{Modifiers, has}
-use Rattle.jh_peek.specs.Standing.{Is, is_at, is_word_at, is_spec_close_at, is_quote_open_at, is_plain_word_at, word_at}
+use Rattle.jh_peek.specs.Standing.{Is, kind_at, is_qualified_at, is_at, is_word_at, is_spec_close_at, is_quote_open_at, is_plain_word_at, word_at}
+use Rattle.jh_peek.proofs.Facts.{kinds-apart}
 use Rattle.jh_peek.proofs.Lists.{many-sound}
 use Rattle.jh_peek.proofs.Modified.{modifiers-sound}
 use Rattle.jh_peek.proofs.Options.{Holds, nothing, found, then_holds, then_found, choose_holds, behind_holds}
-use Rattle.jh_spec.specs.Parts.{ItemTree, Quoted, Label, MaybeSemicolon, Clause, ModifiesItem, ModifiesItems, Modifies, Contract, SpecType, Declared, Visibility, Defined, Labelled, Item, LoopItem, FromWords, From, Spoken, Target, Statement, Items, Loop, Statements, Contracted, Claimed, of_variables}
+use Rattle.jh_spec.specs.Parts.{ItemTree, Quoted, Label, MaybeSemicolon, Clause, ModifiesItem, ModifiesItems, Modifies, Contract, SpecType, Declared, Visibility, Defined, Labelled, Item, LoopItem, FromWords, From, Spoken, Target, Statement, Items, Loop, Statements, Contracted, Claimed, Part, of_variables}
 use Rattle.jh_spec.specs.Parts as part
-use Rattle.jh_spec.specs.PartReading.{quoted_at, label_at, semicolon_at, clause_at, modifies_item_at, separated_at, words_after, ensured_at, promised_at, kind_of_at, declared_at, flags_at, variable_at, defined_at, definition_at, labelled_at, named_at, invariant_at, item_at, loop_item_at, word_reader, spoken_at, target_at, ghost_at, said_at, statement_at, items_at, loop_at, statements_at, contracted_at, claimed_at}
+use Rattle.jh_spec.specs.PartReading.{quoted_at, label_at, semicolon_at, clause_at, modifies_item_at, separated_at, words_after, ensured_at, promised_at, kind_of_at, declared_at, flags_at, variable_at, defined_at, definition_at, labelled_at, named_at, invariant_at, item_at, loop_item_at, word_reader, spoken_at, target_at, ghost_at, said_at, statement_at, items_at, loop_at, statements_at, contracted_at, claimed_at, begins_contract_at, begins_statement_at, part_at}
 use Rattle.jh_spec.specs.Reading.{inside}
 use Rattle.jh_spec.proofs.Sound.{formula-sound, postfix-sound, inside-sound}
 
@@ -148,11 +150,48 @@ module _ (ts : List Token) where
   unfolding ensured_at
   ensured-sound n i = then_holds (clause-sound symbol.Ensures n i) (λ c p. choose_holds (λ e. found (p, e)) (λ _. nothing))
 
+  -- what stands after the first clause of a contract
+  record Promise (n i : ℕ) (ws : List Word) (post : Option SpecPart) (j m : ℕ) : Type 0 where
+    after : ℕ
+    modifies : Modifies ts i ws after
+    ensures : Clause ts symbol.Ensures n after post j m
+    closes : is_spec_close_at ts j ≡ true
+
+  promised-sound : (n i : ℕ) → Holds (λ r. Promise n i r.0.0 r.0.1 r.1 r.2) (promised_at ts n i)
+  unfolding promised_at
+  promised-sound n i = then_holds (modifies-sound i) (λ ws q. then_holds (ensured-sound n ws.1) (λ post r. found (record { after = ws.1; modifies = q; ensures = r.0; closes = r.1 })))
+
   pub contracted-sound : (n i : ℕ) → Holds (λ r. Contracted ts n i r.0.0 r.0.1 r.0.2 r.1 r.2) (contracted_at ts n i)
-  unfolding contracted_at promised_at
-  contracted-sound n i = then_holds (clause-sound symbol.Requires n i) (λ pre p. then_holds {Q = λ r. (b : ℕ) × Modifies ts pre.1 r.0.0 b × Clause ts symbol.Ensures pre.2 b r.0.1 r.1 r.2 × (is_spec_close_at ts r.1 ≡ true)}
-      (then_holds (modifies-sound pre.1) (λ ws q. then_holds (ensured-sound pre.2 ws.1) (λ post r. found (ws.1, q, r.0, r.1)))) (λ r q. found (part.contract_of p q.1 q.2, q.3)))
+  unfolding contracted_at
+  contracted-sound n i = then_holds (clause-sound symbol.Requires n i) (λ pre p. then_holds (promised-sound pre.2 pre.1) (λ r q. found (part.contract_of p q.modifies q.ensures, q.closes)))
 
   pub claimed-sound : (i : ℕ) → Holds (λ r. Claimed ts i r.0 r.1) (claimed_at ts i)
   unfolding claimed_at
   claimed-sound i = behind_holds ts i symbol.ClaimedBy _ _ (λ s. then_found (λ w e. choose_holds (λ c. found (s, e, refl, c)) (λ _. nothing)))
+
+  closes_or : (i : ℕ) (m : ℕ) → (kind_at ts i == m) ≡ true → (m == 79) ≡ false → is_spec_close_at ts i ≡ false
+  closes_or i m e d = kinds-apart ts i m 79 e d
+
+  contract_open : (i : ℕ) → begins_contract_at ts i ≡ true → is_spec_close_at ts i ≡ false
+  contract_open i e = by_first (is_at ts i symbol.Requires) (is_at ts i symbol.Modifies) refl refl e where
+    by_first : (a b : Bool) → is_at ts i symbol.Requires ≡ a → is_at ts i symbol.Modifies ≡ b → (a || (b || is_at ts i symbol.Ensures)) ≡ true → is_spec_close_at ts i ≡ false
+    by_first true b p q h = closes_or i _ p refl
+    by_first false true p q h = closes_or i _ q refl
+    by_first false false p q h = closes_or i _ h refl
+
+  statement_open : (i : ℕ) → begins_statement_at ts i ≡ true → is_spec_close_at ts i ≡ false
+  statement_open i e = by_first (is_at ts i symbol.Assert) (is_at ts i symbol.Note) (is_plain_word_at ts i) (is_qualified_at ts i) refl refl refl refl e where
+    by_first : (a b c d : Bool) → is_at ts i symbol.Assert ≡ a → is_at ts i symbol.Note ≡ b → is_plain_word_at ts i ≡ c → is_qualified_at ts i ≡ d → ((a || b) || ((c || d) || is_quote_open_at ts i)) ≡ true → is_spec_close_at ts i ≡ false
+    by_first true b c d p q r t h = closes_or i _ p refl
+    by_first false true c d p q r t h = closes_or i _ q refl
+    by_first false false true d p q r t h = closes_or i 75 r refl
+    by_first false false false true p q r t h = closes_or i 76 t refl
+    by_first false false false false p q r t h = closes_or i 80 h refl
+
+  pub part-sound : (i : ℕ) → Holds (λ r. Part ts i r.0 r.1) (part_at ts i)
+  unfolding part_at
+  part-sound i = choose_holds (λ _. then_holds (claimed-sound i) (λ w p. found (part.a_claim p))) (λ _.
+      choose_holds (λ b. then_holds (contracted-sound 0 i) (λ c p. found (part.a_contract (contract_open i b) p))) (λ _.
+      choose_holds (λ b. then_holds (loop-sound 0 i) (λ r p. found (part.some_invariants (closes_or i _ b refl) p))) (λ _.
+      choose_holds (λ b. then_holds (statements-sound 0 i) (λ r p. found (part.some_statements (statement_open i b) p))) (λ _.
+      then_holds (items-sound 0 i) (λ r p. found (part.some_items p))))))

@@ -1,5 +1,7 @@
+pub mod Answered
 pub mod Operators
 pub mod Formulas
+pub mod Parsed
 pub mod Parts
 pub mod PartReading
 pub mod PartReads

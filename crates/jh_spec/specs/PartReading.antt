@@ -15,8 +15,8 @@ use Rattle.jh_ast.specs.Stmts as stmt
 use Rattle.jh_peek.specs.Choices.{◌>>=◌, choose}
 use Rattle.jh_peek.specs.Lists.{Found, many_at}
 use Rattle.jh_peek.specs.Modifiers.{modifiers_at, has}
-use Rattle.jh_peek.specs.Standing.{is_at, is_word_at, is_spec_close_at, is_quote_open_at, is_quote_close_at, is_plain_word_at, place_at, word_at, name_at, behind}
-use Rattle.jh_spec.specs.Parts.{ItemTree, variable, definition, invariant, numbered, of_variables}
+use Rattle.jh_peek.specs.Standing.{is_name_at, is_at, is_word_at, is_spec_close_at, is_quote_open_at, is_quote_close_at, is_plain_word_at, place_at, word_at, name_at, behind}
+use Rattle.jh_spec.specs.Parts.{ItemTree, variable, definition, invariant, PartTree, claimed, items, contract, loop, statements, numbered, of_variables}
 use Rattle.jh_spec.specs.Reading.{formula_at, postfix_of, inside}
 
 -- a formula in quotes and the place after it
@@ -153,3 +153,29 @@ statements_at ts n i = many_at (is_spec_close_at ts) (statement_at ts) (length t
 
 unfoldable pub claimed_at : List Token → ℕ → Option (Word × ℕ)
 claimed_at ts i = behind ts i symbol.ClaimedBy >>= λ a. word_at ts (i + 1) >>= λ w. choose (is_spec_close_at ts (i + 2)) (Some (w, i + 2)) None
+
+-- with which tokens a contract, and a statement, begin
+abbrev pub begins_contract_at : List Token → ℕ → Bool
+begins_contract_at ts i = is_at ts i symbol.Requires || (is_at ts i symbol.Modifies || is_at ts i symbol.Ensures)
+
+abbrev pub is_said_at : List Token → ℕ → Bool
+is_said_at ts i = is_at ts i symbol.Assert || is_at ts i symbol.Note
+
+abbrev pub begins_target_at : List Token → ℕ → Bool
+begins_target_at ts i = is_name_at ts i || is_quote_open_at ts i
+
+abbrev pub begins_statement_at : List Token → ℕ → Bool
+begins_statement_at ts i = is_said_at ts i || begins_target_at ts i
+
+-- a contract as a part
+abbrev pub contract_of_at : List Token → ℕ → Option (PartTree × ℕ)
+contract_of_at ts i = contracted_at ts 0 i >>= λ c. Some (contract c.0.0 c.0.1 c.0.2, c.1)
+
+-- the contents of a specification, up to the token that closes it
+unfoldable pub part_at : List Token → ℕ → Option (PartTree × ℕ)
+part_at ts i =
+    choose (is_at ts i symbol.ClaimedBy) (claimed_at ts i >>= λ w. Some (claimed w.0, w.1))
+    (choose (begins_contract_at ts i) (contract_of_at ts i)
+    (choose (is_at ts i symbol.Inv) (loop_at ts 0 i >>= λ r. Some (loop r.0, r.1))
+    (choose (begins_statement_at ts i) (statements_at ts 0 i >>= λ r. Some (statements r.0, r.1))
+    (items_at ts 0 i >>= λ r. Some (items r.0, r.1)))))

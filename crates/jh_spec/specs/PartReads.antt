@@ -18,7 +18,9 @@ use Rattle.jh_spec.specs.declared.part.SpecItem.TheVariants as item
 use Rattle.jh_spec.specs.declared.clauses.Listed.{Listed}
 use Rattle.jh_spec.specs.declared.clauses.Listed.TheVariants as listed
 use Rattle.jh_spec.specs.PartReading.{modifies_item_at, word_reader}
-use Rattle.jh_spec.specs.Parts.{ItemTree, variable, definition, invariant}
+use Rattle.jh_spec.specs.Parts.{ItemTree, variable, definition, invariant, PartTree, claimed, items, contract, loop, statements}
+use Rattle.jh_spec.specs.declared.part.SpecPart.{SpecPart as Whole}
+use Rattle.jh_spec.specs.declared.part.SpecPart.TheVariants as whole
 
 -- the item without memory
 abbrev pub item_tree : SpecItem → ItemTree
@@ -73,3 +75,14 @@ GivesContract wanted result = Gives (λ r. ((option_map spec_part r.0.0, r.0.1.i
 
 abbrev pub GivesPromise : Option (Found (List Word × Option SpecPart)) → Result ((Vec Word Global × Option Spec) × ℕ × ℕ) ReadError → Type 0
 GivesPromise wanted result = Gives (λ r. ((r.0.0.items, option_map spec_part r.0.1), r.1, r.2)) wanted result
+
+-- the part without memory
+abbrev pub part_tree : Whole → PartTree
+part_tree (whole.Claimed w) = claimed w
+part_tree (whole.Items xs) = items (map item_tree xs)
+part_tree (whole.Contract pre ws post) = contract (option_map spec_part pre) ws (option_map spec_part post)
+part_tree (whole.Loop xs) = loop (map labelled_part xs)
+part_tree (whole.Statements xs) = statements (map stmt_tree xs)
+
+abbrev pub GivesPart : Option (PartTree × ℕ) → Result (Whole × ℕ) ReadError → Type 0
+GivesPart wanted result = Gives (λ r. (part_tree r.0, r.1)) wanted result

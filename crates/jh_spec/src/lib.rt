@@ -1,6 +1,7 @@
 //! The parser of specifications.
 #![tactic(auto)]
 
+mod answering;
 mod clauses;
 mod error;
 mod formulas;
@@ -9,6 +10,7 @@ mod operators;
 mod part;
 mod parts;
 
+pub use answering::{at_most_one_formula, at_most_one_part, formula, spec};
 pub use error::ParseError;
 pub use lists::{Contract, claimed_part, contract_part, items_part, loop_part, statements_part};
 pub use part::{SpecItem, SpecPart};

@@ -5,6 +5,7 @@ pub mod Growing
 pub mod Keys
 pub mod Listed
 pub mod Lists
+pub mod Named
 pub mod NodeSteps
 pub mod PartSteps
 pub mod Places
@@ -13,3 +14,7 @@ pub mod ShapeEq
 pub mod ShapeSorts
 pub mod Tables
 pub mod Unique
+pub mod ShapePasses
+pub mod ShapeClosed
+pub mod Weaker
+pub mod Faces

@@ -1,5 +1,6 @@
 -- How a table grows.
-use Rattle.std.specs.Prelude.{◌≡◌, ℕ, List, Some, slice_get}
+use Rattle.std.specs.Prelude.{◌≡◌, ◌⊎◌, ℕ, List, Some, slice_get}
+use Rattle.jh_tree.specs.Tree.{ValueTree}
 use Rattle.jh_table.specs.Entries.{Listing}
 use Rattle.jh_table.specs.Nodes.{nodes}
 
@@ -17,3 +18,7 @@ pub record Extends (old new : Listing) : Type 0 where
 -- No two places of the list hold the same.
 abbrev pub AreDifferent : {X : Type 0} → List X → Type 0
 AreDifferent {X} xs = (i j : ℕ) (x : X) → slice_get xs i ≡ Some x → slice_get xs j ≡ Some x → i ≡ j
+
+-- Each node of the new table was a node of the old one, at the same place, or is of this kind.
+abbrev pub AddsOnly : (ValueTree → Type 0) → Listing → Listing → Type 0
+AddsOnly kind old new = (n : ℕ) (v : ValueTree) → slice_get (nodes new) n ≡ Some v → (slice_get (nodes old) n ≡ Some v) ⊎ kind v

@@ -1,4 +1,5 @@
 pub mod Entries
+pub mod Facing
 pub mod Growth
 pub mod Measures
 pub mod Nodes

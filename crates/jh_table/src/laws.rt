@@ -26,4 +26,11 @@ impl Table {
     {
         let _alloc = &self.alloc;
     }
+
+    /// A table can be moved to another thread, and be read by several: where it can't, this is refused.
+    pub fn crosses_threads(&self) {
+        may_cross(self);
+    }
 }
+
+fn may_cross<T: Send + Sync>(_value: &T) {}

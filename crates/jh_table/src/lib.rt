@@ -1,6 +1,7 @@
 //! A table of terms, fields and formulas in which each part stands once and is named by its number.
 #![tactic(auto)]
 
+mod facts;
 mod laws;
 mod listing;
 mod measures;
@@ -10,5 +11,7 @@ mod pools;
 mod shapes;
 mod sorts;
 
+pub use facts::Facts;
 pub use listing::Table;
+pub use measures::MOST_LEVELS;
 pub use shapes::{Own, Shape};

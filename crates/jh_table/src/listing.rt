@@ -1,11 +1,10 @@
 ghost use Rattle.std.specs.Prelude.{◌≡◌, IfOk, length, []};
 ghost use Rattle.jh_table.specs.Nodes.{nodes};
 
-use crate::Shape;
+use crate::{Facts, Shape};
 use indexmap::{IndexMap, IndexSet};
 use jh_name::{Name, NoMemory, Row};
 use jh_tree::Mark;
-use jh_walk::Extent;
 use std::alloc::Global;
 use std::marker::Model;
 
@@ -18,7 +17,7 @@ pub struct Table {
     pub(crate) names: IndexSet<Name>,
     pub(crate) marks: IndexSet<Mark>,
     pub(crate) lists: IndexSet<Row<usize>>,
-    pub(crate) nodes: IndexMap<Shape, Extent>,
+    pub(crate) nodes: IndexMap<Shape, Facts>,
 }
 
 impl Model for Table {

@@ -1,11 +1,18 @@
-ghost use Rattle.std.specs.Prelude.{◌≡◌, ◌<◌, ◌-◌, ◌^◌, true, min, length, slice_get};
+ghost use Rattle.std.specs.Prelude.{◌≡◌, ◌+◌, ◌<◌, ◌≤◌, is_some, ◌-◌, ◌^◌, ◌↔◌, IsTrue, true, false, not, Some, min, length, slice_get};
 ghost use Rattle.jh_walk.specs.Sizes.{value_size, value_depth};
-ghost use Rattle.jh_table.specs.Entries.{the_value};
-ghost use Rattle.jh_table.specs.Measures.{extent_of};
+ghost use Rattle.jh_table.specs.Entries.{the_name, the_value};
+ghost use Rattle.jh_table.specs.Measures.{AreFacts};
+ghost use Rattle.jh_table.specs.Facing.{IsLeast, own_turn, turn_below};
+ghost use Rattle.jh_tree.specs.Closed.{is_closed_value};
+ghost use Rattle.jh_tree.specs.Passing.{value_passes, name_equal};
+ghost use Rattle.jh_name.specs.declared.naming.Name.{Name};
 ghost use Rattle.jh_table.specs.Nodes.{nodes, fits_in, tree_in};
 
+use crate::facts::{Facts, NO_FACTS, above, has_bit, side};
 use crate::{Shape, Table};
-use jh_walk::{Extent, NOTHING, beside, over};
+
+/// The deepest nesting of a tree over which a walk goes: as deep as the stack carries.
+pub const MOST_LEVELS: u64 = 10_001;
 
 impl Table {
     /// The number of nodes of a node's tree, each counted where it stands, or the greatest u64 where that is
@@ -14,7 +21,7 @@ impl Table {
         requires { node < length (nodes self.now) }
         ensures { result ≡ min (value_size (the_value (slice_get (nodes self.now) node))) (2 ^ 64 - 1) }
     {
-        self.nodes[node].nodes
+        self.nodes[node].extent.nodes
     }
 
     /// How deep a node's tree nests, or the greatest u64 where that is passed. It takes no memory and looks at
@@ -23,17 +30,83 @@ impl Table {
         requires { node < length (nodes self.now) }
         ensures { result ≡ min (value_depth (the_value (slice_get (nodes self.now) node))) (2 ^ 64 - 1) }
     {
-        self.nodes[node].depth
+        self.nodes[node].extent.depth
     }
 
-    pub(crate) fn measured(&self, shape: Shape) -> Extent
-        requires { fits_in self.now shape ≡ true }
-        ensures { result ≡ extent_of (tree_in self.now shape) }
+    /// Whether a node's tree nests at most MOST_LEVELS deep. It takes no memory and looks at one node alone.
+    pub fn is_shallow(&self, node: usize) -> bool
+        requires { node < length (nodes self.now) }
+        ensures { IsTrue result ↔ (value_depth (the_value (slice_get (nodes self.now) node)) ≤ 10001) }
     {
-        let mut sum = NOTHING;
-        for index in 0..self.count(shape) {
-            sum = beside(sum, self.nodes[self.part(shape, index)]);
+        self.depth(node) <= MOST_LEVELS
+    }
+
+    /// The number of binders that a node needs around it: no bound variable of its tree is loose where
+    /// these stand around it, and one is where fewer do. It takes no memory and looks at one node alone.
+    pub fn loose(&self, node: usize) -> u64
+        requires { node < length (nodes self.now) }
+        ensures { IsLeast (λ d. is_closed_value (the_value (slice_get (nodes self.now) node)) d) result }
+    {
+        self.nodes[node].loose
+    }
+
+    /// Whether a node has no loose bound variable. It takes no memory and looks at one node alone.
+    pub fn is_closed(&self, node: usize) -> bool
+        requires { node < length (nodes self.now) }
+        ensures { result ≡ is_closed_value (the_value (slice_get (nodes self.now) node)) 0 }
+    {
+        self.loose(node) == 0
+    }
+
+    /// Whether a name of this number may stand free in a node's tree. Where the answer is no, it doesn't, at
+    /// any sort. It takes no memory and looks at one node alone.
+    pub fn may_hold(&self, node: usize, number: usize) -> bool
+        requires { node < length (nodes self.now) }
+        ensures { result ≡ false → (x : Name) → slice_get self.now.pools.names number ≡ Some x → value_passes (the_value (slice_get (nodes self.now) node)) (λ y s. not (name_equal y x)) ≡ true }
+    {
+        let _names = self.names.len();
+        has_bit(self.nodes[node].names, number)
+    }
+
+    /// The least turn that is greater than that of each free name of a node, and 0 where it has none: a name of
+    /// this turn stands nowhere in the node. It takes no memory and looks at one node alone.
+    pub fn next_turn(&self, node: usize) -> u64
+        requires { node < length (nodes self.now) }
+        ensures { IsLeast (λ n. value_passes (the_value (slice_get (nodes self.now) node)) (turn_below n)) result }
+    {
+        self.nodes[node].turn
+    }
+
+    #[tactic(auto, unfolding(crate::specs::Nodes::fits, crate::specs::Facing::own_turn))]
+    fn own_turn(&self, shape: Shape) -> u64
+        requires { fits_in self.now shape ≡ true }
+        ensures { result ≡ own_turn self.now.pools.names shape }
+    {
+        match shape {
+            Shape::FreeObject(name) => self.turn_after(name),
+            Shape::FreeNumber(name) => self.turn_after(name),
+            Shape::FreeTruth(name) => self.turn_after(name),
+            Shape::FreeSet(name) => self.turn_after(name),
+            Shape::FreeField(name) => self.turn_after(name),
+            _ => 0,
         }
-        over(sum)
+    }
+
+    fn turn_after(&self, name: usize) -> u64
+        requires { is_some (slice_get self.now.pools.names name) ≡ true }
+        ensures { result ≡ (the_name (slice_get self.now.pools.names name)).turn + 1 }
+    {
+        self.name_at(name).turn() as u64 + 1
+    }
+
+    pub(crate) fn measured(&self, shape: Shape) -> Facts
+        requires { fits_in self.now shape ≡ true }
+        ensures { AreFacts self.now.pools (tree_in self.now shape) result }
+    {
+        let mut sum = NO_FACTS;
+        for index in 0..self.count(shape) {
+            sum = side(sum, self.nodes[self.part(shape, index)]);
+        }
+        above(shape, sum, self.own_turn(shape))
     }
 }

@@ -1,5 +1,5 @@
-ghost use Rattle.std.specs.Prelude.{◌≡◌, ◌<◌, ℕ, true, IfOk, Some, length, slice_get};
-ghost use Rattle.jh_table.specs.Growth.{Extends};
+ghost use Rattle.std.specs.Prelude.{◌≡◌, ◌<◌, ◌≤◌, ◌+◌, ℕ, true, IfOk, Some, length, slice_get};
+ghost use Rattle.jh_table.specs.Growth.{Extends, AddsOnly};
 ghost use Rattle.jh_table.specs.Nodes.{nodes, fits_in, tree_in};
 ghost use Rattle.jh_table.specs.Parts.{ArePartsBelow};
 
@@ -8,13 +8,15 @@ use jh_name::NoMemory;
 
 impl Table {
     /// The node of this shape, which is made where it is new. Where the shape's tree is a node, the answer is that
-    /// node and the table stays as it is.
+    /// node and the table stays as it is. At most this one node is added, after any answer.
     pub fn make(&mut self, shape: Shape) -> Result<usize, NoMemory>
         requires { fits_in self.old shape ≡ true }
         ensures node { IfOk result (λ node. slice_get (nodes self.new) node ≡ Some (tree_in self.old shape)) }
         ensures grows { Extends self.old self.new }
         ensures pools { self.new.pools ≡ self.old.pools }
         ensures kept { (node : ℕ) → slice_get (nodes self.old) node ≡ Some (tree_in self.old shape) → (self.new ≡ self.old) × (result ≡ Ok node) }
+        ensures one { length (nodes self.new) ≤ length (nodes self.old) + 1 }
+        ensures only { AddsOnly (λ v. v ≡ tree_in self.old shape) self.old self.new }
     {
         self.nodes_differ();
         match self.nodes.get_index_of(&shape) {

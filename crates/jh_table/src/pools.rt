@@ -1,4 +1,6 @@
-ghost use Rattle.std.specs.Prelude.{◌≡◌, ◌<◌, IfOk, Some, length, slice_get};
+ghost use Rattle.std.specs.Prelude.{◌≡◌, ◌<◌, ℕ, true, not, IfOk, IfSome, Some, None, length, slice_get};
+ghost use Rattle.jh_tree.specs.Passing.{value_passes, name_equal};
+ghost use Rattle.jh_table.specs.Entries.{the_value};
 ghost use Rattle.jh_table.specs.Growth.{Extends};
 ghost use Rattle.jh_table.specs.Nodes.{nodes};
 
@@ -22,6 +24,15 @@ impl Table {
                 Ok(number)
             }
         }
+    }
+
+    /// The number of a name in the pool of names, or none where it has none: then it stands free in no node. It
+    /// takes no memory.
+    pub fn number_of(&self, name: &Name) -> Option<usize>
+        ensures number { IfSome result (λ number. slice_get self.now.pools.names number ≡ Some name.now) }
+        ensures nowhere { result ≡ None → (node : ℕ) → node < length (nodes self.now) → value_passes (the_value (slice_get (nodes self.now) node)) (λ y s. not (name_equal y name.now)) ≡ true }
+    {
+        self.names.get_index_of(name)
     }
 
     /// The number of a label in the pool of labels, to which it is added where it is new.

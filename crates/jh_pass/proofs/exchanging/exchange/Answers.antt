@@ -1,7 +1,8 @@
-use Rattle.std.proofs.Common.{◌≡◌, ◌∙◌, ap, refl, ℕ, List, [], Some, length, slice_get, arith}
+use Rattle.std.proofs.Common.{◌≡◌, ◌∙◌, ℕ, List, [], Some, slice_get}
 use Rattle.std.proofs.lemmas.Result.{IfOk-weaker}
 use Rattle.jh_tree.specs.Tree.{of_truth}
-use Rattle.jh_tree.specs.Meaning.{Interp, truth, datum}
+use Rattle.jh_tree.specs.Meaning.{Interp, InUniverse, truth, datum}
+use Rattle.jh_compare.specs.Inside.{SameIn, AreInside}
 use Rattle.jh_table.specs.Entries.{the_truth, the_value}
 use Rattle.jh_table.specs.Nodes.{nodes}
 use Rattle.jh_pass.specs.Exchanging.{exchanging}
@@ -35,6 +36,6 @@ returns-clause-meaning c =
     IfOk-weaker
     c.walked.result
     (λ made. slice_get (nodes c.walked.new.table) made ≡ Some (rewritten_value (the_value (slice_get (nodes c.args.table.now) c.args.formula)) (exchanging (the_value (slice_get (nodes c.args.table.now) c.args.old)) (the_value (slice_get (nodes c.args.table.now) c.args.new))) 0))
-    (λ made. (m : Interp) (e : List ℕ) → datum (the_value (slice_get (nodes c.args.table.now) c.args.old)) m [] ≡ datum (the_value (slice_get (nodes c.args.table.now) c.args.new)) m [] → truth (the_truth (slice_get (nodes c.walked.new.table) made)) m e ≡ truth (the_truth (slice_get (nodes c.args.table.now) c.args.formula)) m e)
+    (λ made. (m : Interp) (e : List ℕ) → InUniverse m → AreInside m.last e → SameIn m.last (datum (the_value (slice_get (nodes c.args.table.now) c.args.old)) m []) (datum (the_value (slice_get (nodes c.args.table.now) c.args.new)) m []) → truth (the_truth (slice_get (nodes c.walked.new.table) made)) m e ≡ truth (the_truth (slice_get (nodes c.args.table.now) c.args.formula)) m e)
     (λ made e. exchanged-means (the_value (slice_get (nodes c.args.table.now) c.args.old)) (the_value (slice_get (nodes c.args.table.now) c.args.new)) (slice_get (nodes c.args.table.now) c.args.formula) (slice_get (nodes c.walked.new.table) made) c.requires.formula c.requires.closed_old c.requires.closed_new e)
     c.walked.ensures.tree

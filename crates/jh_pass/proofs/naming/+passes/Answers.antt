@@ -30,7 +30,7 @@ shape_passes-loop-index-preserved g t c =
     let next : all_pass (g.T.NameTest.test c.args.test.now) (nodes c.args.table.now) (drop c.loop-index.index (parts c.args.table.now.pools.lists c.shape-shape.result)) ≡ (value_passes (the_value (slice_get (nodes c.args.table.now) c.part-part.result)) (g.T.NameTest.test c.args.test.now) && all_pass (g.T.NameTest.test c.args.test.now) (nodes c.args.table.now) (drop (c.loop-index.index + 1) (parts c.args.table.now.pools.lists c.shape-shape.result))) =
     all_pass-next (g.T.NameTest.test c.args.test.now) (nodes c.args.table.now) (parts c.args.table.now.pools.lists c.shape-shape.result) c.loop-index.index c.part-part.result c.part-part.ensures in
     record {
-      seen = c.passes.ensures.seen;
+      seen = c.passes-passes.ensures.seen;
       rest = c.loop-index.invariant.rest ∙ next ∙ ap (λ b. b && all_pass (g.T.NameTest.test c.args.test.now) (nodes c.args.table.now) (drop (c.loop-index.index + 1) (parts c.args.table.now.pools.lists c.shape-shape.result))) here;
     }
 

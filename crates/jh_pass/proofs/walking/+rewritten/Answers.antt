@@ -9,22 +9,22 @@ use Rattle.jh_pass.specs.Memos.{found}
 use Rattle.jh_pass.proofs.Rewritings.{all-grows, all-length, holds-grows, holds-notes, on-ok}
 use Rattle.jh_pass.proofs.Makings.{all-step, all-whole, still, remade-grown, made-rewritten, if-ok}
 use Rattle.jh_pass.proofs.PartRewritings.{Remade}
-use Rattle.jh_pass.proofs.Sorted.{whole-rewritten, whole-alone, below-grows}
+use Rattle.jh_pass.proofs.Sorted.{whole-alone, below-grows}
 use Rattle.jh_pass.proofs.walking.+rewritten.Goals as goal
 
 -- an answer that was known
-pub rewritten-returns-in-Some-clause-node : goal.rewritten-returns-in-Some-clause-node
-rewritten-returns-in-Some-clause-node g t c =
+pub rewritten_inner-returns-in-Some-clause-node : goal.rewritten_inner-returns-in-Some-clause-node
+rewritten_inner-returns-in-Some-clause-node g t c =
     c.requires.memo.at (record { node = c.args.node; depth = c.args.depth }) c.in-Some.answer (sym c.in-Some.ensures)
 
-pub rewritten-returns-in_ok-note-in-None-clause-memo :
-    goal.rewritten-returns-in_ok-note-in-None-clause-memo
-rewritten-returns-in_ok-note-in-None-clause-memo g t c =
+pub rewritten_inner-returns-in_ok-note-in-None-clause-memo :
+    goal.rewritten_inner-returns-in_ok-note-in-None-clause-memo
+rewritten_inner-returns-in_ok-note-in-None-clause-memo g t c =
     holds-notes
     (g.R.LeafRules.ready c.args.rules.now)
     (g.R.LeafRules.rewriting c.args.rules.now)
-    c.rewritten_shape.new.table
-    (found c.rewritten_shape.new.memo.answers)
+    c.rewritten_parts.new.table
+    (found c.rewritten_parts.new.memo.answers)
     (found c.note.new.self.answers)
     (record { node = c.args.node; depth = c.args.depth })
     c.in_ok-answer-in-None.answer
@@ -32,25 +32,20 @@ rewritten-returns-in_ok-note-in-None-clause-memo g t c =
     c.in_ok-answer-in-None.ensures.node
     c.in_ok-note-in-None.ensures.others
 
-pub rewritten_shape-returns-then-is_leaf-clause-memo :
-    goal.rewritten_shape-returns-then-is_leaf-clause-memo
-rewritten_shape-returns-then-is_leaf-clause-memo g t c =
+pub rewritten-returns-then-is_leaf-clause-memo :
+    goal.rewritten-returns-then-is_leaf-clause-memo
+rewritten-returns-then-is_leaf-clause-memo g t c =
     on-ok
     c.leaf.result
     (holds-grows (g.R.LeafRules.ready c.args.rules.now) (g.R.LeafRules.rewriting c.args.rules.now) c.args.table.now c.leaf.new.table (found c.args.memo.now.answers) (g.met.R.LeafRules.stays c.args.rules.now) c.leaf.ensures.grows c.requires.memo)
 
-pub rewritten_shape-returns-in-Some-clause-node :
-    goal.rewritten_shape-returns-in-Some-clause-node
-rewritten_shape-returns-in-Some-clause-node g t c =
-    whole-rewritten c.args.table.now c.whole.new.table (g.R.LeafRules.rewriting c.args.rules.now c.whole.new.table) c.args.node c.args.depth c.in-Some.whole c.shape-shape.result c.whole.ensures.grows (search rules) c.shape-shape.ensures.tree (search rules)
-
-pub rewritten_shape-returns-in-Some-clause-memo :
-    goal.rewritten_shape-returns-in-Some-clause-memo
-rewritten_shape-returns-in-Some-clause-memo g t c =
+pub rewritten-returns-in-Some-clause-memo :
+    goal.rewritten-returns-in-Some-clause-memo
+rewritten-returns-in-Some-clause-memo g t c =
     holds-grows (g.R.LeafRules.ready c.args.rules.now) (g.R.LeafRules.rewriting c.args.rules.now) c.args.table.now c.whole.new.table (found c.args.memo.now.answers) (g.met.R.LeafRules.stays c.args.rules.now) c.whole.ensures.grows c.requires.memo
 
-pub rewritten_shape-rewritten_parts-requires : goal.rewritten_shape-rewritten_parts-requires
-rewritten_shape-rewritten_parts-requires g t c κs within =
+pub rewritten-rewritten_inner-requires : goal.rewritten-rewritten_inner-requires
+rewritten-rewritten_inner-requires g t c κs within =
     let there : slice_get (nodes c.whole.new.table) c.args.node ≡ Some (tree_in c.whole.new.table c.shape-shape.result) =
     c.whole.ensures.grows.nodes.keeps c.args.node (tree_in c.args.table.now c.shape-shape.result) c.shape-shape.ensures.tree ∙ ap Some (sym (tree-grows c.args.table.now c.whole.new.table c.shape-shape.result c.whole.ensures.grows c.shape-shape.ensures.fits)) in
     let fits : fits_in c.whole.new.table c.shape-shape.result ≡ true = fits-grows c.args.table.now c.whole.new.table c.shape-shape.result c.whole.ensures.grows c.shape-shape.ensures.fits in

@@ -6,12 +6,12 @@ use Rattle.jh_pass.specs.Walks.{AllRewritten, Holds}
 use Rattle.jh_pass.specs.Memos.{found}
 use Rattle.jh_pass.proofs.walking.+rewritten.Given as goal
 
--- a shape is looked at after its node, then its parts, which have smaller numbers
+-- the memo is asked after the node's shape, then its parts, which have smaller numbers
 abbrev pub decreases-rewritten : goal.decreases-rewritten
 decreases-rewritten g l = 3 * l.node + 2
 
-abbrev pub decreases-rewritten_shape : goal.decreases-rewritten_shape
-decreases-rewritten_shape g l = 3 * l.node + 1
+abbrev pub decreases-rewritten_inner : goal.decreases-rewritten_inner
+decreases-rewritten_inner g l = 3 * l.node + 1
 
 abbrev pub decreases-rewritten_parts : goal.decreases-rewritten_parts
 decreases-rewritten_parts g l = 3 * l.node

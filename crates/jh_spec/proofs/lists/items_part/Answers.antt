@@ -1,4 +1,4 @@
-use Rattle.std.proofs.Common.{rules, ◌≡◌, ◌+◌, ◌-◌, ◌<◌, ◌≤◌, length, map, ℕ, ap, sym, ◌∙◌, arith}
+use Rattle.std.proofs.Common.{length, map, ℕ, ap, sym, ◌∙◌, arith}
 use Rattle.std.proofs.lemmas.Result.{err_from_is_err_and}
 use Rattle.jh_spec.specs.PartReads.{item_tree}
 use Rattle.jh_spec.specs.declared.part.SpecItem.{SpecItem}
@@ -34,7 +34,7 @@ pub returns-in_err-one-clause-value : goal.returns-in_err-one-clause-value
 returns-in_err-one-clause-value c =
     let p = err_from_is_err_and c.from_residual.result c.from_residual.ensures.1 in
     rw (p.1, p.2) (error-passes {X = SpecItem × ℕ × ℕ} {U = Vec SpecItem Global × ℕ × ℕ} (λ r. (item_tree r.0, r.1, r.2)) (λ r. (map item_tree r.0.items, r.1, r.2)) c.in_err-one.field-0.0 c.in_err-one.ensures.value (λ e.
-        many-none (is_spec_close_at c.args.tokens.now) (part.item_at c.args.tokens.now) item_tree c.each.turns c.each.after c.each.at c.each.made.items _ (sym c.is_spec_close.ensures.value ∙ c.each-test.true) e c.each.invariant.whole))
+    many-none (is_spec_close_at c.args.tokens.now) (part.item_at c.args.tokens.now) item_tree c.each.turns c.each.after c.each.at c.each.made.items _ (sym c.is_spec_close.ensures.value ∙ c.each-test.true) e c.each.invariant.whole))
 
 -- the list ends
 pub returns-clause-value : goal.returns-clause-value

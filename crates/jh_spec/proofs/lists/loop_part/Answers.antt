@@ -34,7 +34,7 @@ pub returns-in_err-one-clause-value : goal.returns-in_err-one-clause-value
 returns-in_err-one-clause-value c =
     let p = err_from_is_err_and c.from_residual.result c.from_residual.ensures.1 in
     rw (p.1, p.2) (error-passes {X = Labelled × ℕ × ℕ} {U = Vec Labelled Global × ℕ × ℕ} (λ r. (labelled_part r.0, r.1, r.2)) (λ r. (map labelled_part r.0.items, r.1, r.2)) c.in_err-one.field-0.0 c.in_err-one.ensures.value (λ e.
-        many-none (is_spec_close_at c.args.tokens.now) (part.loop_item_at c.args.tokens.now) labelled_part c.each.turns c.each.after c.each.at c.each.made.items _ (sym c.is_spec_close.ensures.value ∙ c.each-test.true) e c.each.invariant.whole))
+    many-none (is_spec_close_at c.args.tokens.now) (part.loop_item_at c.args.tokens.now) labelled_part c.each.turns c.each.after c.each.at c.each.made.items _ (sym c.is_spec_close.ensures.value ∙ c.each-test.true) e c.each.invariant.whole))
 
 -- the list ends
 pub returns-clause-value : goal.returns-clause-value

@@ -1,4 +1,4 @@
-use Rattle.std.proofs.Common.{◌≡◌, ◌≤◌, ℕ, length}
+use Rattle.std.proofs.Common.{◌≡◌, ◌≤◌, length}
 use Rattle.jh_ast.specs.Bare.{stmt_tree}
 use Rattle.jh_peek.specs.Standing.{is_spec_close_at}
 use Rattle.jh_peek.proofs.Lists.{with_rest}

@@ -5,7 +5,7 @@ use Rattle.jh_table.specs.Nodes.{tree_in}
 use Rattle.jh_table.specs.contracts.shapes.ShapePartialEq.TheImpl as shape
 use Rattle.jh_table.proofs.Keys.{position-found, position-none, stands-not}
 use Rattle.jh_table.proofs.ShapeEq.{shape_eq-true, shape_eq-same}
-use Rattle.jh_table.proofs.Tables.{seen, node-tree, none-found, made-table, made-extends, made-tree}
+use Rattle.jh_table.proofs.Tables.{seen, node-tree, none-found, made-table, made-extends, made-tree, made-only, made-one}
 use Rattle.jh_table.proofs.listing.Table.make.Goals as goal
 
 pub returns-in_err-node-in-None-clause-kept : goal.returns-in_err-node-in-None-clause-kept
@@ -28,3 +28,9 @@ returns-in_ok-node-in-None-clause-grows c = made-extends (record { names = c.sel
 
 pub returns-in_ok-node-in-None-clause-kept : goal.returns-in_ok-node-in-None-clause-kept
 returns-in_ok-node-in-None-clause-kept c = λ node h. absurd (stands-not shape.ghosts.eq shape_eq-true shape_eq-same (keys c.self.inside.nodes) node c.args.shape c.in-None.ensures.index (ap (λ t. slice_get t.shapes node) c.self.view_is ∙ c.nodes_differ.ensures.known node c.args.shape c.requires h))
+
+pub returns-in_ok-node-in-None-clause-only : goal.returns-in_ok-node-in-None-clause-only
+returns-in_ok-node-in-None-clause-only c = made-only (record { names = c.self.inside.names.keys; marks = c.self.inside.marks.keys; lists = c.self.inside.lists.keys }) c.self.inside.nodes.entries c.insert_full.new.self.entries c.args.self.now c.self.view_is c.self.invariant c.args.shape c.measured-extent.result (c.in_ok-node-in-None.ensures.entries ∙ insert_entry-new shape.ghosts.eq c.self.inside.nodes c.args.shape c.measured-extent.result (none-found (get shape.ghosts.eq c.self.inside.nodes c.args.shape) c.in-None.ensures.found)) c.requires
+
+pub returns-in_ok-node-in-None-clause-one : goal.returns-in_ok-node-in-None-clause-one
+returns-in_ok-node-in-None-clause-one c = made-one (record { names = c.self.inside.names.keys; marks = c.self.inside.marks.keys; lists = c.self.inside.lists.keys }) c.self.inside.nodes.entries c.insert_full.new.self.entries c.args.self.now c.self.view_is c.self.invariant c.args.shape c.measured-extent.result (c.in_ok-node-in-None.ensures.entries ∙ insert_entry-new shape.ghosts.eq c.self.inside.nodes c.args.shape c.measured-extent.result (none-found (get shape.ghosts.eq c.self.inside.nodes c.args.shape) c.in-None.ensures.found)) c.requires

@@ -1,0 +1,19 @@
+//! Proves the methods of a program with specifications, and reports each verdict.
+#![tactic(auto)]
+
+mod check;
+mod command;
+mod copying;
+mod grammar;
+mod lexing;
+mod prove;
+mod report;
+mod sequent;
+mod split;
+mod token;
+mod top;
+mod tree;
+mod words;
+mod wp;
+
+pub use top::jahob;

@@ -1,0 +1,5 @@
+mod Growths
+mod Meanings
+mod Notes
+pub mod Rebuilds
+pub mod Stands

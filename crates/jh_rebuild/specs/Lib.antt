@@ -1,0 +1,4 @@
+pub mod Built
+pub mod Memos
+pub mod Sound
+pub mod Walking

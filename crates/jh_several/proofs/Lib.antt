@@ -1,0 +1,7 @@
+mod Both
+mod Fixes
+mod Leaves
+mod Liftings
+mod Meanings
+mod Openings
+mod Rules

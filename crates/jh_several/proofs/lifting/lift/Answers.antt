@@ -1,0 +1,30 @@
+use Rattle.std.proofs.Common.{◌≡◌, ◌∙◌, ap, ℕ, List, Some, drop, slice_get, arith}
+use Rattle.std.proofs.lemmas.Result.{IfOk-weaker}
+use Rattle.jh_tree.specs.Meaning.{Interp, datum}
+use Rattle.jh_walk.specs.Mapped.{mapped_value}
+use Rattle.jh_table.specs.Entries.{the_value}
+use Rattle.jh_table.specs.Nodes.{nodes}
+use Rattle.jh_pass.specs.Rewritten.{leaves_alone, rewritten_value}
+use Rattle.jh_pass.specs.Walks.{KeepsMeaning}
+use Rattle.jh_pass.proofs.Wholes.{value-alone}
+use Rattle.jh_several.specs.Lifted.{lifting}
+use Rattle.jh_several.proofs.Liftings.{removed, lifting-keeps, lifting-wholes}
+use Rattle.jh_several.proofs.lifting.lift.Goals as goal
+
+pub returns-clause-tree : goal.returns-clause-tree
+returns-clause-tree c =
+    IfOk-weaker
+    c.walked.result
+    (λ made. slice_get (nodes c.walked.new.table) made ≡ Some (rewritten_value (the_value (slice_get (nodes c.args.table.now) c.args.node)) (leaves_alone (lifting c.args.by)) 0))
+    (λ made. slice_get (nodes c.walked.new.table) made ≡ Some (mapped_value (the_value (slice_get (nodes c.args.table.now) c.args.node)) (lifting c.args.by) 0))
+    (λ made e. e ∙ ap (λ v. Some v) (value-alone (lifting c.args.by) (the_value (slice_get (nodes c.args.table.now) c.args.node)) 0))
+    c.walked.ensures.tree
+
+pub returns-clause-meaning : goal.returns-clause-meaning
+returns-clause-meaning c =
+    IfOk-weaker
+    c.walked.result
+    (λ made. KeepsMeaning (leaves_alone (lifting c.args.by)) 0 (slice_get (nodes c.args.table.now) c.args.node) (slice_get (nodes c.walked.new.table) made))
+    (λ made. (m : Interp) (env : List ℕ) → datum (the_value (slice_get (nodes c.walked.new.table) made)) m env ≡ datum (the_value (slice_get (nodes c.args.table.now) c.args.node)) m (drop c.args.by env))
+    (λ made h m env. h m m (removed c.args.by) (lifting-keeps c.args.by m) (lifting-wholes c.args.by m) env (omega arith))
+    c.walked.ensures.meaning

@@ -1,0 +1,5 @@
+pub mod Lifted
+pub mod OpenedAll
+pub mod OpeningStays
+pub mod Pairs
+pub mod Several
