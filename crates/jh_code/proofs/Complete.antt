@@ -1,6 +1,5 @@
 -- What is spelled is read.
-use Rattle.std.proofs.Common.{◌≡◌, ℕ, zero, suc, ◌+◌, ◌<◌, ◌≤◌, true, false, List, length, refl, ap, sym, ◌∙◌, arith}
-use Rattle.std.proofs.lemmas.Option.{none-some}
+use Rattle.std.proofs.Common.{◌≡◌, ℕ, zero, suc, ◌+◌, ◌<◌, ◌≤◌, false, List, length, refl, ap, sym, ◌∙◌, arith}
 use Rattle.std.specs.Prelude.{Option, None, Some}
 use Rattle.std.specs.Option.{option_map_or}
 use Rattle.jh_lex.specs.declared.symbol.Symbol.TheVariants as symbol
@@ -12,13 +11,13 @@ use Rattle.jh_ast.specs.Stmts.{RhsTree, CallTree}
 use Rattle.jh_peek.specs.Choices.{given}
 use Rattle.jh_peek.specs.Standing.{Is, is_at, word_at, place_at}
 use Rattle.jh_peek.proofs.Options.{then_is, choose_on, choose_off, given_on, given_off, behind_on}
-use Rattle.jh_peek.proofs.Facts.{kinds-apart, other, within, word-kind, word-other, number-other}
+use Rattle.jh_peek.proofs.Facts.{other, within, word-kind, word-other, number-other}
 use Rattle.jh_code.specs.Operators.{rank_at}
 use Rattle.jh_code.specs.Expressions.{Dots, Level, Chain, Unary, Postfix, Primary, Listed, Arguments, Call, Target, Rhs, Expression, member_of, binary_of}
 use Rattle.jh_code.specs.Expressions as grammar
 use Rattle.jh_code.specs.Reading.{bracket_of, simple_at, primary_of, with_last, dots_at, reads_of, postfix_of, signed_of, unary_of, chain_with, level_of, chain_of, inside, expression_at, listed_at, arguments_at, reads_at, called_of, call_of, call_at, target_of, target_at, new_at, rhs_at}
 use Rattle.jh_code.proofs.Facts.{operator-between, operator-none, dot-none, opens-rank, closes-rank, comma-rank, semicolon-rank, constant-other, no_number}
-use Rattle.jh_code.proofs.Ends.{dots-end, level-end, chain-end, unary-end, postfix-end, primary-end, listed-end}
+use Rattle.jh_code.proofs.Ends.{dots-end, level-end, chain-end, unary-end, primary-end, listed-end}
 use Rattle.jh_code.proofs.Sound.{one_more_dot}
 use Rattle.jh_code.proofs.Starts.{no_start, no_primary, postfix-start, level-start, listed-start, call-start}
 

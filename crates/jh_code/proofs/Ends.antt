@@ -1,5 +1,5 @@
 -- What is spelled ends behind its beginning.
-use Rattle.std.proofs.Common.{ℕ, ◌+◌, ◌<◌, ◌≤◌, List, arith}
+use Rattle.std.proofs.Common.{ℕ, ◌<◌, ◌≤◌, List, arith}
 use Rattle.jh_lex.specs.declared.token.Token.{Token}
 use Rattle.jh_ast.specs.Exprs.{ExprTree}
 use Rattle.jh_ast.specs.Stmts.{RhsTree, CallTree}

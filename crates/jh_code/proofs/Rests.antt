@@ -1,5 +1,5 @@
 -- One turn of the loop that reads expressions with commas between them, and what is assigned, an equation for each variant.
-use Rattle.std.proofs.Common.{◌≡◌, ℕ, zero, suc, ◌+◌, ◌-◌, ◌<◌, true, false, List, [], ◌∷◌, ◌++◌, append_assoc, append-nil, map, refl, ap, sym, ◌∙◌, arith}
+use Rattle.std.proofs.Common.{◌≡◌, ℕ, zero, suc, ◌+◌, ◌-◌, ◌<◌, true, false, List, [], ◌∷◌, ◌++◌, append_assoc, map, refl, ap, sym, ◌∙◌, arith}
 use Rattle.std.specs.Prelude.{Option, None, Some, Err}
 use Rattle.jh_lex.specs.declared.symbol.Symbol.TheVariants as symbol
 use Rattle.jh_lex.specs.declared.token.Token.{Token}

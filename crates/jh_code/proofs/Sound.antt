@@ -1,5 +1,5 @@
 -- What is read is spelled.
-use Rattle.std.proofs.Common.{◌≡◌, ℕ, zero, suc, ◌+◌, true, false, List, length, refl, ap, subst, sym, ◌∙◌}
+use Rattle.std.proofs.Common.{◌≡◌, ℕ, zero, suc, ◌+◌, true, List, length, refl, subst, sym, ◌∙◌}
 use Rattle.std.proofs.lemmas.Bool.{false≢true}
 use Rattle.std.specs.Prelude.{Option, None, Some}
 use Rattle.jh_lex.specs.Numbers.{symbol_number}
@@ -8,7 +8,6 @@ use Rattle.jh_lex.specs.declared.token.Token.{Token}
 use Rattle.jh_ast.specs.declared.word.Word.{Word}
 use Rattle.jh_ast.specs.Exprs.{ExprTree}
 use Rattle.jh_ast.specs.Exprs as expr
-use Rattle.jh_ast.specs.Stmts.{RhsTree, CallTree}
 use Rattle.jh_peek.specs.Choices.{given}
 use Rattle.jh_peek.specs.Standing.{Is, is_plain_word_at, word_at, place_at}
 use Rattle.jh_peek.proofs.Facts.{kinds-apart, number-other, word-kind}

@@ -6,9 +6,9 @@ use Rattle.jh_lex.specs.Numbers.{symbol_number}
 use Rattle.jh_lex.specs.declared.symbol.Symbol.TheVariants as symbol
 use Rattle.jh_lex.specs.declared.token.Token.{Token}
 use Rattle.jh_ast.specs.Exprs.{ExprTree}
-use Rattle.jh_ast.specs.Stmts.{RhsTree, CallTree}
+use Rattle.jh_ast.specs.Stmts.{CallTree}
 use Rattle.jh_peek.specs.Standing.{Is, kind_at, is_at, is_plain_word_at}
-use Rattle.jh_peek.proofs.Facts.{kinds-apart, other, word-other, number-other}
+use Rattle.jh_peek.proofs.Facts.{kinds-apart, word-other, number-other}
 use Rattle.jh_code.specs.Expressions.{Dots, Level, Unary, Postfix, Primary, Listed, Call, Target, Rhs}
 use Rattle.jh_code.specs.Expressions as grammar
 use Rattle.jh_code.proofs.Facts.{constant-other}

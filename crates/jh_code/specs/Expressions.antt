@@ -1,6 +1,6 @@
 -- The grammar of expressions, calls and targets: which tokens, from one place up to another, are spelled out by which tree. The
 -- relations stand in the order of the table of productions in docs/LANGUAGE.md, the loosest first.
-use Rattle.std.specs.Prelude.{ℕ, ℤ, suc, ◌+◌, ◌≡◌, ◌==◌, Bool, true, false, List, [], ◌∷◌, Option, None, Some}
+use Rattle.std.specs.Prelude.{ℕ, ℤ, suc, ◌+◌, ◌≡◌, ◌==◌, Bool, true, false, List, [], ◌∷◌, None, Some}
 use Rattle.jh_lex.specs.declared.symbol.Symbol.TheVariants as symbol
 use Rattle.jh_lex.specs.declared.token.Token.{Token}
 use Rattle.jh_ast.specs.declared.word.Word.{Word}

@@ -1,6 +1,6 @@
 -- What is read of an expression, a call or a target at a place of a list of tokens, with the place after it: the grammar as a
 -- function, which the code follows. That it is the grammar is proved in proofs/Sound and proofs/Complete.
-use Rattle.std.specs.Prelude.{ℕ, zero, suc, ◌+◌, ◌==◌, Bool, List, [], ◌∷◌, length, Option, None, Some}
+use Rattle.std.specs.Prelude.{ℕ, zero, suc, ◌+◌, List, [], ◌∷◌, length, Option, None, Some}
 use Rattle.jh_lex.specs.declared.symbol.Symbol.TheVariants as symbol
 use Rattle.jh_lex.specs.declared.token.Token.{Token}
 use Rattle.jh_name.specs.declared.place.Place.{Place}
