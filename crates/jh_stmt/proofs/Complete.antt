@@ -1,9 +1,8 @@
 -- What is spelled is read.
 use Rattle.std.proofs.Common.{◌≡◌, ℕ, zero, suc, ◌+◌, ◌<◌, ◌≤◌, Bool, true, false, List, length, refl, ap, sym, ◌∙◌, arith}
-use Rattle.std.specs.Prelude.{Option, None, Some, ◌==◌, ◌&&◌, ◌||◌}
+use Rattle.std.specs.Prelude.{Option, Some, ◌==◌, ◌&&◌, ◌||◌}
 use Rattle.std.specs.Option.{option_map_or}
 use Rattle.jh_lex.specs.Numbers.{symbol_number}
-use Rattle.jh_lex.specs.declared.symbol.Symbol.{Symbol}
 use Rattle.jh_lex.specs.declared.symbol.Symbol.TheVariants as symbol
 use Rattle.jh_lex.specs.declared.token.Token.{Token}
 use Rattle.jh_ast.specs.declared.word.JType.{JType}
@@ -24,7 +23,7 @@ use Rattle.jh_spec.proofs.PartComplete.{loop-complete, statements-complete}
 use Rattle.jh_stmt.specs.Statements.{Typed, Initial, Condition, Invariants, Body, Several, Piece, Part, Statement}
 use Rattle.jh_stmt.specs.Statements as grammar
 use Rattle.jh_stmt.specs.Reading.{Inside, typed_at, initial_at, condition_at, invariants_at, declared_at, local_at, is_local_at, call_after, assign_after, simple_at, return_at, part_of, piece_of, several_of, body_of, block_of, else_of, if_of, while_of, statement_of, inside, body_at}
-use Rattle.jh_stmt.proofs.Ends.{condition-end, invariants-end, body-end, several-end, piece-end, part-end, statement-end}
+use Rattle.jh_stmt.proofs.Ends.{condition-end, invariants-end, several-end, piece-end, part-end, statement-end}
 use Rattle.jh_stmt.proofs.Starts.{NoStatement, typed-start, statement-start, call-word, target-word}
 
 local_by : (a b c d : Bool) → a ≡ false → b ≡ false → (c ≡ true → d ≡ false) → (a || (b || (c && d))) ≡ false

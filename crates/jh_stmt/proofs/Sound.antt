@@ -3,8 +3,6 @@ use Rattle.std.proofs.Common.{◌≡◌, ℕ, zero, suc, ◌+◌, List, length, 
 use Rattle.std.specs.Prelude.{Some}
 use Rattle.jh_lex.specs.declared.symbol.Symbol.TheVariants as symbol
 use Rattle.jh_lex.specs.declared.token.Token.{Token}
-use Rattle.jh_ast.specs.Exprs.{ExprTree}
-use Rattle.jh_ast.specs.Stmts.{StmtTree}
 use Rattle.jh_peek.specs.Standing.{Is, word_at}
 use Rattle.jh_peek.proofs.Options.{Holds, nothing, found, then_holds, then_found, choose_holds, behind_holds}
 use Rattle.jh_code.proofs.Sound.{holds_by, expression-sound, rhs-sound, reads_at-sound, call_of-sound, target_of-sound}

@@ -1,6 +1,5 @@
 -- With which tokens statements begin.
-use Rattle.std.proofs.Common.{◌≡◌, ℕ, ◌+◌, false, true, List, refl, ap, sym, ◌∙◌}
-use Rattle.std.proofs.lemmas.Bool.{false≢true}
+use Rattle.std.proofs.Common.{◌≡◌, ℕ, ◌+◌, false, true, List, refl}
 use Rattle.std.specs.Prelude.{◌==◌}
 use Rattle.jh_lex.specs.Numbers.{symbol_number}
 use Rattle.jh_lex.specs.declared.symbol.Symbol.TheVariants as symbol
@@ -8,7 +7,7 @@ use Rattle.jh_lex.specs.declared.token.Token.{Token}
 use Rattle.jh_ast.specs.declared.word.JType.{JType}
 use Rattle.jh_ast.specs.Exprs.{ExprTree}
 use Rattle.jh_ast.specs.Stmts.{StmtTree, CallTree}
-use Rattle.jh_peek.specs.Standing.{Is, kind_at, is_at, is_plain_word_at}
+use Rattle.jh_peek.specs.Standing.{Is, kind_at, is_plain_word_at}
 use Rattle.jh_peek.proofs.Facts.{kinds-apart, word-other}
 use Rattle.jh_code.specs.Expressions.{Arguments, Call, Target}
 use Rattle.jh_code.specs.Expressions as code
