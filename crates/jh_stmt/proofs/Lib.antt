@@ -1,0 +1,5 @@
+pub mod Ends
+pub mod Starts
+pub mod Sound
+pub mod Complete
+mod Rests

@@ -1,0 +1,226 @@
+//! Statements without statements inside, and what stands in them.
+ghost use Rattle.std.specs.Prelude.{◌≡◌, ◌+◌, ◌≤◌, ◌<◌, length, IfOk, IsTrue};
+ghost use Rattle.jh_peek.specs.Answers.{Gives, IsWithin};
+ghost use Rattle.jh_ast.specs.Bare.{expr_tree, stmt_body_tree, stmt_tree};
+ghost use Rattle.jh_code.specs.Reads.{GivesExpr};
+ghost use Rattle.jh_peek.specs.Standing.{place_at};
+ghost use Rattle.jh_spec.specs.PartReads.{GivesLoop};
+ghost use Rattle.jh_stmt.specs.Reading as read;
+ghost use Rattle.jh_stmt.specs.Reads.{GivesInitial, GivesStatement};
+
+use jh_ast::{Expr, JType, Labelled, Param, Rhs, Stmt, StmtBody, Word};
+use jh_code::{call_after, expression, reads, rhs, target_of};
+use jh_lex::{Symbol, Token};
+use jh_peek::{ReadError, behind, is_plain_word, is_spec_open, is_symbol, place, word};
+use jh_spec::loop_part;
+use std::alloc::Global;
+
+#[tactic(auto, using(jh_ast::proofs::StmtSteps::stmt_steps))]
+pub(crate) fn at_place(tokens: &[Token], at: usize, body: StmtBody) -> Stmt
+    ensures { stmt_tree result ≡ stmt_body_tree (place_at tokens.now at) body }
+{
+    Stmt {
+        place: place(tokens, at),
+        body,
+    }
+}
+
+/// The type at a place, and the place after it.
+#[tactic(auto, unfolding(crate::specs::Reading::typed_at, jh_peek::specs::Choices::and_then, jh_peek::specs::Choices::choose, jh_peek::specs::Choices::given))]
+pub fn typed(alloc: Global, tokens: &[Token], at: usize) -> Result<(JType, usize), ReadError>
+    requires { at ≤ length tokens.now }
+    ensures value { Gives (λ read. read) (read.typed_at tokens.now at) result }
+    ensures within { IfOk result (λ read. IsWithin (length tokens.now) at read.1) }
+{
+    if is_symbol(tokens, at, Symbol::Int) {
+        return Ok((JType::Int, at + 1));
+    }
+    if is_symbol(tokens, at, Symbol::Boolean) {
+        return Ok((JType::Boolean, at + 1));
+    }
+    let class = word(alloc, tokens, at)?;
+    Ok((JType::Class(class), at + 1))
+}
+
+/// What a local is given where it is declared.
+#[tactic(auto, unfolding(crate::specs::Reading::initial_at, jh_peek::specs::Choices::and_then, jh_peek::specs::Choices::choose, jh_peek::specs::Choices::given))]
+fn initial(alloc: Global, tokens: &[Token], at: usize) -> Result<(Option<Rhs>, usize), ReadError>
+    requires { at ≤ length tokens.now }
+    ensures value { GivesInitial (read.initial_at tokens.now at) result }
+    ensures within { IfOk result (λ read. (at ≤ read.1) × (read.1 ≤ length tokens.now)) }
+{
+    if !is_symbol(tokens, at, Symbol::Equal) {
+        return Ok((None, at));
+    }
+    let (value, next) = rhs(alloc, tokens, at + 1)?;
+    Ok((Some(value), next))
+}
+
+/// A condition in its brackets.
+#[tactic(auto, unfolding(crate::specs::Reading::condition_at, jh_peek::specs::Choices::and_then, jh_peek::specs::Choices::choose, jh_peek::specs::Choices::given))]
+pub(crate) fn condition(
+    alloc: Global,
+    tokens: &[Token],
+    at: usize,
+) -> Result<(Expr, usize), ReadError>
+    requires { at ≤ length tokens.now }
+    ensures value { GivesExpr (read.condition_at tokens.now at) result }
+    ensures within { IfOk result (λ read. IsWithin (length tokens.now) at read.1) }
+{
+    let next = behind(tokens, at, Symbol::LeftParenthesis)?;
+    let (condition, next) = expression(alloc, tokens, next)?;
+    let next = behind(tokens, next, Symbol::RightParenthesis)?;
+    Ok((condition, next))
+}
+
+/// The invariants of a loop, if any.
+#[tactic(auto, unfolding(crate::specs::Reading::invariants_at, jh_peek::specs::Choices::and_then, jh_peek::specs::Choices::choose, jh_peek::specs::Choices::given))]
+pub(crate) fn invariants(
+    alloc: Global,
+    tokens: &[Token],
+    number: u32,
+    at: usize,
+) -> Result<(Vec<Labelled>, usize, u32), ReadError>
+    requires { at ≤ length tokens.now }
+    ensures value { GivesLoop (read.invariants_at tokens.now number at) result }
+    ensures within { IfOk result (λ read. (at ≤ read.1) × (read.1 ≤ length tokens.now)) }
+{
+    if !is_spec_open(tokens, at) {
+        return Ok((Vec::new(alloc), at, number));
+    }
+    let (made, next, number) = loop_part(alloc, tokens, number, at + 1)?;
+    Ok((made, next + 1, number))
+}
+
+/// A type and the word of what it is declared of.
+#[tactic(auto, unfolding(crate::specs::Reading::declared_at, jh_peek::specs::Choices::and_then, jh_peek::specs::Choices::choose, jh_peek::specs::Choices::given))]
+pub fn declared(alloc: Global, tokens: &[Token], at: usize) -> Result<(Param, usize), ReadError>
+    requires { at ≤ length tokens.now }
+    ensures value { Gives (λ read. read) (read.declared_at tokens.now at) result }
+    ensures within { IfOk result (λ read. IsWithin (length tokens.now) at read.1) }
+{
+    let (jtype, next) = typed(alloc, tokens, at)?;
+    let name = word(alloc, tokens, next)?;
+    Ok((Param { name, jtype }, next + 1))
+}
+
+/// A local that is declared.
+#[tactic(auto, using(jh_ast::proofs::StmtSteps::stmt_steps), unfolding(crate::specs::Reading::local_at, jh_peek::specs::Choices::and_then, jh_peek::specs::Choices::choose, jh_peek::specs::Choices::given))]
+pub(crate) fn local(
+    alloc: Global,
+    tokens: &[Token],
+    number: u32,
+    at: usize,
+) -> Result<(Stmt, usize, u32), ReadError>
+    requires { at ≤ length tokens.now }
+    ensures value { GivesStatement (read.local_at tokens.now number at) result }
+    ensures within { IfOk result (λ read. IsWithin (length tokens.now) at read.1) }
+{
+    let (param, next) = declared(alloc, tokens, at)?;
+    let (value, next) = initial(alloc, tokens, next)?;
+    let next = behind(tokens, next, Symbol::Semicolon)?;
+    Ok((
+        at_place(tokens, at, StmtBody::Local(param, value)),
+        next,
+        number,
+    ))
+}
+
+/// Whether a local is declared at a place.
+pub(crate) fn is_local(tokens: &[Token], at: usize) -> bool
+    requires { at ≤ length tokens.now }
+    ensures { result ≡ read.is_local_at tokens.now at }
+{
+    is_symbol(tokens, at, Symbol::Int)
+        || is_symbol(tokens, at, Symbol::Boolean)
+        || (is_plain_word(tokens, at) && is_plain_word(tokens, at + 1))
+}
+
+/// A call whose beginning is read.
+#[tactic(auto, using(jh_ast::proofs::StmtSteps::stmt_steps), unfolding(crate::specs::Reading::call_after, jh_peek::specs::Choices::and_then, jh_peek::specs::Choices::choose, jh_peek::specs::Choices::given))]
+fn call_statement(
+    alloc: Global,
+    tokens: &[Token],
+    number: u32,
+    at: usize,
+    operand: Expr,
+    last: Option<Word>,
+    next: usize,
+) -> Result<(Stmt, usize, u32), ReadError>
+    requires { next ≤ length tokens.now }
+    ensures value { GivesStatement (read.call_after tokens.now number at (expr_tree operand) last next) result }
+    ensures within { IfOk result (λ read. IsWithin (length tokens.now) next read.1) }
+{
+    let (call, next) = call_after(alloc, tokens, at, operand, last, next)?;
+    let next = behind(tokens, next, Symbol::Semicolon)?;
+    Ok((at_place(tokens, at, StmtBody::Call(call)), next, number))
+}
+
+/// An assignment whose beginning is read.
+#[tactic(auto, using(jh_ast::proofs::StmtSteps::stmt_steps), unfolding(crate::specs::Reading::assign_after, jh_peek::specs::Choices::and_then, jh_peek::specs::Choices::choose, jh_peek::specs::Choices::given))]
+fn assignment(
+    alloc: Global,
+    tokens: &[Token],
+    number: u32,
+    at: usize,
+    operand: Expr,
+    last: Option<Word>,
+    next: usize,
+) -> Result<(Stmt, usize, u32), ReadError>
+    requires { next ≤ length tokens.now }
+    ensures value { GivesStatement (read.assign_after tokens.now number at (expr_tree operand) last next) result }
+    ensures within { IfOk result (λ read. IsWithin (length tokens.now) next read.1) }
+{
+    let target = target_of(alloc, tokens, at, operand, last)?;
+    let next = behind(tokens, next, Symbol::Equal)?;
+    let (value, next) = rhs(alloc, tokens, next)?;
+    let next = behind(tokens, next, Symbol::Semicolon)?;
+    Ok((
+        at_place(tokens, at, StmtBody::Assign(target, value)),
+        next,
+        number,
+    ))
+}
+
+/// A call or an assignment.
+#[tactic(auto, using(jh_ast::proofs::StmtSteps::stmt_steps), unfolding(crate::specs::Reading::simple_at, jh_peek::specs::Choices::and_then, jh_peek::specs::Choices::choose, jh_peek::specs::Choices::given))]
+pub(crate) fn simple(
+    alloc: Global,
+    tokens: &[Token],
+    number: u32,
+    at: usize,
+) -> Result<(Stmt, usize, u32), ReadError>
+    requires { at ≤ length tokens.now }
+    ensures value { GivesStatement (read.simple_at tokens.now number at) result }
+    ensures within { IfOk result (λ read. IsWithin (length tokens.now) at read.1) }
+{
+    let (operand, last, next) = reads(alloc, tokens, at)?;
+    if is_symbol(tokens, next, Symbol::LeftParenthesis) {
+        return call_statement(alloc, tokens, number, at, operand, last, next);
+    }
+    assignment(alloc, tokens, number, at, operand, last, next)
+}
+
+/// What is returned, after its word.
+#[tactic(auto, using(jh_ast::proofs::StmtSteps::stmt_steps), unfolding(crate::specs::Reading::return_at, jh_peek::specs::Choices::and_then, jh_peek::specs::Choices::choose, jh_peek::specs::Choices::given))]
+pub(crate) fn returned(
+    alloc: Global,
+    tokens: &[Token],
+    number: u32,
+    at: usize,
+) -> Result<(Stmt, usize, u32), ReadError>
+    requires { at < length tokens.now }
+    ensures value { GivesStatement (read.return_at tokens.now number at) result }
+    ensures within { IfOk result (λ read. IsWithin (length tokens.now) at read.1) }
+{
+    if is_symbol(tokens, at + 1, Symbol::Semicolon) {
+        return Ok((at_place(tokens, at, StmtBody::Return(None)), at + 2, number));
+    }
+    let (value, next) = expression(alloc, tokens, at + 1)?;
+    let next = behind(tokens, next, Symbol::Semicolon)?;
+    Ok((
+        at_place(tokens, at, StmtBody::Return(Some(value))),
+        next,
+        number,
+    ))
+}
