@@ -1,0 +1,4 @@
+pub mod Literals
+pub mod Members
+pub mod MemberReading
+pub mod Separated
