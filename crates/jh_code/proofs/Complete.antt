@@ -206,7 +206,8 @@ module _ (ts : List Token) where
   rhs-complete (grammar.of_call p) s = let c = called-expression p in choose_off _ (call-start ts _ (no_primary _ refl refl refl refl refl refl refl) p) (then_is _ c.3 (choose_on _ c.2 (then_is _ (call-complete p) refl)))
   rhs-complete {i = i} (grammar.of_new {w = w} n e o c) s = choose_on _ n (then_is _ e (then_is _ (behind_on ts (i + 2) symbol.LeftParenthesis o) (then_is _ (behind_on ts (i + 3) symbol.RightParenthesis c) refl)))
 
-some_one : {A : Type 0} {a b : A} → Some a ≡ Some b → a ≡ b
+-- what two readings of one place answer is the same
+pub some_one : {A : Type 0} {a b : A} → Some a ≡ Some b → a ≡ b
 some_one {A = A} {a = a} e = ap (λ (o : Option A). option_map_or (λ x. x) o a) e
 
 pair_is : {A : Type 0} {a b : A × ℕ} → a ≡ b → (a.0 ≡ b.0) × (a.1 ≡ b.1)

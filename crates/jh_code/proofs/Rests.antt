@@ -1,6 +1,6 @@
 -- One turn of the loop that reads expressions with commas between them, and what is assigned, an equation for each variant.
 use Rattle.std.proofs.Common.{◌≡◌, ℕ, zero, suc, ◌+◌, ◌-◌, ◌<◌, true, false, List, [], ◌∷◌, ◌++◌, append_assoc, map, refl, ap, sym, ◌∙◌, arith}
-use Rattle.std.specs.Prelude.{Option, None, Some, Err}
+use Rattle.std.specs.Prelude.{Option, None, Some}
 use Rattle.jh_lex.specs.declared.symbol.Symbol.TheVariants as symbol
 use Rattle.jh_lex.specs.declared.token.Token.{Token}
 use Rattle.jh_ast.specs.declared.expr.Expr.{Expr}
@@ -10,9 +10,6 @@ use Rattle.jh_ast.specs.declared.word.Word.{Word}
 use Rattle.jh_ast.specs.Bare.{expr_tree, call_tree, rhs_tree}
 use Rattle.jh_ast.specs.Exprs.{ExprTree}
 use Rattle.jh_ast.specs.Stmts as stmt
-use Rattle.jh_peek.specs.declared.error.ReadError.{ReadError}
-use Rattle.jh_peek.specs.declared.error.ReadError.TheVariants as error
-use Rattle.jh_peek.specs.Answers.{Gives}
 use Rattle.jh_peek.specs.Choices.{and_then, choose}
 use Rattle.jh_peek.specs.Standing.{is_at}
 use Rattle.jh_code.specs.Reading.{expression_at, listed_at}
@@ -64,11 +61,6 @@ listed-begin ts k i = same (listed_at ts k i) where
   same : (o : Option (List ExprTree × ℕ)) → and_then {B = List ExprTree × ℕ} o (λ r. Some (r.0, r.1)) ≡ o
   same None = refl
   same (Some r) = refl
-
--- an error that is passed on: nothing is read where nothing was read inside
-pub error-passes : {A B X Y : Type 0} (e : ReadError) (view : X → A) (other : Y → B) (w : Option A) (v : Option B) → Gives view w (Err e) → (w ≡ None → v ≡ None) → Gives other v (Err e)
-error-passes (error.Refused n) view other w v h go = go h
-error-passes error.Memory view other w v h go = tt
 
 pub tree-Value : (a : Expr) → rhs_tree (rhs.Value a) ≡ stmt.value (expr_tree a)
 unfolding rhs_tree

@@ -1,7 +1,6 @@
 -- What is spelled is read.
 use Rattle.std.proofs.Common.{◌≡◌, ℕ, zero, suc, ◌+◌, ◌<◌, ◌≤◌, Bool, true, false, List, length, refl, ap, sym, ◌∙◌, arith}
 use Rattle.std.specs.Prelude.{Option, Some, ◌==◌, ◌&&◌, ◌||◌}
-use Rattle.std.specs.Option.{option_map_or}
 use Rattle.jh_lex.specs.Numbers.{symbol_number}
 use Rattle.jh_lex.specs.declared.symbol.Symbol.TheVariants as symbol
 use Rattle.jh_lex.specs.declared.token.Token.{Token}
@@ -16,7 +15,7 @@ use Rattle.jh_peek.specs.Standing.{Is, kind_at, is_at, is_plain_word_at, place_a
 use Rattle.jh_peek.proofs.Options.{then_is, choose_on, choose_off, behind_on}
 use Rattle.jh_peek.proofs.Facts.{kinds-apart, other, within, word-kind, word-other}
 use Rattle.jh_code.specs.Expressions.{Call, Target, Rhs}
-use Rattle.jh_code.proofs.Complete.{expression-complete, rhs-complete, CallRead, call-read, TargetRead, target-read}
+use Rattle.jh_code.proofs.Complete.{some_one, expression-complete, rhs-complete, CallRead, call-read, TargetRead, target-read}
 use Rattle.jh_code.proofs.Facts.{closes-rank, semicolon-rank}
 use Rattle.jh_code.proofs.Starts.{NoPrimary, no_primary, no_start, level-start, call-start, target-start}
 use Rattle.jh_spec.proofs.PartComplete.{loop-complete, statements-complete}
@@ -150,9 +149,6 @@ module _ (ts : List Token) where
   pub body_at-complete : {n i j m : ℕ} {ss : StmtTrees} → Body ts n i ss j m → body_at ts n i ≡ Some (ss, j, m)
   unfolding body_at body_of
   body_at-complete {i = i} (grammar.body {j = j} o p c) = let h : j < length ts = within ts j symbol.RightBrace refl c in then_is _ (behind_on ts i symbol.LeftBrace o) (several-complete p c (length ts) (omega (arith, h)) (length ts) (omega (arith, h)))
-
-some_one : {A : Type 0} {a b : A} → Some a ≡ Some b → a ≡ b
-some_one {A = A} {a = a} e = ap (λ (o : Option A). option_map_or (λ x. x) o a) e
 
 -- at most one body begins at a place
 pub at_most_one : (ts : List Token) (n i j k m l : ℕ) (ss rs : StmtTrees) → Body ts n i ss j m → Body ts n i rs k l → (ss ≡ rs) × (j ≡ k) × (m ≡ l)

@@ -3,7 +3,6 @@ use Rattle.std.proofs.Common.{◌≡◌, ℕ, zero, suc, ◌+◌, ◌-◌, ◌<�
 use Rattle.std.proofs.lemmas.List.{map-append}
 use Rattle.std.proofs.lemmas.Option.{none-some}
 use Rattle.std.specs.Prelude.{Option, None, Some}
-use Rattle.std.specs.Option.{option_map_or}
 use Rattle.jh_lex.specs.declared.symbol.Symbol.TheVariants as symbol
 use Rattle.jh_lex.specs.declared.token.Token.{Token}
 use Rattle.jh_ast.specs.declared.stmt.Stmt.{Stmt}
@@ -20,6 +19,7 @@ use Rattle.jh_ast.specs.Stmts as stmt
 use Rattle.jh_peek.specs.Choices.{and_then, choose}
 use Rattle.jh_peek.specs.Lists.{Found}
 use Rattle.jh_peek.specs.Standing.{is_at, place_at}
+use Rattle.jh_code.proofs.Complete.{some_one}
 use Rattle.jh_stmt.specs.Reading.{Inside, inside, statement_of, several_of, piece_of, part_of, else_of}
 use Rattle.jh_stmt.specs.Reads.{after_these}
 use Rattle.jh_stmt.specs.Statements.{before}
@@ -52,9 +52,6 @@ pub ruleset reading_steps = (inside-in, inside-none, before-end, trees-append)
 -- what is made, with what is read from here on
 abbrev pub with_rest : List Token → Inside → List Stmt → ℕ → ℕ → ℕ → Option (Found StmtTrees)
 with_rest ts ins made k n i = and_then {B = Found StmtTrees} (several_of ts ins k n i) (λ r. Some (before (map stmt_tree made) r.0, r.1, r.2))
-
-some_one : {A : Type 0} {a b : A} → Some a ≡ Some b → a ≡ b
-some_one {A = A} {a = a} e = ap (λ (o : Option A). option_map_or (λ x. x) o a) e
 
 module _ (ts : List Token) (ins : Inside) where
   joined : (old new : List Stmt) (j m : ℕ) (p : Found (List StmtTree)) → ◌≡◌ {A = Found (List StmtTree)} (map stmt_tree old ++ p.0, p.1, p.2) (map stmt_tree new, j, m) → (k : ℕ)

@@ -2,7 +2,8 @@ use Rattle.std.proofs.Common.{length, arith, sym, ◌∙◌, ap, ℕ, map, Vec, 
 use Rattle.jh_ast.specs.declared.expr.Expr.{Expr}
 use Rattle.jh_ast.specs.Bare.{expr_tree}
 use Rattle.std.proofs.lemmas.Result.{err_from_is_err_and}
-use Rattle.jh_code.proofs.Rests.{with_rest, listed-next, listed-last, listed-none, listed-short, listed-begin, error-passes}
+use Rattle.jh_peek.proofs.Lists.{error-passes}
+use Rattle.jh_code.proofs.Rests.{with_rest, listed-next, listed-last, listed-none, listed-short, listed-begin}
 use Rattle.jh_code.proofs.calls.listed.Goals as goal
 
 pub more-init : goal.more-init
@@ -15,7 +16,7 @@ more-init c = record {
 pub returns-in_err-argument-clause-value : goal.returns-in_err-argument-clause-value
 returns-in_err-argument-clause-value c =
     let p = err_from_is_err_and c.from_residual.result c.from_residual.ensures.1 in
-    rw (p.1, p.2) (error-passes {X = Expr × ℕ} {Y = Vec Expr Global × ℕ} c.in_err-argument.field-0.0 (λ r. (expr_tree r.0, r.1)) (λ r. (map expr_tree r.0.items, r.1)) _ _ c.in_err-argument.ensures.value (λ e. listed-none c.args.tokens.now c.more.turns c.more.at c.more.made.items _ e c.more.invariant.whole))
+    rw (p.1, p.2) (error-passes {X = Expr × ℕ} {U = Vec Expr Global × ℕ} (λ r. (expr_tree r.0, r.1)) (λ r. (map expr_tree r.0.items, r.1)) c.in_err-argument.field-0.0 c.in_err-argument.ensures.value (λ e. listed-none c.args.tokens.now c.more.turns c.more.at c.more.made.items _ e c.more.invariant.whole))
 
 pub returns-then-not-is_symbol-clause-value : goal.returns-then-not-is_symbol-clause-value
 returns-then-not-is_symbol-clause-value c =
