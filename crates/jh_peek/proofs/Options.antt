@@ -46,12 +46,14 @@ pub last_holds : (ts : List Token) (i : ℕ) (s : Symbol) (Q : ℕ → Type 0) �
 unfolding behind
 last_holds ts i s Q go = choose_holds (λ e. found (go e)) (λ e. nothing)
 
+-- of two things that are there each is the other
+pub some_one : {A : Type 0} {a b : A} → Some a ≡ Some b → a ≡ b
+some_one {a = a} e = ap (λ o. option_map_or (λ x. x) o a) e
+
 -- what holds of what was found
 pub of_found : {A : Type 0} {P : A → Type 0} {o : Option A} → Holds P o → (x : A) → o ≡ Some x → P x
 of_found nothing x e = absurd (none-some x e)
-of_found {P = P} (found {x = y} p) x e = subst P (some_one e) p where
-  some_one : {B : Type 0} {a b : B} → Some a ≡ Some b → a ≡ b
-  some_one {a = a} e = ap (λ o. option_map_or (λ x. x) o a) e
+of_found {P = P} (found {x = y} p) x e = subst P (some_one e) p
 
 -- what is read step by step, and which of two is read
 pub then_is : {A B : Type 0} {o : Option A} {x : A} (f : A → Option B) {r : Option B} → o ≡ Some x → f x ≡ r → and_then o f ≡ r

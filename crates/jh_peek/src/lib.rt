@@ -9,7 +9,7 @@ mod standing;
 
 pub use building::{boxed, boxed_three, boxed_two};
 pub use error::ReadError;
-pub use modifying::{has, modifiers};
+pub use modifying::{allowed, has, modifiers};
 pub use standing::{
     behind, is_end, is_name, is_number, is_plain_word, is_quote_close, is_quote_open,
     is_spec_close, is_spec_open, is_symbol, is_word, name, number, place, word,

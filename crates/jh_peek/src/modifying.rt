@@ -17,7 +17,7 @@ pub fn has(symbols: &[Symbol], symbol: Symbol) -> bool
 
 /// The one of the allowed symbols that stands at a place.
 #[tactic(auto, unfolding(crate::specs::Modifiers::allowed_at, crate::specs::Choices::choose))]
-fn allowed(tokens: &[Token], symbols: &[Symbol], at: usize) -> Option<Symbol>
+pub fn allowed(tokens: &[Token], symbols: &[Symbol], at: usize) -> Option<Symbol>
     ensures value { result ≡ modifier.allowed_at tokens.now symbols.now at }
     ensures within { IfSome result (λ _. at < length tokens.now) }
 {

@@ -8,5 +8,5 @@ pub mod PartComplete
 mod Levels
 mod Turns
 mod Members
-mod Refusals
+pub mod Refusals
 mod Separated

@@ -96,7 +96,7 @@ fn part(alloc: Global, tokens: &[Token], at: usize) -> Result<(SpecPart, usize),
 }
 
 /// The place of a token, that of the first one where there are not so many.
-fn start_near(tokens: &[Token], at: usize) -> Place
+pub fn start_near(tokens: &[Token], at: usize) -> Place
     requires { 0 < length tokens.now }
     ensures { IsStart tokens.now result }
 {
