@@ -1,5 +1,8 @@
 pub mod Beginnings
 pub mod Commas
+pub mod Drafts
+pub mod Gathered
+pub mod Heads
 pub mod Literals
 pub mod MemberComplete
 pub mod MemberSound

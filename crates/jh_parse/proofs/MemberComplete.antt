@@ -1,8 +1,7 @@
 -- What is spelled as a program is read.
-use Rattle.std.proofs.Common.{◌≡◌, ℕ, zero, suc, ◌+◌, ◌<◌, ◌≤◌, Bool, true, false, List, [], ◌∷◌, length, refl, ap, sym, ◌∙◌, arith}
+use Rattle.std.proofs.Common.{◌≡◌, ℕ, zero, suc, ◌+◌, ◌<◌, ◌≤◌, Bool, true, false, List, [], ◌∷◌, length, refl, sym, ◌∙◌, arith}
 use Rattle.std.proofs.lemmas.Bool.{eqb-false, or_right}
 use Rattle.std.specs.Prelude.{Option, None, Some, ◌==◌, ◌||◌}
-use Rattle.std.specs.Option.{option_map_or}
 use Rattle.std.specs.List.{list_any}
 use Rattle.jh_lex.specs.declared.symbol.Symbol.{Symbol}
 use Rattle.jh_lex.specs.declared.symbol.Symbol.TheVariants as symbol
@@ -22,12 +21,13 @@ use Rattle.jh_peek.specs.Standing.{Is, is_at, is_end_at, is_spec_open_at, kind_a
 use Rattle.jh_peek.proofs.Facts.{kinds-apart, other, within, kind-within}
 use Rattle.jh_peek.proofs.Lists.{many-complete, many-forward}
 use Rattle.jh_peek.proofs.Modified.{modifiers-complete, modifiers-end}
-use Rattle.jh_peek.proofs.Options.{Holds, nothing, found, choose_holds, of_found, then_is, choose_on, choose_off, given_on, given_off, behind_on}
+use Rattle.jh_peek.proofs.Options.{Holds, nothing, found, choose_holds, of_found, then_is, choose_on, choose_off, given_on, given_off, behind_on, some_one}
 use Rattle.jh_spec.specs.Parts as part
 use Rattle.jh_spec.proofs.PartComplete.{items-complete, contracted-complete, claimed-complete}
 use Rattle.jh_parse.specs.Members.{of_members, of_classes, One, Fields, Result, Parameter, Parameters, Promised, Method, MemberTree, of_fields, of_method, of_items, Member, Heads, Class, Spells, class_of}
 use Rattle.jh_parse.specs.Members as member
-use Rattle.jh_parse.specs.MemberReading.{Head, init_at, one_at, fields_at, parameter_at, parameters_at, promised_at, method_at, methods_at, typed_at, modified_at, member_at, heads_at, members_at, class_at, program_at}
+use Rattle.jh_stmt.specs.Reading as stmts
+use Rattle.jh_parse.specs.MemberReading.{Head, init_at, one_at, fields_at, parameters_at, promised_at, signature_at, obligations_at, method_at, methods_at, typed_at, flags_at, modified_at, declares_at, member_at, head_at, heads_at, members_at, class_at, classes_at, program_at}
 use Rattle.jh_parse.specs.Separated.{Separated, last, further}
 use Rattle.jh_stmt.specs.Statements.{Typed, Body}
 use Rattle.jh_stmt.specs.Statements as grammar
@@ -69,8 +69,8 @@ module _ (ts : List Token) where
   parameter-end : {i j : ℕ} {x : Param} → Parameter ts i x j → i < j
   parameter-end (member.parameter p e) = omega (arith, typed-end ts p)
 
-  parameter-complete : {i j : ℕ} {x : Param} → Parameter ts i x j → parameter_at ts i ≡ Some (x, j)
-  unfolding parameter_at
+  parameter-complete : {i j : ℕ} {x : Param} → Parameter ts i x j → stmts.declared_at ts i ≡ Some (x, j)
+  unfolding stmts.declared_at
   parameter-complete (member.parameter p e) = then_is _ (typed-complete ts p) (then_is _ e refl)
 
   parameter-not : {i j : ℕ} {x : Param} → Parameter ts i x j → is_at ts i symbol.RightParenthesis ≡ false
@@ -84,12 +84,12 @@ module _ (ts : List Token) where
   unfolding parameters_at
   parameters-complete {i = i} (member.no_parameters o c) = then_is _ (behind_on ts i symbol.LeftParenthesis o) (choose_on _ c refl)
   parameters-complete {i = i} (member.some_parameters {j = j} o p c) = then_is _ (behind_on ts i symbol.LeftParenthesis o) (choose_off _ (separated_not p) (then_is _
-      (separated-complete ts (Parameter ts) (parameter_at ts) (λ k. Unit {0}) (λ a b x q. parameter-end q) (λ k e. tt) (λ a b x q f. parameter-complete q) (length ts) p tt (other ts j symbol.RightParenthesis symbol.Comma c refl) (omega (arith, within ts j symbol.RightParenthesis refl c)))
+      (separated-complete ts (Parameter ts) (stmts.declared_at ts) (λ k. Unit {0}) (λ a b x q. parameter-end q) (λ k e. tt) (λ a b x q f. parameter-complete q) (length ts) p tt (other ts j symbol.RightParenthesis symbol.Comma c refl) (omega (arith, within ts j symbol.RightParenthesis refl c)))
       (then_is _ (behind_on ts j symbol.RightParenthesis c) refl)))
 
   parameters-end : {i j : ℕ} {ps : List Param} → Parameters ts i ps j → i < j
   parameters-end (member.no_parameters o c) = omega arith
-  parameters-end (member.some_parameters o p c) = omega (arith, separated-end ts (Parameter ts) (parameter_at ts) (λ k. Unit {0}) (λ a b x q. parameter-end q) (λ k e. tt) (λ a b x q f. parameter-complete q) p)
+  parameters-end (member.some_parameters o p c) = omega (arith, separated-end ts (Parameter ts) (stmts.declared_at ts) (λ k. Unit {0}) (λ a b x q. parameter-end q) (λ k e. tt) (λ a b x q f. parameter-complete q) p)
 
   parameters-open : {i j : ℕ} {ps : List Param} → Parameters ts i ps j → Is ts i symbol.LeftParenthesis
   parameters-open (member.no_parameters o c) = o
@@ -135,17 +135,18 @@ module _ (ts : List Token) where
   modified-complete : (n i : ℕ) {a : ℕ} {ms : List Symbol} {r : Found MemberTree} → Modifiers ts of_members i ms a → of_result (kind_at ts a) ≡ true → a < length ts
       → choose (is_at ts a symbol.Void) (methods_at ts (record { is_public = has ms symbol.Public; fixed = has ms symbol.Static; jtype = jtype.Void }) n (a + 1)) (typed_at ts (has ms symbol.Public) (has ms symbol.Static) n a) ≡ Some r
       → member_at ts n i ≡ Some r
-  unfolding member_at modified_at
+  unfolding member_at modified_at flags_at
   modified-complete n i {a = a} {ms = ms} p h small e = choose_off _ (not_kind ts i 78 of_member (modified-start p (of_both (kind_at ts a) h)) refl)
-      (then_is _ (modifiers-complete ts of_members (suc (length ts)) i a ms p (none_allowed a h) (omega (arith, modifiers-end p, small))) e)
+      (then_is _ (then_is _ (modifiers-complete ts of_members (suc (length ts)) i a ms p (none_allowed a h) (omega (arith, modifiers-end p, small))) refl) e)
 
   body_opens : {n i j m : ℕ} {ss : StmtTrees} → Body ts n i ss j m → is_spec_open_at ts i ≡ false
   body_opens {i = i} (grammar.body o p c) = kinds-apart ts i _ 78 o refl
 
   methods-complete : (n b : ℕ) {c d j k m : ℕ} (h : Head) {w : Word} {ps : List Param} {pre post : Option SpecPart} {ws : List Word} {ss : StmtTrees} → word_at ts b ≡ Some w → Parameters ts (b + 1) ps c → Promised ts n c pre ws post d k → Body ts k d ss j m
       → methods_at ts h n b ≡ Some (of_method (record { name = w; is_public = h.is_public; fixed = h.fixed; result = h.jtype; params = ps; pre = pre; modifies = ws; post = post; body = ss; end = place_at ts j }), j + 1, m)
-  unfolding methods_at method_at
-  methods-complete n b h e p q s = then_is _ (then_is _ e (then_is _ (parameters-complete p) (then_is _ (promised-complete q (body_opens s)) (then_is _ (body_at-complete ts s) refl)))) refl
+  unfolding methods_at method_at signature_at obligations_at
+  methods-complete n b h e p q s = then_is _ (then_is _ (then_is _ e (then_is _ (parameters-complete p) refl))
+      (then_is _ (then_is _ (promised-complete q (body_opens s)) (then_is _ (body_at-complete ts s) refl)) refl)) refl
 
   separated_one-end : {t : JType} {fixed : Bool} {i j : ℕ} {fs : List FieldPart} → Separated ts (One ts t fixed) i fs j → i < j
   separated_one-end (last p) = one-end p
@@ -161,7 +162,7 @@ module _ (ts : List Token) where
   one-next (further {j = j} p c q) h = first_next p (other ts j symbol.Comma symbol.LeftParenthesis c refl)
 
   items_read : (n i : ℕ) {j m : ℕ} {xs : List part.ItemTree} → is_spec_open_at ts i ≡ true → part.Items ts n (i + 1) xs j m → member_at ts n i ≡ Some (of_items xs, j + 1, m)
-  unfolding member_at
+  unfolding member_at declares_at
   items_read n i o p = choose_on _ o (then_is _ (items-complete ts p) refl)
 
   member-complete : (n i j m : ℕ) (x : MemberTree) → Member ts n i x j m → member_at ts n i ≡ Some (x, j, m)
@@ -204,11 +205,11 @@ module _ (ts : List Token) where
   heads-end (member.a_claim o p q) = omega (arith, p.2, heads-end q)
 
   heads-complete : (k : ℕ) {seen : List Symbol} {i a : ℕ} → Heads ts seen i a → Is ts a symbol.Class → a < i + k → heads_at ts k seen i ≡ Some a
-  unfolding heads_at
+  unfolding heads_at head_at
   heads-complete zero p s h = absurd (omega (arith, h, heads-end p))
-  heads-complete (suc k) {a = a} member.no_head s h = given_off _ (no_head_there a s) (choose_off _ (kinds-apart ts a _ 78 s refl) refl)
-  heads-complete (suc k) (member.a_modifier e new p) s h = given_on _ _ e (choose_off _ new (heads-complete k p s (omega (arith, h))))
-  heads-complete (suc k) {i = i} (member.a_claim {j = j} {w = w} o p q) s h = given_off _ (not_allowed i o) (choose_on _ o (then_is _ (claimed-complete ts (i + 1) j w p) (heads-complete k q s (omega (arith, h, p.2)))))
+  heads-complete (suc k) {a = a} member.no_head s h = then_is _ (given_off _ (no_head_there a s) (choose_off _ (kinds-apart ts a _ 78 s refl) refl)) (given_off _ refl refl)
+  heads-complete (suc k) (member.a_modifier e new p) s h = then_is _ (given_on _ _ e (choose_off _ new refl)) (given_on _ _ refl (heads-complete k p s (omega (arith, h))))
+  heads-complete (suc k) {i = i} (member.a_claim {j = j} {w = w} o p q) s h = then_is _ (given_off _ (not_allowed i o) (choose_on _ o (then_is _ (claimed-complete ts (i + 1) j w p) refl))) (given_on _ _ refl (heads-complete k q s (omega (arith, h, p.2))))
 
   allowed_head : (i : ℕ) → Holds (λ s. is_end_at ts i ≡ false) (allowed_at ts of_classes i)
   unfolding allowed_at
@@ -229,12 +230,10 @@ module _ (ts : List Token) where
 
   -- what is spelled as a program is read
   pub program-complete : (p : ProgramTree) → Spells ts p → program_at ts ≡ Some p
-  unfolding program_at
+  unfolding program_at classes_at
   program-complete p (member.program {j = j} q e h) = then_is _ (many-complete (Class ts) (is_end_at ts) (class_at ts) (λ _. Unit {0}) class-begins (λ _ _. tt) (λ n i j m x r _. class-complete n i j m x r) (length ts) q e (omega (arith, kind-within ts j 82 refl e)))
       (choose_on _ (equal_on (length ts) (j + 1) h) refl)
 
 -- a list of tokens spells at most one program
 pub at_most_one_program : (ts : List Token) (p q : ProgramTree) → Spells ts p → Spells ts q → p ≡ q
-at_most_one_program ts p q a b = some_one (sym (program-complete ts p a) ∙ program-complete ts q b) where
-  some_one : {a b : ProgramTree} → Some a ≡ Some b → a ≡ b
-  some_one {a = a} e = ap (λ (o : Option ProgramTree). option_map_or (λ x. x) o a) e
+at_most_one_program ts p q a b = some_one (sym (program-complete ts p a) ∙ program-complete ts q b)

@@ -1,6 +1,13 @@
-//! The grammar of programs: which tokens spell which program, and that they spell at most one.
+//! The parser of programs: which tokens spell which program, and that they spell at most one.
 #![tactic(auto)]
 
+mod answering;
+mod classes;
+mod draft;
+mod fields;
 mod laws;
+mod members;
+mod methods;
 
+pub use answering::program;
 pub use laws::at_most_one_program;
