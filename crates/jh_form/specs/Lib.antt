@@ -20,7 +20,7 @@ pub use Rattle.jh_table.specs.Entries
 pub use Rattle.jh_table.specs.Facing
 pub use Rattle.jh_table.specs.Growth
 pub use Rattle.jh_table.specs.Nodes
-pub use Rattle.jh_door.specs.Entered
+pub use Rattle.jh_enter.specs.Entered
 pub use Rattle.jh_back.specs.Room
 pub use Rattle.jh_pass.specs.Rewritten
 pub use Rattle.jh_pass.specs.Exchanging

@@ -13,7 +13,7 @@ ghost use Rattle.jh_compare.specs.Inside.{SameIn, AreInside};
 ghost use Rattle.jh_table.specs.Entries.{Listing, is_object, is_truth, the_value, the_object, the_truth};
 ghost use Rattle.jh_table.specs.Growth.{Extends};
 ghost use Rattle.jh_table.specs.Nodes.{nodes};
-ghost use Rattle.jh_door.specs.Entered.{IsKept};
+ghost use Rattle.jh_enter.specs.Entered.{IsKept};
 ghost use Rattle.jh_back.specs.Room.{IsSmall};
 ghost use Rattle.jh_pass.specs.Rewritten.{rewritten_formula};
 ghost use Rattle.jh_pass.specs.Exchanging.{exchanging};
@@ -92,7 +92,7 @@ impl Formulas for Table {
     ghost listing = { λ t. t };
 
     fn enter(&mut self, value: &Value) -> Result<usize, NoMemory> {
-        jh_door::enter(self, value)
+        jh_enter::enter(self, value)
     }
 
     fn value(&self, node: usize) -> Result<Value, NoMemory> {

@@ -44,7 +44,7 @@ ghost use Rattle.jh_tree.specs.Tree.{of_object, of_number, of_truth, of_set, of_
 ghost use Rattle.jh_tree.specs.Bare.{term_tree, int_tree, set_tree, field_tree, value_tree, formula_tree, list_tree};
 ghost use Rattle.jh_table.specs.Growth.{Extends};
 ghost use Rattle.jh_table.specs.Nodes.{nodes};
-ghost use Rattle.jh_door.specs.Entered.{IsList, IsKept, AreKept};
+ghost use Rattle.jh_enter.specs.Entered.{IsList, IsKept, AreKept};
 
 use jh_name::NoMemory;
 use jh_table::{Shape, Table};
@@ -59,7 +59,7 @@ use jh_tree::{FieldTerm, Formula, IntTerm, SetTerm, Term, Value};
         out.append(f"""/// The node of {doc[c]}. Nodes that are new are made, those before stay. Where the tree is listed
 /// already, no node is made.
 #[cycle(entered)]
-#[tactic(auto, using(crate::proofs::DoorSteps::{STEPS[c]}))]
+#[tactic(auto, using(crate::proofs::EnterSteps::{STEPS[c]}))]
 pub fn enter_{WORD[c]}(table: &mut Table, {p}: &{rust}) -> Result<usize, NoMemory>
     ensures node {{ IfOk result (λ node. slice_get (nodes table.new) node ≡ Some {wanted}) }}
     ensures grows {{ Extends table.old table.new }}
@@ -69,7 +69,7 @@ pub fn enter_{WORD[c]}(table: &mut Table, {p}: &{rust}) -> Result<usize, NoMemor
     match {p} {{
 """ + ''.join(arm(c, v, ctor, kinds) for v, ctor, kinds in variants) + "    }\n}\n")
     out.append("""#[cycle(entered)]
-#[tactic(auto, using(crate::proofs::DoorSteps::list_steps))]
+#[tactic(auto, using(crate::proofs::EnterSteps::list_steps))]
 fn enter_fields(table: &mut Table, fields: &[FieldTerm]) -> Result<usize, NoMemory>
     ensures list { IfOk result (λ number. IsList table.new number (list_tree fields.now)) }
     ensures grows { Extends table.old table.new }
@@ -88,14 +88,14 @@ fn enter_fields(table: &mut Table, fields: &[FieldTerm]) -> Result<usize, NoMemo
 
 def guards():
     """The calls for others, which ask first how deep the tree nests."""
-    out = ["""// Written by tools/door.py.
+    out = ["""// Written by tools/enter.py.
 ghost use Rattle.std.specs.Prelude.{◌≡◌, ◌≤◌, IfOk, Some, slice_get};
 ghost use Rattle.jh_tree.specs.Tree.{of_object, of_number, of_truth, of_set, of_field};
 ghost use Rattle.jh_tree.specs.Bare.{term_tree, int_tree, set_tree, field_tree, value_tree, formula_tree};
 ghost use Rattle.jh_walk.specs.Sizes.{value_depth};
 ghost use Rattle.jh_table.specs.Growth.{Extends};
 ghost use Rattle.jh_table.specs.Nodes.{nodes};
-ghost use Rattle.jh_door.specs.Entered.{IsKept};
+ghost use Rattle.jh_enter.specs.Entered.{IsKept};
 
 use crate::entering;
 use jh_name::NoMemory;
@@ -111,7 +111,7 @@ use jh_walk::Walk;
         out.append(f"""/// The node of {doc[c]}. Nodes that are new are made, those before stay. Where the tree is listed
 /// already, no node is made. The answer is want of memory where the tree nests deeper than MOST_LEVELS, and
 /// nothing is entered then.
-""" + ("#[tactic(auto, using(crate::proofs::DoorSteps::value_steps))]\n" if c == 'V' else '') + f"""pub fn enter{'' if c == 'V' else '_' + WORD[c]}(table: &mut Table, {p}: &{rust}) -> Result<usize, NoMemory>
+""" + ("#[tactic(auto, using(crate::proofs::EnterSteps::value_steps))]\n" if c == 'V' else '') + f"""pub fn enter{'' if c == 'V' else '_' + WORD[c]}(table: &mut Table, {p}: &{rust}) -> Result<usize, NoMemory>
     ensures node {{ IfOk result (λ node. slice_get (nodes table.new) node ≡ Some {wanted}) }}
     ensures shallow {{ IfOk result (λ node. value_depth {wanted} ≤ 10001) }}
     ensures grows {{ Extends table.old table.new }}
@@ -145,7 +145,7 @@ def steps():
 use Rattle.jh_tree.proofs.Steps.{{{', '.join(uses)}}}
 use Rattle.jh_table.proofs.NodeSteps.{{{', '.join(shape_rules)}}}
 use Rattle.jh_table.proofs.Listed.{{node-stays, extends-trans}}
-use Rattle.jh_door.proofs.Fields.{{fits-listed-Reach, tree-listed-Reach, fits-listed-Tree, tree-listed-Tree}}
+use Rattle.jh_enter.proofs.Fields.{{fits-listed-Reach, tree-listed-Reach, fits-listed-Tree, tree-listed-Tree}}
 
 """ + '\n\n'.join(rules) + "\n\npub ruleset list_steps = (node-stays, extends-trans)\n"
 
@@ -162,9 +162,9 @@ use Rattle.jh_table.specs.declared.shapes.Shape.TheVariants as s
 use Rattle.jh_table.specs.Nodes.{nodes, tree_in}
 use Rattle.jh_table.proofs.Listed.{extends-refl, extends-trans, node-stays}
 use Rattle.jh_table.proofs.NodeSteps.{SHAPES}
-use Rattle.jh_door.proofs.Fields.{entering-start, entering-step, listed-as, made-as, fits-listed-Reach, tree-listed-Reach, tree-listed-Tree}
-use Rattle.jh_door.proofs.Keeping.{kept-self, kept-part, kept-fields, kept-pool, kept-made, kept-field}
-use Rattle.jh_door.proofs.entering.+entered.Goals as goal
+use Rattle.jh_enter.proofs.Fields.{entering-start, entering-step, listed-as, made-as, fits-listed-Reach, tree-listed-Reach, tree-listed-Tree}
+use Rattle.jh_enter.proofs.Keeping.{kept-self, kept-part, kept-fields, kept-pool, kept-made, kept-field}
+use Rattle.jh_enter.proofs.entering.+entered.Goals as goal
 
 pub enter_field-returns-in_ok-c-in-Update-clause-node :
     goal.enter_field-returns-in_ok-c-in-Update-clause-node
@@ -423,10 +423,10 @@ if __name__ == '__main__':
     root = sys.argv[1]
 
     def write(path, text):
-        path = f'{root}/crates/jh_door/{path}'
+        path = f'{root}/crates/jh_enter/{path}'
         os.makedirs(os.path.dirname(path), exist_ok=True)
         open(path, 'w').write(text)
     write('src/entering.rt', code())
     write('src/guarded.rt', guards())
-    write('proofs/DoorSteps.antt', steps())
+    write('proofs/EnterSteps.antt', steps())
     write('proofs/entering/+entered/Answers.antt', answers())

@@ -10,7 +10,7 @@ use Rattle.jh_walk.proofs.Rows.{rest_at}
 use Rattle.jh_table.specs.declared.shapes.Shape.{Shape}
 use Rattle.jh_table.specs.Entries.{Listing}
 use Rattle.jh_table.specs.Nodes.{nodes, tree_in}
-use Rattle.jh_door.specs.Entered.{IsKept, AreListed, AreKept}
+use Rattle.jh_enter.specs.Entered.{IsKept, AreListed, AreKept}
 
 -- each part of a node is a node before it
 abbrev pub PartsFirst : Listing → Type 0

@@ -1,11 +1,11 @@
-// Written by tools/door.py.
+// Written by tools/enter.py.
 ghost use Rattle.std.specs.Prelude.{◌≡◌, ◌≤◌, IfOk, Some, slice_get};
 ghost use Rattle.jh_tree.specs.Tree.{of_object, of_number, of_truth, of_set, of_field};
 ghost use Rattle.jh_tree.specs.Bare.{term_tree, int_tree, set_tree, field_tree, value_tree, formula_tree};
 ghost use Rattle.jh_walk.specs.Sizes.{value_depth};
 ghost use Rattle.jh_table.specs.Growth.{Extends};
 ghost use Rattle.jh_table.specs.Nodes.{nodes};
-ghost use Rattle.jh_door.specs.Entered.{IsKept};
+ghost use Rattle.jh_enter.specs.Entered.{IsKept};
 
 use crate::entering;
 use jh_name::NoMemory;
@@ -91,7 +91,7 @@ pub fn enter_formula(table: &mut Table, formula: &Formula) -> Result<usize, NoMe
 /// The node of a value of any sort. Nodes that are new are made, those before stay. Where the tree is listed
 /// already, no node is made. The answer is want of memory where the tree nests deeper than MOST_LEVELS, and
 /// nothing is entered then.
-#[tactic(auto, using(crate::proofs::DoorSteps::value_steps))]
+#[tactic(auto, using(crate::proofs::EnterSteps::value_steps))]
 pub fn enter(table: &mut Table, value: &Value) -> Result<usize, NoMemory>
     ensures node { IfOk result (λ node. slice_get (nodes table.new) node ≡ Some (value_tree value.now)) }
     ensures shallow { IfOk result (λ node. value_depth (value_tree value.now) ≤ 10001) }

@@ -9,9 +9,9 @@ use Rattle.jh_table.specs.declared.shapes.Shape.TheVariants as s
 use Rattle.jh_table.specs.Nodes.{nodes, tree_in}
 use Rattle.jh_table.proofs.Listed.{extends-refl, extends-trans, node-stays}
 use Rattle.jh_table.proofs.NodeSteps.{tree-ReadObject, tree-ReadNumber, tree-Add, tree-Sub, tree-Neg, tree-Scale, tree-Card, tree-ReadSet, tree-Single, tree-Union, tree-Inter, tree-Diff, tree-Compl, tree-Compr, tree-Update, tree-ReadTruth, tree-Negation, tree-And, tree-Or, tree-Implies, tree-Iff, tree-All, tree-Ex, tree-EqObject, tree-EqNumber, tree-EqSet, tree-Less, tree-LessEqual, tree-Divides, tree-Member, tree-Subset, tree-Mark}
-use Rattle.jh_door.proofs.Fields.{entering-start, entering-step, listed-as, made-as, fits-listed-Reach, tree-listed-Reach, tree-listed-Tree}
-use Rattle.jh_door.proofs.Keeping.{kept-self, kept-part, kept-fields, kept-pool, kept-made, kept-field}
-use Rattle.jh_door.proofs.entering.+entered.Goals as goal
+use Rattle.jh_enter.proofs.Fields.{entering-start, entering-step, listed-as, made-as, fits-listed-Reach, tree-listed-Reach, tree-listed-Tree}
+use Rattle.jh_enter.proofs.Keeping.{kept-self, kept-part, kept-fields, kept-pool, kept-made, kept-field}
+use Rattle.jh_enter.proofs.entering.+entered.Goals as goal
 
 pub enter_field-returns-in_ok-c-in-Update-clause-node :
     goal.enter_field-returns-in_ok-c-in-Update-clause-node

@@ -1,3 +1,3 @@
-pub mod DoorSteps
+pub mod EnterSteps
 pub mod Fields
 pub mod Keeping

@@ -14,7 +14,7 @@ use Rattle.jh_table.specs.Nodes.{nodes, fits_in, tree_in}
 use Rattle.jh_table.specs.Growth.{Extends}
 use Rattle.jh_table.proofs.NodeSteps.{fits-Reach, tree-Reach, fits-Tree, tree-Tree}
 use Rattle.jh_table.proofs.Growing.{fields-stay, are_fields-stay}
-use Rattle.jh_door.specs.Entered.{IsList}
+use Rattle.jh_enter.specs.Entered.{IsList}
 
 pub fits-listed-Reach : (table : Listing) (l a b : ℕ) (fs : FieldTrees) (u v : TermTree) → IsList table l fs → slice_get (nodes table) a ≡ Some (of_object u) → slice_get (nodes table) b ≡ Some (of_object v) → fits_in table (s.Reach l a b) ≡ true
 fits-listed-Reach table l a b fs u v h ha hb = fits-Reach table.pools (nodes table) l a b h.items fs u v h.listed h.fields h.trees ha hb

@@ -1,9 +1,9 @@
 use Rattle.std.proofs.Common.{drop}
 use Rattle.jh_tree.specs.Bare.{list_tree}
 use Rattle.jh_table.specs.Growth.{Extends}
-use Rattle.jh_door.specs.Entered.{AreKept}
-use Rattle.jh_door.proofs.Fields.{Entering}
-use Rattle.jh_door.proofs.entering.+entered.Given as goal
+use Rattle.jh_enter.specs.Entered.{AreKept}
+use Rattle.jh_enter.proofs.Fields.{Entering}
+use Rattle.jh_enter.proofs.entering.+entered.Given as goal
 
 abbrev pub invariant-enter_fields-loop-field : goal.invariant-enter_fields-loop-field
 invariant-enter_fields-loop-field l = record {

@@ -3,7 +3,7 @@ ghost use Rattle.jh_tree.specs.Tree.{of_object, of_number, of_truth, of_set, of_
 ghost use Rattle.jh_tree.specs.Bare.{term_tree, int_tree, set_tree, field_tree, value_tree, formula_tree, list_tree};
 ghost use Rattle.jh_table.specs.Growth.{Extends};
 ghost use Rattle.jh_table.specs.Nodes.{nodes};
-ghost use Rattle.jh_door.specs.Entered.{IsList, IsKept, AreKept};
+ghost use Rattle.jh_enter.specs.Entered.{IsList, IsKept, AreKept};
 
 use jh_name::NoMemory;
 use jh_table::{Shape, Table};
@@ -12,7 +12,7 @@ use jh_tree::{FieldTerm, Formula, IntTerm, SetTerm, Term, Value};
 /// The node of a term for an object. Nodes that are new are made, those before stay. Where the tree is listed
 /// already, no node is made.
 #[cycle(entered)]
-#[tactic(auto, using(crate::proofs::DoorSteps::object_steps))]
+#[tactic(auto, using(crate::proofs::EnterSteps::object_steps))]
 pub fn enter_term(table: &mut Table, term: &Term) -> Result<usize, NoMemory>
     ensures node { IfOk result (λ node. slice_get (nodes table.new) node ≡ Some (of_object (term_tree term.now))) }
     ensures grows { Extends table.old table.new }
@@ -37,7 +37,7 @@ pub fn enter_term(table: &mut Table, term: &Term) -> Result<usize, NoMemory>
 /// The node of a term for a number. Nodes that are new are made, those before stay. Where the tree is listed
 /// already, no node is made.
 #[cycle(entered)]
-#[tactic(auto, using(crate::proofs::DoorSteps::number_steps))]
+#[tactic(auto, using(crate::proofs::EnterSteps::number_steps))]
 pub fn enter_int(table: &mut Table, term: &IntTerm) -> Result<usize, NoMemory>
     ensures node { IfOk result (λ node. slice_get (nodes table.new) node ≡ Some (of_number (int_tree term.now))) }
     ensures grows { Extends table.old table.new }
@@ -83,7 +83,7 @@ pub fn enter_int(table: &mut Table, term: &IntTerm) -> Result<usize, NoMemory>
 /// The node of a term for a set. Nodes that are new are made, those before stay. Where the tree is listed
 /// already, no node is made.
 #[cycle(entered)]
-#[tactic(auto, using(crate::proofs::DoorSteps::set_steps))]
+#[tactic(auto, using(crate::proofs::EnterSteps::set_steps))]
 pub fn enter_set(table: &mut Table, term: &SetTerm) -> Result<usize, NoMemory>
     ensures node { IfOk result (λ node. slice_get (nodes table.new) node ≡ Some (of_set (set_tree term.now))) }
     ensures grows { Extends table.old table.new }
@@ -135,7 +135,7 @@ pub fn enter_set(table: &mut Table, term: &SetTerm) -> Result<usize, NoMemory>
 /// The node of a field. Nodes that are new are made, those before stay. Where the tree is listed
 /// already, no node is made.
 #[cycle(entered)]
-#[tactic(auto, using(crate::proofs::DoorSteps::field_steps))]
+#[tactic(auto, using(crate::proofs::EnterSteps::field_steps))]
 pub fn enter_field(table: &mut Table, field: &FieldTerm) -> Result<usize, NoMemory>
     ensures node { IfOk result (λ node. slice_get (nodes table.new) node ≡ Some (of_field (field_tree field.now))) }
     ensures grows { Extends table.old table.new }
@@ -159,7 +159,7 @@ pub fn enter_field(table: &mut Table, field: &FieldTerm) -> Result<usize, NoMemo
 /// The node of a formula. Nodes that are new are made, those before stay. Where the tree is listed
 /// already, no node is made.
 #[cycle(entered)]
-#[tactic(auto, using(crate::proofs::DoorSteps::truth_steps))]
+#[tactic(auto, using(crate::proofs::EnterSteps::truth_steps))]
 pub fn enter_formula(table: &mut Table, formula: &Formula) -> Result<usize, NoMemory>
     ensures node { IfOk result (λ node. slice_get (nodes table.new) node ≡ Some (of_truth (formula_tree formula.now))) }
     ensures grows { Extends table.old table.new }
@@ -270,7 +270,7 @@ pub fn enter_formula(table: &mut Table, formula: &Formula) -> Result<usize, NoMe
 /// The node of a value of any sort. Nodes that are new are made, those before stay. Where the tree is listed
 /// already, no node is made.
 #[cycle(entered)]
-#[tactic(auto, using(crate::proofs::DoorSteps::value_steps))]
+#[tactic(auto, using(crate::proofs::EnterSteps::value_steps))]
 pub fn enter_value(table: &mut Table, value: &Value) -> Result<usize, NoMemory>
     ensures node { IfOk result (λ node. slice_get (nodes table.new) node ≡ Some (value_tree value.now)) }
     ensures grows { Extends table.old table.new }
@@ -287,7 +287,7 @@ pub fn enter_value(table: &mut Table, value: &Value) -> Result<usize, NoMemory>
 }
 
 #[cycle(entered)]
-#[tactic(auto, using(crate::proofs::DoorSteps::list_steps))]
+#[tactic(auto, using(crate::proofs::EnterSteps::list_steps))]
 fn enter_fields(table: &mut Table, fields: &[FieldTerm]) -> Result<usize, NoMemory>
     ensures list { IfOk result (λ number. IsList table.new number (list_tree fields.now)) }
     ensures grows { Extends table.old table.new }
