@@ -21,7 +21,7 @@ pub use Rattle.jh_table.specs.Facing
 pub use Rattle.jh_table.specs.Growth
 pub use Rattle.jh_table.specs.Nodes
 pub use Rattle.jh_enter.specs.Entered
-pub use Rattle.jh_back.specs.Room
+pub use Rattle.jh_value.specs.Room
 pub use Rattle.jh_pass.specs.Rewritten
 pub use Rattle.jh_pass.specs.Exchanging
 pub use Rattle.jh_pass.specs.Fixing

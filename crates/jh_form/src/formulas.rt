@@ -14,7 +14,7 @@ ghost use Rattle.jh_table.specs.Entries.{Listing, is_object, is_truth, the_value
 ghost use Rattle.jh_table.specs.Growth.{Extends};
 ghost use Rattle.jh_table.specs.Nodes.{nodes};
 ghost use Rattle.jh_enter.specs.Entered.{IsKept};
-ghost use Rattle.jh_back.specs.Room.{IsSmall};
+ghost use Rattle.jh_value.specs.Room.{IsSmall};
 ghost use Rattle.jh_pass.specs.Rewritten.{rewritten_formula};
 ghost use Rattle.jh_pass.specs.Exchanging.{exchanging};
 
@@ -96,7 +96,7 @@ impl Formulas for Table {
     }
 
     fn value(&self, node: usize) -> Result<Value, NoMemory> {
-        jh_back::value(self, node)
+        jh_value::value(self, node)
     }
 
     fn subst(&mut self, node: usize, name: &Name, value: usize) -> Result<usize, FormFault> {

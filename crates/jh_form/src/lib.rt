@@ -5,13 +5,6 @@
 mod formulas;
 
 pub use formulas::Formulas;
-pub use jh_back::MOST_NODES;
-pub use jh_back::boxed_field;
-pub use jh_back::boxed_formula;
-pub use jh_back::boxed_int;
-pub use jh_back::boxed_set;
-pub use jh_back::boxed_term;
-pub use jh_back::value;
 pub use jh_compare::exchange_keeps_meaning;
 pub use jh_compare::replaces;
 pub use jh_compare::same;
@@ -96,6 +89,13 @@ pub use jh_tree::Term;
 pub use jh_tree::Value;
 pub use jh_tree::closed_means_the_same;
 pub use jh_tree::names_decide_meaning;
+pub use jh_value::MOST_NODES;
+pub use jh_value::boxed_field;
+pub use jh_value::boxed_formula;
+pub use jh_value::boxed_int;
+pub use jh_value::boxed_set;
+pub use jh_value::boxed_term;
+pub use jh_value::value;
 pub use jh_walk::Extent;
 pub use jh_walk::Leaves;
 pub use jh_walk::NameTest;

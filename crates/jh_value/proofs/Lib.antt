@@ -1,4 +1,4 @@
-pub mod BackSteps
+pub mod ValueSteps
 pub mod FieldLists
 pub mod Places
 pub mod Values

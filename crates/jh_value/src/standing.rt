@@ -1,7 +1,7 @@
 ghost use Rattle.std.specs.Prelude.{◌≡◌, ◌<◌, true, IfOk, length, slice_get, is_some};
 ghost use Rattle.jh_table.specs.Entries.{the_name, the_mark, the_list};
 ghost use Rattle.jh_table.specs.Nodes.{nodes};
-ghost use Rattle.jh_back.specs.Standing.{Stands};
+ghost use Rattle.jh_value.specs.Standing.{Stands};
 
 use jh_name::{Name, NoMemory};
 use jh_table::{Shape, Table};

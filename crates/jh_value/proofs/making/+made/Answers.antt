@@ -1,9 +1,9 @@
 use Rattle.std.proofs.Common.{◌≡◌, rules, arith, ◌<◌, true, slice_get, get_or}
 use Rattle.jh_table.specs.Entries.{is_field}
 use Rattle.jh_table.specs.Nodes.{nodes}
-use Rattle.jh_back.proofs.BackSteps.{term-else, int-else, set-else, field-else, formula-else}
-use Rattle.jh_back.proofs.FieldLists.{item-is-field, item-below, fields-step, fields-end}
-use Rattle.jh_back.proofs.making.+made.Goals as goal
+use Rattle.jh_value.proofs.ValueSteps.{term-else, int-else, set-else, field-else, formula-else}
+use Rattle.jh_value.proofs.FieldLists.{item-is-field, item-below, fields-step, fields-end}
+use Rattle.jh_value.proofs.making.+made.Goals as goal
 
 pub make_term-unreachable-requires : goal.make_term-unreachable-requires
 make_term-unreachable-requires t c =

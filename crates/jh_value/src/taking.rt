@@ -2,7 +2,7 @@ ghost use Rattle.std.specs.Prelude.{◌≡◌, ◌<◌, ◌↔◌, IsTrue, true,
 ghost use Rattle.jh_tree.specs.Bare.{term_tree, int_tree, set_tree, field_tree, value_tree, formula_tree};
 ghost use Rattle.jh_table.specs.Entries.{is_object, is_number, is_set, is_field, is_truth, the_object, the_number, the_set, the_field, the_truth, the_value};
 ghost use Rattle.jh_table.specs.Nodes.{nodes};
-ghost use Rattle.jh_back.specs.Room.{IsSmall};
+ghost use Rattle.jh_value.specs.Room.{IsSmall};
 
 use crate::making::{formula_box, make_field, make_int, make_set, make_term, value_box};
 use jh_name::NoMemory;

@@ -2,7 +2,7 @@ use Rattle.std.proofs.Common.{◌≡◌, ◌+◌, ◌*◌, drop}
 use Rattle.jh_table.specs.Entries.{fields_at}
 use Rattle.jh_table.specs.Nodes.{nodes}
 use Rattle.jh_walk.proofs.Rows.{before}
-use Rattle.jh_back.proofs.making.+made.Given as goal
+use Rattle.jh_value.proofs.making.+made.Given as goal
 
 -- a node's value, its formula or term, its shape and its list of fields are made in this order, and its
 -- parts have smaller numbers

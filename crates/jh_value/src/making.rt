@@ -3,7 +3,7 @@ ghost use Rattle.jh_tree.specs.Bare.{term_tree, int_tree, set_tree, field_tree, 
 ghost use Rattle.jh_table.specs.declared.shapes.Shape.TheVariants as s;
 ghost use Rattle.jh_table.specs.Entries.{is_object, is_number, is_set, is_field, is_truth, the_object, the_number, the_set, the_field, the_truth, the_value, are_fields, fields_at};
 ghost use Rattle.jh_table.specs.Nodes.{nodes};
-ghost use Rattle.jh_back.specs.Standing.{Stands, AreBelow};
+ghost use Rattle.jh_value.specs.Standing.{Stands, AreBelow};
 
 use crate::standing::{list_of, mark_of, name_of, standing};
 use jh_name::{NoMemory, Row, Sort};
@@ -16,7 +16,7 @@ use jh_walk::boxed;
 
 #[cycle(made)]
 #[inline(never)]
-#[tactic(auto, using(crate::proofs::BackSteps::term_steps))]
+#[tactic(auto, using(crate::proofs::ValueSteps::term_steps))]
 pub fn make_term(table: &Table, node: usize) -> Result<Term, NoMemory>
     requires { is_object (slice_get (nodes table.now) node) ≡ true }
     ensures { IfOk result (λ made. term_tree made ≡ the_object (slice_get (nodes table.now) node)) }
@@ -31,7 +31,7 @@ pub fn make_term(table: &Table, node: usize) -> Result<Term, NoMemory>
 }
 
 #[inline(never)]
-#[tactic(auto, using(crate::proofs::BackSteps::free_object_steps))]
+#[tactic(auto, using(crate::proofs::ValueSteps::free_object_steps))]
 fn make_free_object(table: &Table, node: usize, name: usize) -> Result<Term, NoMemory>
     requires { Stands table.now node (s.FreeObject name) }
     ensures { IfOk result (λ made. term_tree made ≡ the_object (slice_get (nodes table.now) node)) }
@@ -42,7 +42,7 @@ fn make_free_object(table: &Table, node: usize, name: usize) -> Result<Term, NoM
 
 #[cycle(made)]
 #[inline(never)]
-#[tactic(auto, using(crate::proofs::BackSteps::read_object_steps))]
+#[tactic(auto, using(crate::proofs::ValueSteps::read_object_steps))]
 fn make_read_object(table: &Table, node: usize, a: usize, b: usize) -> Result<Term, NoMemory>
     requires { Stands table.now node (s.ReadObject a b) }
     ensures { IfOk result (λ made. term_tree made ≡ the_object (slice_get (nodes table.now) node)) }
@@ -54,7 +54,7 @@ fn make_read_object(table: &Table, node: usize, a: usize, b: usize) -> Result<Te
 
 #[cycle(made)]
 #[inline(never)]
-#[tactic(auto, using(crate::proofs::BackSteps::int_steps))]
+#[tactic(auto, using(crate::proofs::ValueSteps::int_steps))]
 pub fn make_int(table: &Table, node: usize) -> Result<IntTerm, NoMemory>
     requires { is_number (slice_get (nodes table.now) node) ≡ true }
     ensures { IfOk result (λ made. int_tree made ≡ the_number (slice_get (nodes table.now) node)) }
@@ -73,7 +73,7 @@ pub fn make_int(table: &Table, node: usize) -> Result<IntTerm, NoMemory>
 }
 
 #[inline(never)]
-#[tactic(auto, using(crate::proofs::BackSteps::free_number_steps))]
+#[tactic(auto, using(crate::proofs::ValueSteps::free_number_steps))]
 fn make_free_number(table: &Table, node: usize, name: usize) -> Result<IntTerm, NoMemory>
     requires { Stands table.now node (s.FreeNumber name) }
     ensures { IfOk result (λ made. int_tree made ≡ the_number (slice_get (nodes table.now) node)) }
@@ -84,7 +84,7 @@ fn make_free_number(table: &Table, node: usize, name: usize) -> Result<IntTerm, 
 
 #[cycle(made)]
 #[inline(never)]
-#[tactic(auto, using(crate::proofs::BackSteps::read_number_steps))]
+#[tactic(auto, using(crate::proofs::ValueSteps::read_number_steps))]
 fn make_read_number(table: &Table, node: usize, a: usize, b: usize) -> Result<IntTerm, NoMemory>
     requires { Stands table.now node (s.ReadNumber a b) }
     ensures { IfOk result (λ made. int_tree made ≡ the_number (slice_get (nodes table.now) node)) }
@@ -96,7 +96,7 @@ fn make_read_number(table: &Table, node: usize, a: usize, b: usize) -> Result<In
 
 #[cycle(made)]
 #[inline(never)]
-#[tactic(auto, using(crate::proofs::BackSteps::add_steps))]
+#[tactic(auto, using(crate::proofs::ValueSteps::add_steps))]
 fn make_add(table: &Table, node: usize, a: usize, b: usize) -> Result<IntTerm, NoMemory>
     requires { Stands table.now node (s.Add a b) }
     ensures { IfOk result (λ made. int_tree made ≡ the_number (slice_get (nodes table.now) node)) }
@@ -108,7 +108,7 @@ fn make_add(table: &Table, node: usize, a: usize, b: usize) -> Result<IntTerm, N
 
 #[cycle(made)]
 #[inline(never)]
-#[tactic(auto, using(crate::proofs::BackSteps::sub_steps))]
+#[tactic(auto, using(crate::proofs::ValueSteps::sub_steps))]
 fn make_sub(table: &Table, node: usize, a: usize, b: usize) -> Result<IntTerm, NoMemory>
     requires { Stands table.now node (s.Sub a b) }
     ensures { IfOk result (λ made. int_tree made ≡ the_number (slice_get (nodes table.now) node)) }
@@ -120,7 +120,7 @@ fn make_sub(table: &Table, node: usize, a: usize, b: usize) -> Result<IntTerm, N
 
 #[cycle(made)]
 #[inline(never)]
-#[tactic(auto, using(crate::proofs::BackSteps::neg_steps))]
+#[tactic(auto, using(crate::proofs::ValueSteps::neg_steps))]
 fn make_neg(table: &Table, node: usize, a: usize) -> Result<IntTerm, NoMemory>
     requires { Stands table.now node (s.Neg a) }
     ensures { IfOk result (λ made. int_tree made ≡ the_number (slice_get (nodes table.now) node)) }
@@ -131,7 +131,7 @@ fn make_neg(table: &Table, node: usize, a: usize) -> Result<IntTerm, NoMemory>
 
 #[cycle(made)]
 #[inline(never)]
-#[tactic(auto, using(crate::proofs::BackSteps::scale_steps))]
+#[tactic(auto, using(crate::proofs::ValueSteps::scale_steps))]
 fn make_scale(table: &Table, node: usize, number: i64, a: usize) -> Result<IntTerm, NoMemory>
     requires { Stands table.now node (s.Scale number a) }
     ensures { IfOk result (λ made. int_tree made ≡ the_number (slice_get (nodes table.now) node)) }
@@ -142,7 +142,7 @@ fn make_scale(table: &Table, node: usize, number: i64, a: usize) -> Result<IntTe
 
 #[cycle(made)]
 #[inline(never)]
-#[tactic(auto, using(crate::proofs::BackSteps::card_steps))]
+#[tactic(auto, using(crate::proofs::ValueSteps::card_steps))]
 fn make_card(table: &Table, node: usize, a: usize) -> Result<IntTerm, NoMemory>
     requires { Stands table.now node (s.Card a) }
     ensures { IfOk result (λ made. int_tree made ≡ the_number (slice_get (nodes table.now) node)) }
@@ -153,7 +153,7 @@ fn make_card(table: &Table, node: usize, a: usize) -> Result<IntTerm, NoMemory>
 
 #[cycle(made)]
 #[inline(never)]
-#[tactic(auto, using(crate::proofs::BackSteps::set_steps))]
+#[tactic(auto, using(crate::proofs::ValueSteps::set_steps))]
 pub fn make_set(table: &Table, node: usize) -> Result<SetTerm, NoMemory>
     requires { is_set (slice_get (nodes table.now) node) ≡ true }
     ensures { IfOk result (λ made. set_tree made ≡ the_set (slice_get (nodes table.now) node)) }
@@ -174,7 +174,7 @@ pub fn make_set(table: &Table, node: usize) -> Result<SetTerm, NoMemory>
 }
 
 #[inline(never)]
-#[tactic(auto, using(crate::proofs::BackSteps::free_set_steps))]
+#[tactic(auto, using(crate::proofs::ValueSteps::free_set_steps))]
 fn make_free_set(table: &Table, node: usize, name: usize) -> Result<SetTerm, NoMemory>
     requires { Stands table.now node (s.FreeSet name) }
     ensures { IfOk result (λ made. set_tree made ≡ the_set (slice_get (nodes table.now) node)) }
@@ -185,7 +185,7 @@ fn make_free_set(table: &Table, node: usize, name: usize) -> Result<SetTerm, NoM
 
 #[cycle(made)]
 #[inline(never)]
-#[tactic(auto, using(crate::proofs::BackSteps::read_set_steps))]
+#[tactic(auto, using(crate::proofs::ValueSteps::read_set_steps))]
 fn make_read_set(table: &Table, node: usize, a: usize, b: usize) -> Result<SetTerm, NoMemory>
     requires { Stands table.now node (s.ReadSet a b) }
     ensures { IfOk result (λ made. set_tree made ≡ the_set (slice_get (nodes table.now) node)) }
@@ -197,7 +197,7 @@ fn make_read_set(table: &Table, node: usize, a: usize, b: usize) -> Result<SetTe
 
 #[cycle(made)]
 #[inline(never)]
-#[tactic(auto, using(crate::proofs::BackSteps::single_steps))]
+#[tactic(auto, using(crate::proofs::ValueSteps::single_steps))]
 fn make_single(table: &Table, node: usize, a: usize) -> Result<SetTerm, NoMemory>
     requires { Stands table.now node (s.Single a) }
     ensures { IfOk result (λ made. set_tree made ≡ the_set (slice_get (nodes table.now) node)) }
@@ -208,7 +208,7 @@ fn make_single(table: &Table, node: usize, a: usize) -> Result<SetTerm, NoMemory
 
 #[cycle(made)]
 #[inline(never)]
-#[tactic(auto, using(crate::proofs::BackSteps::union_steps))]
+#[tactic(auto, using(crate::proofs::ValueSteps::union_steps))]
 fn make_union(table: &Table, node: usize, a: usize, b: usize) -> Result<SetTerm, NoMemory>
     requires { Stands table.now node (s.Union a b) }
     ensures { IfOk result (λ made. set_tree made ≡ the_set (slice_get (nodes table.now) node)) }
@@ -220,7 +220,7 @@ fn make_union(table: &Table, node: usize, a: usize, b: usize) -> Result<SetTerm,
 
 #[cycle(made)]
 #[inline(never)]
-#[tactic(auto, using(crate::proofs::BackSteps::inter_steps))]
+#[tactic(auto, using(crate::proofs::ValueSteps::inter_steps))]
 fn make_inter(table: &Table, node: usize, a: usize, b: usize) -> Result<SetTerm, NoMemory>
     requires { Stands table.now node (s.Inter a b) }
     ensures { IfOk result (λ made. set_tree made ≡ the_set (slice_get (nodes table.now) node)) }
@@ -232,7 +232,7 @@ fn make_inter(table: &Table, node: usize, a: usize, b: usize) -> Result<SetTerm,
 
 #[cycle(made)]
 #[inline(never)]
-#[tactic(auto, using(crate::proofs::BackSteps::diff_steps))]
+#[tactic(auto, using(crate::proofs::ValueSteps::diff_steps))]
 fn make_diff(table: &Table, node: usize, a: usize, b: usize) -> Result<SetTerm, NoMemory>
     requires { Stands table.now node (s.Diff a b) }
     ensures { IfOk result (λ made. set_tree made ≡ the_set (slice_get (nodes table.now) node)) }
@@ -244,7 +244,7 @@ fn make_diff(table: &Table, node: usize, a: usize, b: usize) -> Result<SetTerm, 
 
 #[cycle(made)]
 #[inline(never)]
-#[tactic(auto, using(crate::proofs::BackSteps::compl_steps))]
+#[tactic(auto, using(crate::proofs::ValueSteps::compl_steps))]
 fn make_compl(table: &Table, node: usize, a: usize) -> Result<SetTerm, NoMemory>
     requires { Stands table.now node (s.Compl a) }
     ensures { IfOk result (λ made. set_tree made ≡ the_set (slice_get (nodes table.now) node)) }
@@ -255,7 +255,7 @@ fn make_compl(table: &Table, node: usize, a: usize) -> Result<SetTerm, NoMemory>
 
 #[cycle(made)]
 #[inline(never)]
-#[tactic(auto, using(crate::proofs::BackSteps::compr_steps))]
+#[tactic(auto, using(crate::proofs::ValueSteps::compr_steps))]
 fn make_compr(table: &Table, node: usize, a: usize) -> Result<SetTerm, NoMemory>
     requires { Stands table.now node (s.Compr a) }
     ensures { IfOk result (λ made. set_tree made ≡ the_set (slice_get (nodes table.now) node)) }
@@ -266,7 +266,7 @@ fn make_compr(table: &Table, node: usize, a: usize) -> Result<SetTerm, NoMemory>
 
 #[cycle(made)]
 #[inline(never)]
-#[tactic(auto, using(crate::proofs::BackSteps::field_steps))]
+#[tactic(auto, using(crate::proofs::ValueSteps::field_steps))]
 pub fn make_field(table: &Table, node: usize) -> Result<FieldTerm, NoMemory>
     requires { is_field (slice_get (nodes table.now) node) ≡ true }
     ensures { IfOk result (λ made. field_tree made ≡ the_field (slice_get (nodes table.now) node)) }
@@ -279,7 +279,7 @@ pub fn make_field(table: &Table, node: usize) -> Result<FieldTerm, NoMemory>
 }
 
 #[inline(never)]
-#[tactic(auto, using(crate::proofs::BackSteps::free_field_steps))]
+#[tactic(auto, using(crate::proofs::ValueSteps::free_field_steps))]
 fn make_free_field(table: &Table, node: usize, name: usize) -> Result<FieldTerm, NoMemory>
     requires { Stands table.now node (s.FreeField name) }
     ensures { IfOk result (λ made. field_tree made ≡ the_field (slice_get (nodes table.now) node)) }
@@ -290,7 +290,7 @@ fn make_free_field(table: &Table, node: usize, name: usize) -> Result<FieldTerm,
 
 #[cycle(made)]
 #[inline(never)]
-#[tactic(auto, using(crate::proofs::BackSteps::update_steps))]
+#[tactic(auto, using(crate::proofs::ValueSteps::update_steps))]
 fn make_update(
     table: &Table,
     node: usize,
@@ -380,7 +380,7 @@ fn field_value(table: &Table, node: usize) -> Result<Box<Value>, NoMemory>
 
 #[cycle(made)]
 #[inline(never)]
-#[tactic(auto, using(crate::proofs::BackSteps::formula_steps))]
+#[tactic(auto, using(crate::proofs::ValueSteps::formula_steps))]
 pub fn formula_box(table: &Table, node: usize) -> Result<Box<Formula>, NoMemory>
     requires { is_truth (slice_get (nodes table.now) node) ≡ true }
     ensures { IfOk result (λ made. formula_tree made.value ≡ the_truth (slice_get (nodes table.now) node)) }
@@ -413,7 +413,7 @@ pub fn formula_box(table: &Table, node: usize) -> Result<Box<Formula>, NoMemory>
 }
 
 #[inline(never)]
-#[tactic(auto, using(crate::proofs::BackSteps::true_steps))]
+#[tactic(auto, using(crate::proofs::ValueSteps::true_steps))]
 fn make_true(table: &Table, node: usize) -> Result<Box<Formula>, NoMemory>
     requires { Stands table.now node s.True }
     ensures { IfOk result (λ made. formula_tree made.value ≡ the_truth (slice_get (nodes table.now) node)) }
@@ -422,7 +422,7 @@ fn make_true(table: &Table, node: usize) -> Result<Box<Formula>, NoMemory>
 }
 
 #[inline(never)]
-#[tactic(auto, using(crate::proofs::BackSteps::false_steps))]
+#[tactic(auto, using(crate::proofs::ValueSteps::false_steps))]
 fn make_false(table: &Table, node: usize) -> Result<Box<Formula>, NoMemory>
     requires { Stands table.now node s.False }
     ensures { IfOk result (λ made. formula_tree made.value ≡ the_truth (slice_get (nodes table.now) node)) }
@@ -431,7 +431,7 @@ fn make_false(table: &Table, node: usize) -> Result<Box<Formula>, NoMemory>
 }
 
 #[inline(never)]
-#[tactic(auto, using(crate::proofs::BackSteps::free_truth_steps))]
+#[tactic(auto, using(crate::proofs::ValueSteps::free_truth_steps))]
 fn make_free_truth(table: &Table, node: usize, name: usize) -> Result<Box<Formula>, NoMemory>
     requires { Stands table.now node (s.FreeTruth name) }
     ensures { IfOk result (λ made. formula_tree made.value ≡ the_truth (slice_get (nodes table.now) node)) }
@@ -442,7 +442,7 @@ fn make_free_truth(table: &Table, node: usize, name: usize) -> Result<Box<Formul
 
 #[cycle(made)]
 #[inline(never)]
-#[tactic(auto, using(crate::proofs::BackSteps::read_truth_steps))]
+#[tactic(auto, using(crate::proofs::ValueSteps::read_truth_steps))]
 fn make_read_truth(table: &Table, node: usize, a: usize, b: usize) -> Result<Box<Formula>, NoMemory>
     requires { Stands table.now node (s.ReadTruth a b) }
     ensures { IfOk result (λ made. formula_tree made.value ≡ the_truth (slice_get (nodes table.now) node)) }
@@ -454,7 +454,7 @@ fn make_read_truth(table: &Table, node: usize, a: usize, b: usize) -> Result<Box
 
 #[cycle(made)]
 #[inline(never)]
-#[tactic(auto, using(crate::proofs::BackSteps::negation_steps))]
+#[tactic(auto, using(crate::proofs::ValueSteps::negation_steps))]
 fn make_negation(table: &Table, node: usize, a: usize) -> Result<Box<Formula>, NoMemory>
     requires { Stands table.now node (s.Negation a) }
     ensures { IfOk result (λ made. formula_tree made.value ≡ the_truth (slice_get (nodes table.now) node)) }
@@ -465,7 +465,7 @@ fn make_negation(table: &Table, node: usize, a: usize) -> Result<Box<Formula>, N
 
 #[cycle(made)]
 #[inline(never)]
-#[tactic(auto, using(crate::proofs::BackSteps::and_steps))]
+#[tactic(auto, using(crate::proofs::ValueSteps::and_steps))]
 fn make_and(table: &Table, node: usize, a: usize, b: usize) -> Result<Box<Formula>, NoMemory>
     requires { Stands table.now node (s.And a b) }
     ensures { IfOk result (λ made. formula_tree made.value ≡ the_truth (slice_get (nodes table.now) node)) }
@@ -477,7 +477,7 @@ fn make_and(table: &Table, node: usize, a: usize, b: usize) -> Result<Box<Formul
 
 #[cycle(made)]
 #[inline(never)]
-#[tactic(auto, using(crate::proofs::BackSteps::or_steps))]
+#[tactic(auto, using(crate::proofs::ValueSteps::or_steps))]
 fn make_or(table: &Table, node: usize, a: usize, b: usize) -> Result<Box<Formula>, NoMemory>
     requires { Stands table.now node (s.Or a b) }
     ensures { IfOk result (λ made. formula_tree made.value ≡ the_truth (slice_get (nodes table.now) node)) }
@@ -489,7 +489,7 @@ fn make_or(table: &Table, node: usize, a: usize, b: usize) -> Result<Box<Formula
 
 #[cycle(made)]
 #[inline(never)]
-#[tactic(auto, using(crate::proofs::BackSteps::implies_steps))]
+#[tactic(auto, using(crate::proofs::ValueSteps::implies_steps))]
 fn make_implies(table: &Table, node: usize, a: usize, b: usize) -> Result<Box<Formula>, NoMemory>
     requires { Stands table.now node (s.Implies a b) }
     ensures { IfOk result (λ made. formula_tree made.value ≡ the_truth (slice_get (nodes table.now) node)) }
@@ -501,7 +501,7 @@ fn make_implies(table: &Table, node: usize, a: usize, b: usize) -> Result<Box<Fo
 
 #[cycle(made)]
 #[inline(never)]
-#[tactic(auto, using(crate::proofs::BackSteps::iff_steps))]
+#[tactic(auto, using(crate::proofs::ValueSteps::iff_steps))]
 fn make_iff(table: &Table, node: usize, a: usize, b: usize) -> Result<Box<Formula>, NoMemory>
     requires { Stands table.now node (s.Iff a b) }
     ensures { IfOk result (λ made. formula_tree made.value ≡ the_truth (slice_get (nodes table.now) node)) }
@@ -513,7 +513,7 @@ fn make_iff(table: &Table, node: usize, a: usize, b: usize) -> Result<Box<Formul
 
 #[cycle(made)]
 #[inline(never)]
-#[tactic(auto, using(crate::proofs::BackSteps::all_steps))]
+#[tactic(auto, using(crate::proofs::ValueSteps::all_steps))]
 fn make_all(table: &Table, node: usize, a: usize) -> Result<Box<Formula>, NoMemory>
     requires { Stands table.now node (s.All a) }
     ensures { IfOk result (λ made. formula_tree made.value ≡ the_truth (slice_get (nodes table.now) node)) }
@@ -524,7 +524,7 @@ fn make_all(table: &Table, node: usize, a: usize) -> Result<Box<Formula>, NoMemo
 
 #[cycle(made)]
 #[inline(never)]
-#[tactic(auto, using(crate::proofs::BackSteps::ex_steps))]
+#[tactic(auto, using(crate::proofs::ValueSteps::ex_steps))]
 fn make_ex(table: &Table, node: usize, a: usize) -> Result<Box<Formula>, NoMemory>
     requires { Stands table.now node (s.Ex a) }
     ensures { IfOk result (λ made. formula_tree made.value ≡ the_truth (slice_get (nodes table.now) node)) }
@@ -535,7 +535,7 @@ fn make_ex(table: &Table, node: usize, a: usize) -> Result<Box<Formula>, NoMemor
 
 #[cycle(made)]
 #[inline(never)]
-#[tactic(auto, using(crate::proofs::BackSteps::eq_object_steps))]
+#[tactic(auto, using(crate::proofs::ValueSteps::eq_object_steps))]
 fn make_eq_object(table: &Table, node: usize, a: usize, b: usize) -> Result<Box<Formula>, NoMemory>
     requires { Stands table.now node (s.EqObject a b) }
     ensures { IfOk result (λ made. formula_tree made.value ≡ the_truth (slice_get (nodes table.now) node)) }
@@ -547,7 +547,7 @@ fn make_eq_object(table: &Table, node: usize, a: usize, b: usize) -> Result<Box<
 
 #[cycle(made)]
 #[inline(never)]
-#[tactic(auto, using(crate::proofs::BackSteps::eq_number_steps))]
+#[tactic(auto, using(crate::proofs::ValueSteps::eq_number_steps))]
 fn make_eq_number(table: &Table, node: usize, a: usize, b: usize) -> Result<Box<Formula>, NoMemory>
     requires { Stands table.now node (s.EqNumber a b) }
     ensures { IfOk result (λ made. formula_tree made.value ≡ the_truth (slice_get (nodes table.now) node)) }
@@ -559,7 +559,7 @@ fn make_eq_number(table: &Table, node: usize, a: usize, b: usize) -> Result<Box<
 
 #[cycle(made)]
 #[inline(never)]
-#[tactic(auto, using(crate::proofs::BackSteps::eq_set_steps))]
+#[tactic(auto, using(crate::proofs::ValueSteps::eq_set_steps))]
 fn make_eq_set(table: &Table, node: usize, a: usize, b: usize) -> Result<Box<Formula>, NoMemory>
     requires { Stands table.now node (s.EqSet a b) }
     ensures { IfOk result (λ made. formula_tree made.value ≡ the_truth (slice_get (nodes table.now) node)) }
@@ -571,7 +571,7 @@ fn make_eq_set(table: &Table, node: usize, a: usize, b: usize) -> Result<Box<For
 
 #[cycle(made)]
 #[inline(never)]
-#[tactic(auto, using(crate::proofs::BackSteps::less_steps))]
+#[tactic(auto, using(crate::proofs::ValueSteps::less_steps))]
 fn make_less(table: &Table, node: usize, a: usize, b: usize) -> Result<Box<Formula>, NoMemory>
     requires { Stands table.now node (s.Less a b) }
     ensures { IfOk result (λ made. formula_tree made.value ≡ the_truth (slice_get (nodes table.now) node)) }
@@ -583,7 +583,7 @@ fn make_less(table: &Table, node: usize, a: usize, b: usize) -> Result<Box<Formu
 
 #[cycle(made)]
 #[inline(never)]
-#[tactic(auto, using(crate::proofs::BackSteps::less_equal_steps))]
+#[tactic(auto, using(crate::proofs::ValueSteps::less_equal_steps))]
 fn make_less_equal(table: &Table, node: usize, a: usize, b: usize) -> Result<Box<Formula>, NoMemory>
     requires { Stands table.now node (s.LessEqual a b) }
     ensures { IfOk result (λ made. formula_tree made.value ≡ the_truth (slice_get (nodes table.now) node)) }
@@ -595,7 +595,7 @@ fn make_less_equal(table: &Table, node: usize, a: usize, b: usize) -> Result<Box
 
 #[cycle(made)]
 #[inline(never)]
-#[tactic(auto, using(crate::proofs::BackSteps::divides_steps))]
+#[tactic(auto, using(crate::proofs::ValueSteps::divides_steps))]
 fn make_divides(table: &Table, node: usize, number: i64, a: usize) -> Result<Box<Formula>, NoMemory>
     requires { Stands table.now node (s.Divides number a) }
     ensures { IfOk result (λ made. formula_tree made.value ≡ the_truth (slice_get (nodes table.now) node)) }
@@ -606,7 +606,7 @@ fn make_divides(table: &Table, node: usize, number: i64, a: usize) -> Result<Box
 
 #[cycle(made)]
 #[inline(never)]
-#[tactic(auto, using(crate::proofs::BackSteps::member_steps))]
+#[tactic(auto, using(crate::proofs::ValueSteps::member_steps))]
 fn make_member(table: &Table, node: usize, a: usize, b: usize) -> Result<Box<Formula>, NoMemory>
     requires { Stands table.now node (s.Member a b) }
     ensures { IfOk result (λ made. formula_tree made.value ≡ the_truth (slice_get (nodes table.now) node)) }
@@ -618,7 +618,7 @@ fn make_member(table: &Table, node: usize, a: usize, b: usize) -> Result<Box<For
 
 #[cycle(made)]
 #[inline(never)]
-#[tactic(auto, using(crate::proofs::BackSteps::subset_steps))]
+#[tactic(auto, using(crate::proofs::ValueSteps::subset_steps))]
 fn make_subset(table: &Table, node: usize, a: usize, b: usize) -> Result<Box<Formula>, NoMemory>
     requires { Stands table.now node (s.Subset a b) }
     ensures { IfOk result (λ made. formula_tree made.value ≡ the_truth (slice_get (nodes table.now) node)) }
@@ -630,7 +630,7 @@ fn make_subset(table: &Table, node: usize, a: usize, b: usize) -> Result<Box<For
 
 #[cycle(made)]
 #[inline(never)]
-#[tactic(auto, using(crate::proofs::BackSteps::reach_steps))]
+#[tactic(auto, using(crate::proofs::ValueSteps::reach_steps))]
 fn make_reach(
     table: &Table,
     node: usize,
@@ -649,7 +649,7 @@ fn make_reach(
 
 #[cycle(made)]
 #[inline(never)]
-#[tactic(auto, using(crate::proofs::BackSteps::tree_steps))]
+#[tactic(auto, using(crate::proofs::ValueSteps::tree_steps))]
 fn make_tree(table: &Table, node: usize, list: usize) -> Result<Box<Formula>, NoMemory>
     requires { Stands table.now node (s.Tree list) }
     ensures { IfOk result (λ made. formula_tree made.value ≡ the_truth (slice_get (nodes table.now) node)) }
@@ -660,7 +660,7 @@ fn make_tree(table: &Table, node: usize, list: usize) -> Result<Box<Formula>, No
 
 #[cycle(made)]
 #[inline(never)]
-#[tactic(auto, using(crate::proofs::BackSteps::mark_steps))]
+#[tactic(auto, using(crate::proofs::ValueSteps::mark_steps))]
 fn make_mark(table: &Table, node: usize, mark: usize, a: usize) -> Result<Box<Formula>, NoMemory>
     requires { Stands table.now node (s.Mark mark a) }
     ensures { IfOk result (λ made. formula_tree made.value ≡ the_truth (slice_get (nodes table.now) node)) }

@@ -7,7 +7,7 @@ use Rattle.jh_tree.specs.Tree.{ValueTree}
 use Rattle.jh_table.specs.Entries.{the_name, the_mark, the_list, is_object, is_number, is_set, is_field, is_truth}
 use Rattle.jh_table.proofs.Below.{inside}
 use Rattle.jh_table.proofs.Growing.{object-some, number-some, set-some, field-some, truth-some}
-use Rattle.jh_back.specs.Standing.{AreBelow}
+use Rattle.jh_value.specs.Standing.{AreBelow}
 
 pub term-inside : (ts : List ValueTree) (n : ℕ) → is_object (slice_get ts n) ≡ true → n < length ts
 term-inside ts n h = inside ts n (object-some (slice_get ts n) h)

@@ -10,8 +10,8 @@ use Rattle.jh_table.specs.Nodes.{nodes, shape_tree}
 use Rattle.jh_table.specs.Parts.{list_parts, own_parts}
 use Rattle.jh_table.proofs.Below.{inside}
 use Rattle.jh_table.proofs.PartSteps.{part-Add-a, part-Add-b, part-All-a, part-And-a, part-And-b, part-Card-a, part-Compl-a, part-Compr-a, part-Diff-a, part-Diff-b, part-Divides-a, part-EqNumber-a, part-EqNumber-b, part-EqObject-a, part-EqObject-b, part-EqSet-a, part-EqSet-b, part-Ex-a, part-FreeField-n, part-FreeNumber-n, part-FreeObject-n, part-FreeSet-n, part-FreeTruth-n, part-Iff-a, part-Iff-b, part-Implies-a, part-Implies-b, part-Inter-a, part-Inter-b, part-Less-a, part-Less-b, part-LessEqual-a, part-LessEqual-b, part-Mark-a, part-Mark-m, part-Member-a, part-Member-b, part-Neg-a, part-Negation-a, part-Or-a, part-Or-b, part-Reach-a, part-Reach-b, part-Reach-fields, part-Reach-l, part-ReadNumber-a, part-ReadNumber-b, part-ReadObject-a, part-ReadObject-b, part-ReadSet-a, part-ReadSet-b, part-ReadTruth-a, part-ReadTruth-b, part-Scale-a, part-Single-a, part-Sub-a, part-Sub-b, part-Subset-a, part-Subset-b, part-Tree-fields, part-Tree-l, part-Union-a, part-Union-b, part-Update-a, part-Update-b, part-Update-c}
-use Rattle.jh_back.specs.Standing.{Stands, AreBelow}
-use Rattle.jh_back.proofs.Places.{fields-below, own-below, term-inside, int-inside, set-inside, field-inside, formula-inside}
+use Rattle.jh_value.specs.Standing.{Stands, AreBelow}
+use Rattle.jh_value.proofs.Places.{fields-below, own-below, term-inside, int-inside, set-inside, field-inside, formula-inside}
 
 module _ (t : Listing) (i : ℕ) where
   pub stands-Bound : (k : ℕ) → Stands t i (s.Bound k) → tree.bound k ≡ the_object (slice_get (nodes t) i)

@@ -39,7 +39,7 @@ ghost use Rattle.jh_tree.specs.Bare.{term_tree, int_tree, set_tree, field_tree, 
 ghost use Rattle.jh_table.specs.declared.shapes.Shape.TheVariants as s;
 ghost use Rattle.jh_table.specs.Entries.{is_object, is_number, is_set, is_field, is_truth, the_object, the_number, the_set, the_field, the_truth, the_value, are_fields, fields_at};
 ghost use Rattle.jh_table.specs.Nodes.{nodes};
-ghost use Rattle.jh_back.specs.Standing.{Stands, AreBelow};
+ghost use Rattle.jh_value.specs.Standing.{Stands, AreBelow};
 
 use crate::standing::{list_of, mark_of, name_of, standing};
 use jh_name::{NoMemory, Row, Sort};
@@ -101,7 +101,7 @@ def sort_function(code):
         else:
             arms.append(f"{pattern} => Ok({rust}::{rust_variant(code, ctor)}" + (f"({', '.join(ns)})" if ns else '') + "),")
     arms.append("_ => unreachable!(),")
-    return head(code, sort_name(code), '', at_sort(code), True, f"BackSteps::{WORD[code]}_steps") + """    match standing(table, node) {
+    return head(code, sort_name(code), '', at_sort(code), True, f"ValueSteps::{WORD[code]}_steps") + """    match standing(table, node) {
 """ + ''.join(f"        {a}\n" for a in arms) + "    }\n}\n"
 
 
@@ -129,7 +129,7 @@ def arm_function(code, ctor, variant, kinds):
     value = f"{rust}::{made}" + (f"({', '.join(args)})" if args else '')
     lines.append(f"boxed(table.alloc(), {value})" if in_box(code) else f"Ok({value})")
     in_cycle = any(is_part(k) for k in kinds)
-    return head(code, f"make_{snake(variant)}", params, f"Stands table.now node {apply('s.' + variant, ns)}", False, f"BackSteps::{snake(variant)}_steps", in_cycle) + ''.join(f"    {l}\n" for l in lines) + "}\n"
+    return head(code, f"make_{snake(variant)}", params, f"Stands table.now node {apply('s.' + variant, ns)}", False, f"ValueSteps::{snake(variant)}_steps", in_cycle) + ''.join(f"    {l}\n" for l in lines) + "}\n"
 
 
 def value_functions():
@@ -193,7 +193,7 @@ fn make_fields(table: &Table, node: usize, fields: &[usize]) -> Result<Vec<Field
     return '\n'.join(out)
 
 
-# ---------------------------------------------------------------- proofs/BackSteps.antt
+# ---------------------------------------------------------------- proofs/ValueSteps.antt
 
 def binder(k, n):
     return f"({n} : {ANTT.get(core(k), 'ℕ')})"
@@ -310,8 +310,8 @@ use Rattle.jh_table.specs.Nodes.{{nodes, shape_tree}}
 use Rattle.jh_table.specs.Parts.{{list_parts, own_parts}}
 use Rattle.jh_table.proofs.Below.{{inside}}
 use Rattle.jh_table.proofs.PartSteps.{{{', '.join(sorted(set(parts)))}}}
-use Rattle.jh_back.specs.Standing.{{Stands, AreBelow}}
-use Rattle.jh_back.proofs.Places.{{fields-below, own-below, term-inside, int-inside, set-inside, field-inside, formula-inside}}
+use Rattle.jh_value.specs.Standing.{{Stands, AreBelow}}
+use Rattle.jh_value.proofs.Places.{{fields-below, own-below, term-inside, int-inside, set-inside, field-inside, formula-inside}}
 
 module _ (t : Listing) (i : ℕ) where
 {chr(10).join(lemmas)}
@@ -330,7 +330,7 @@ def invariants():
 use Rattle.jh_table.specs.Entries.{fields_at}
 use Rattle.jh_table.specs.Nodes.{nodes}
 use Rattle.jh_walk.proofs.Rows.{before}
-use Rattle.jh_back.proofs.making.+made.Given as goal
+use Rattle.jh_value.proofs.making.+made.Given as goal
 
 -- a node's value, its formula or term, its shape and its list of fields are made in this order, and its
 -- parts have smaller numbers
@@ -345,9 +345,9 @@ def answers():
     out = ["""use Rattle.std.proofs.Common.{◌≡◌, rules, arith, ◌<◌, true, slice_get, get_or}
 use Rattle.jh_table.specs.Entries.{is_field}
 use Rattle.jh_table.specs.Nodes.{nodes}
-use Rattle.jh_back.proofs.BackSteps.{term-else, int-else, set-else, field-else, formula-else}
-use Rattle.jh_back.proofs.FieldLists.{item-is-field, item-below, fields-step, fields-end}
-use Rattle.jh_back.proofs.making.+made.Goals as goal
+use Rattle.jh_value.proofs.ValueSteps.{term-else, int-else, set-else, field-else, formula-else}
+use Rattle.jh_value.proofs.FieldLists.{item-is-field, item-below, fields-step, fields-end}
+use Rattle.jh_value.proofs.making.+made.Goals as goal
 """]
     for code in 'TISFP':
         mine = [s for s in shapes() if s[0] == code]
@@ -381,10 +381,10 @@ if __name__ == '__main__':
     root = sys.argv[1]
 
     def write(path, text):
-        path = f'{root}/crates/jh_back/{path}'
+        path = f'{root}/crates/jh_value/{path}'
         os.makedirs(os.path.dirname(path), exist_ok=True)
         open(path, 'w').write(text)
     write('src/making.rt', code())
-    write('proofs/BackSteps.antt', steps())
+    write('proofs/ValueSteps.antt', steps())
     write('proofs/making/+made/Invariants.antt', invariants())
     write('proofs/making/+made/Answers.antt', answers())

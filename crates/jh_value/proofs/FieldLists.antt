@@ -9,7 +9,7 @@ use Rattle.jh_tree.specs.Tree as t
 use Rattle.jh_tree.proofs.ClosedLemmas.{both-left, both-right}
 use Rattle.jh_walk.proofs.Rows.{before, before-none, before-push}
 use Rattle.jh_table.specs.Entries.{is_field, the_field, are_fields, fields_at}
-use Rattle.jh_back.specs.Standing.{AreBelow}
+use Rattle.jh_value.specs.Standing.{AreBelow}
 
 -- an item of a list of fields is a field
 item-field : (ts : List ValueTree) (ns : List ℕ) (j n : ℕ) → are_fields ts ns ≡ true → slice_get ns j ≡ Some n → is_field (slice_get ts n) ≡ true
