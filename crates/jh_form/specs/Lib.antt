@@ -22,10 +22,10 @@ pub use Rattle.jh_table.specs.Growth
 pub use Rattle.jh_table.specs.Nodes
 pub use Rattle.jh_enter.specs.Entered
 pub use Rattle.jh_value.specs.Room
-pub use Rattle.jh_pass.specs.Rewritten
-pub use Rattle.jh_pass.specs.Exchanging
-pub use Rattle.jh_pass.specs.Fixing
-pub use Rattle.jh_pass.specs.Walks
+pub use Rattle.jh_rewrite.specs.Rewritten
+pub use Rattle.jh_rewrite.specs.Exchanging
+pub use Rattle.jh_rewrite.specs.Fixing
+pub use Rattle.jh_rewrite.specs.Walks
 pub use Rattle.jh_make.specs.Joined
 pub use Rattle.jh_rebuild.specs.Built
 pub use Rattle.jh_rebuild.specs.Sound

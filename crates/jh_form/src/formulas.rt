@@ -15,8 +15,8 @@ ghost use Rattle.jh_table.specs.Growth.{Extends};
 ghost use Rattle.jh_table.specs.Nodes.{nodes};
 ghost use Rattle.jh_enter.specs.Entered.{IsKept};
 ghost use Rattle.jh_value.specs.Room.{IsSmall};
-ghost use Rattle.jh_pass.specs.Rewritten.{rewritten_formula};
-ghost use Rattle.jh_pass.specs.Exchanging.{exchanging};
+ghost use Rattle.jh_rewrite.specs.Rewritten.{rewritten_formula};
+ghost use Rattle.jh_rewrite.specs.Exchanging.{exchanging};
 
 use jh_name::{Name, NoMemory};
 use jh_subst::FormFault;
@@ -100,18 +100,18 @@ impl Formulas for Table {
     }
 
     fn subst(&mut self, node: usize, name: &Name, value: usize) -> Result<usize, FormFault> {
-        jh_pass::subst(self, node, name, value)
+        jh_rewrite::subst(self, node, name, value)
     }
 
     fn open(&mut self, body: usize, with: usize) -> Result<usize, NoMemory> {
-        jh_pass::open(self, body, with)
+        jh_rewrite::open(self, body, with)
     }
 
     fn exchange(&mut self, formula: usize, old: usize, new: usize) -> Result<usize, NoMemory> {
-        jh_pass::exchange(self, formula, old, new)
+        jh_rewrite::exchange(self, formula, old, new)
     }
 
     fn names<T: NameTest>(&self, node: usize, test: &T) -> Result<bool, NoMemory> {
-        jh_pass::names(self, node, test)
+        jh_rewrite::names(self, node, test)
     }
 }
