@@ -34,3 +34,7 @@ pub use Rattle.jh_several.specs.Several
 pub use Rattle.jh_several.specs.Pairs
 pub use Rattle.jh_several.specs.OpenedAll
 pub use Rattle.jh_several.specs.Lifted
+pub use Rattle.jh_parts.specs.Asked
+pub use Rattle.jh_parts.specs.Collected
+pub use Rattle.jh_parts.specs.Standing
+pub use Rattle.jh_normal.specs.Normal
