@@ -66,9 +66,9 @@ use Rattle.jh_tree.specs.Tree as t
 use Rattle.jh_tree.specs.Passing.{name_equal}
 use Rattle.jh_tree.proofs.ClosedLemmas.{both-left, both-right}
 use Rattle.jh_tree.proofs.Names.{name_equal-same}
-use Rattle.jh_pass.specs.Fixing.{FixesNames}
-use Rattle.jh_pass.specs.Leaf.{free_value}
-use Rattle.jh_pass.proofs.SubstitutionRules.{other}
+use Rattle.jh_rewrite.specs.Fixing.{FixesNames}
+use Rattle.jh_rewrite.specs.Leaf.{free_value}
+use Rattle.jh_rewrite.proofs.SubstitutionRules.{other}
 use Rattle.jh_several.specs.Several.{object_in, number_in, truth_in, set_in, field_in, none_of, instead}
 
 skipped : {X : Type 0} (a c : X) (b : Bool) → not b ≡ true → (if b then a else c) ≡ c
@@ -169,10 +169,10 @@ use Rattle.jh_table.specs.Growth.{AreDifferent}
 use Rattle.jh_table.specs.Nodes.{nodes, shape_tree, tree_in}
 use Rattle.jh_table.specs.declared.shapes.Shape.{Shape}
 use Rattle.jh_table.specs.declared.shapes.Shape.TheVariants as s
-use Rattle.jh_pass.specs.Leaf.{is_leaf, free_value}
-use Rattle.jh_pass.specs.Rewritten.{leaves_alone, rewritten_value, rewritten_term, rewritten_int, rewritten_set, rewritten_field, rewritten_formula}
-use Rattle.jh_pass.specs.Walks.{IsRewritten}
-use Rattle.jh_pass.proofs.Sorted.{exchanged-rewritten, value-listed}
+use Rattle.jh_rewrite.specs.Leaf.{is_leaf, free_value}
+use Rattle.jh_rewrite.specs.Rewritten.{leaves_alone, rewritten_value, rewritten_term, rewritten_int, rewritten_set, rewritten_field, rewritten_formula}
+use Rattle.jh_rewrite.specs.Walks.{IsRewritten}
+use Rattle.jh_rewrite.proofs.Sorted.{exchanged-rewritten, value-listed}
 use Rattle.jh_several.specs.declared.pairs.Instead.{Instead}
 use Rattle.jh_several.specs.Pairs.{pairs_in, AreReady, chosen_of}
 use Rattle.jh_several.specs.Several.{object_in, number_in, truth_in, set_in, field_in, instead}

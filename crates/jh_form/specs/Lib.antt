@@ -20,12 +20,12 @@ pub use Rattle.jh_table.specs.Entries
 pub use Rattle.jh_table.specs.Facing
 pub use Rattle.jh_table.specs.Growth
 pub use Rattle.jh_table.specs.Nodes
-pub use Rattle.jh_door.specs.Entered
-pub use Rattle.jh_back.specs.Room
-pub use Rattle.jh_pass.specs.Rewritten
-pub use Rattle.jh_pass.specs.Exchanging
-pub use Rattle.jh_pass.specs.Fixing
-pub use Rattle.jh_pass.specs.Walks
+pub use Rattle.jh_enter.specs.Entered
+pub use Rattle.jh_value.specs.Room
+pub use Rattle.jh_rewrite.specs.Rewritten
+pub use Rattle.jh_rewrite.specs.Exchanging
+pub use Rattle.jh_rewrite.specs.Fixing
+pub use Rattle.jh_rewrite.specs.Walks
 pub use Rattle.jh_make.specs.Joined
 pub use Rattle.jh_rebuild.specs.Built
 pub use Rattle.jh_rebuild.specs.Sound
@@ -34,3 +34,7 @@ pub use Rattle.jh_several.specs.Several
 pub use Rattle.jh_several.specs.Pairs
 pub use Rattle.jh_several.specs.OpenedAll
 pub use Rattle.jh_several.specs.Lifted
+pub use Rattle.jh_parts.specs.Asked
+pub use Rattle.jh_parts.specs.Collected
+pub use Rattle.jh_parts.specs.Standing
+pub use Rattle.jh_normal.specs.Normal

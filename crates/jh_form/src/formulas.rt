@@ -13,10 +13,10 @@ ghost use Rattle.jh_compare.specs.Inside.{SameIn, AreInside};
 ghost use Rattle.jh_table.specs.Entries.{Listing, is_object, is_truth, the_value, the_object, the_truth};
 ghost use Rattle.jh_table.specs.Growth.{Extends};
 ghost use Rattle.jh_table.specs.Nodes.{nodes};
-ghost use Rattle.jh_door.specs.Entered.{IsKept};
-ghost use Rattle.jh_back.specs.Room.{IsSmall};
-ghost use Rattle.jh_pass.specs.Rewritten.{rewritten_formula};
-ghost use Rattle.jh_pass.specs.Exchanging.{exchanging};
+ghost use Rattle.jh_enter.specs.Entered.{IsKept};
+ghost use Rattle.jh_value.specs.Room.{IsSmall};
+ghost use Rattle.jh_rewrite.specs.Rewritten.{rewritten_formula};
+ghost use Rattle.jh_rewrite.specs.Exchanging.{exchanging};
 
 use jh_name::{Name, NoMemory};
 use jh_subst::FormFault;
@@ -92,26 +92,26 @@ impl Formulas for Table {
     ghost listing = { λ t. t };
 
     fn enter(&mut self, value: &Value) -> Result<usize, NoMemory> {
-        jh_door::enter(self, value)
+        jh_enter::enter(self, value)
     }
 
     fn value(&self, node: usize) -> Result<Value, NoMemory> {
-        jh_back::value(self, node)
+        jh_value::value(self, node)
     }
 
     fn subst(&mut self, node: usize, name: &Name, value: usize) -> Result<usize, FormFault> {
-        jh_pass::subst(self, node, name, value)
+        jh_rewrite::subst(self, node, name, value)
     }
 
     fn open(&mut self, body: usize, with: usize) -> Result<usize, NoMemory> {
-        jh_pass::open(self, body, with)
+        jh_rewrite::open(self, body, with)
     }
 
     fn exchange(&mut self, formula: usize, old: usize, new: usize) -> Result<usize, NoMemory> {
-        jh_pass::exchange(self, formula, old, new)
+        jh_rewrite::exchange(self, formula, old, new)
     }
 
     fn names<T: NameTest>(&self, node: usize, test: &T) -> Result<bool, NoMemory> {
-        jh_pass::names(self, node, test)
+        jh_rewrite::names(self, node, test)
     }
 }

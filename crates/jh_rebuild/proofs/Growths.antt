@@ -9,8 +9,8 @@ use Rattle.jh_table.specs.Parts.{parts, list_parts, own_parts, has_list, put, Is
 use Rattle.jh_table.specs.declared.shapes.Shape.{Shape}
 use Rattle.jh_table.specs.declared.shapes.Shape.TheVariants as s
 use Rattle.jh_table.proofs.Listed.{tree-grows, fits-grows, parts-grows, extends-trans}
-use Rattle.jh_pass.specs.Staying.{grown}
-use Rattle.jh_pass.proofs.Sorted.{within-some}
+use Rattle.jh_rewrite.specs.Staying.{grown}
+use Rattle.jh_rewrite.proofs.Sorted.{within-some}
 use Rattle.jh_rebuild.specs.declared.polarity.Polarity.{Polarity}
 use Rattle.jh_rebuild.specs.Built.{Rule}
 use Rattle.jh_rebuild.specs.Walking.{built_at, applied, sign, IsBuilt, AllBuilt}

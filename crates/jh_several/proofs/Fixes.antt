@@ -7,9 +7,9 @@ use Rattle.jh_tree.specs.Tree as t
 use Rattle.jh_tree.specs.Passing.{name_equal}
 use Rattle.jh_tree.proofs.ClosedLemmas.{both-left, both-right}
 use Rattle.jh_tree.proofs.Names.{name_equal-same}
-use Rattle.jh_pass.specs.Fixing.{FixesNames}
-use Rattle.jh_pass.specs.Leaf.{free_value}
-use Rattle.jh_pass.proofs.SubstitutionRules.{other}
+use Rattle.jh_rewrite.specs.Fixing.{FixesNames}
+use Rattle.jh_rewrite.specs.Leaf.{free_value}
+use Rattle.jh_rewrite.proofs.SubstitutionRules.{other}
 use Rattle.jh_several.specs.Several.{object_in, number_in, truth_in, set_in, field_in, none_of, instead}
 
 skipped : {X : Type 0} (a c : X) (b : Bool) → not b ≡ true → (if b then a else c) ≡ c

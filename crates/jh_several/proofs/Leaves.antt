@@ -9,10 +9,10 @@ use Rattle.jh_table.specs.Growth.{AreDifferent}
 use Rattle.jh_table.specs.Nodes.{nodes, shape_tree, tree_in}
 use Rattle.jh_table.specs.declared.shapes.Shape.{Shape}
 use Rattle.jh_table.specs.declared.shapes.Shape.TheVariants as s
-use Rattle.jh_pass.specs.Leaf.{is_leaf, free_value}
-use Rattle.jh_pass.specs.Rewritten.{leaves_alone, rewritten_value, rewritten_term, rewritten_int, rewritten_set, rewritten_field, rewritten_formula}
-use Rattle.jh_pass.specs.Walks.{IsRewritten}
-use Rattle.jh_pass.proofs.Sorted.{exchanged-rewritten, value-listed}
+use Rattle.jh_rewrite.specs.Leaf.{is_leaf, free_value}
+use Rattle.jh_rewrite.specs.Rewritten.{leaves_alone, rewritten_value, rewritten_term, rewritten_int, rewritten_set, rewritten_field, rewritten_formula}
+use Rattle.jh_rewrite.specs.Walks.{IsRewritten}
+use Rattle.jh_rewrite.proofs.Sorted.{exchanged-rewritten, value-listed}
 use Rattle.jh_several.specs.declared.pairs.Instead.{Instead}
 use Rattle.jh_several.specs.Pairs.{pairs_in, AreReady, chosen_of}
 use Rattle.jh_several.specs.Several.{object_in, number_in, truth_in, set_in, field_in, instead}

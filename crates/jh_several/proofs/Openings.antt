@@ -13,13 +13,13 @@ use Rattle.jh_table.specs.Facing.{IsLeast}
 use Rattle.jh_table.specs.Nodes.{shape_tree}
 use Rattle.jh_table.specs.declared.shapes.Shape.{Shape}
 use Rattle.jh_table.specs.declared.shapes.Shape.TheVariants as s
-use Rattle.jh_pass.specs.Fixing.{FixesBound}
-use Rattle.jh_pass.specs.Leaf.{is_leaf}
-use Rattle.jh_pass.specs.Rewritten.{leaves_alone, rewritten_value, rewritten_term, rewritten_int, rewritten_set, rewritten_field, rewritten_formula}
-use Rattle.jh_pass.specs.Walks.{IsRewritten}
-use Rattle.jh_pass.proofs.Fixed.{value-shut}
-use Rattle.jh_pass.proofs.Sorted.{stays-rewritten, exchanged-rewritten, listed-value, listed-truth}
-use Rattle.jh_pass.proofs.Wholes.{value-alone}
+use Rattle.jh_rewrite.specs.Fixing.{FixesBound}
+use Rattle.jh_rewrite.specs.Leaf.{is_leaf}
+use Rattle.jh_rewrite.specs.Rewritten.{leaves_alone, rewritten_value, rewritten_term, rewritten_int, rewritten_set, rewritten_field, rewritten_formula}
+use Rattle.jh_rewrite.specs.Walks.{IsRewritten}
+use Rattle.jh_rewrite.proofs.Fixed.{value-shut}
+use Rattle.jh_rewrite.proofs.Sorted.{stays-rewritten, exchanged-rewritten, listed-value, listed-truth}
+use Rattle.jh_rewrite.proofs.Wholes.{value-alone}
 use Rattle.jh_several.specs.OpenedAll.{bound_or, opening_all, opened_all, values_before, terms_closed, are_objects, objects_at}
 
 -- e with the objects of the terms behind its first d objects

@@ -9,12 +9,12 @@ use Rattle.jh_tree.specs.Passing.{value_passes, name_equal}
 use Rattle.jh_walk.specs.Mapped.{mapped_formula}
 use Rattle.jh_table.specs.Entries.{Listing, the_name, the_value, the_truth, is_truth}
 use Rattle.jh_table.specs.Nodes.{nodes}
-use Rattle.jh_pass.specs.Rewritten.{leaves_alone, rewritten_value}
-use Rattle.jh_pass.specs.Walks.{IsRewritten}
-use Rattle.jh_pass.proofs.Alone.{name-listed}
-use Rattle.jh_pass.proofs.Fixed.{value-kept}
-use Rattle.jh_pass.proofs.Sorted.{stays-rewritten, listed-value, listed-truth, rewritten-truth}
-use Rattle.jh_pass.proofs.Wholes.{value-alone}
+use Rattle.jh_rewrite.specs.Rewritten.{leaves_alone, rewritten_value}
+use Rattle.jh_rewrite.specs.Walks.{IsRewritten}
+use Rattle.jh_rewrite.proofs.Alone.{name-listed}
+use Rattle.jh_rewrite.proofs.Fixed.{value-kept}
+use Rattle.jh_rewrite.proofs.Sorted.{stays-rewritten, listed-value, listed-truth, rewritten-truth}
+use Rattle.jh_rewrite.proofs.Wholes.{value-alone}
 use Rattle.jh_table.proofs.Weaker.{value-weaker}
 use Rattle.jh_several.specs.declared.pairs.Instead.{Instead}
 use Rattle.jh_several.specs.Pairs.{pairs_in, AreReady, chosen_of}

@@ -3,8 +3,8 @@ use Rattle.std.specs.Prelude.{ℕ, ◌+◌, nat_lt, if◌then◌else◌}
 use Rattle.std.proofs.Common.{refl}
 use Rattle.jh_tree.specs.Tree as t
 use Rattle.jh_walk.specs.Mapped.{LeafMap, unchanged}
-use Rattle.jh_pass.specs.Rewritten.{leaves_alone}
-use Rattle.jh_pass.specs.Walks.{Stays}
+use Rattle.jh_rewrite.specs.Rewritten.{leaves_alone}
+use Rattle.jh_rewrite.specs.Walks.{Stays}
 
 -- Under d inner binders the loose bound variables have the numbers from d on. These rise, smaller ones stay.
 abbrev pub lifting : ℕ → LeafMap

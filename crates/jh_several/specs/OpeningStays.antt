@@ -6,9 +6,9 @@ use Rattle.jh_tree.specs.Tree.{ValueTree}
 use Rattle.jh_table.specs.Entries.{Listing, is_object, the_object}
 use Rattle.jh_table.specs.Growth.{Extends}
 use Rattle.jh_table.specs.Nodes.{nodes}
-use Rattle.jh_pass.specs.Rewritten.{leaves_alone}
-use Rattle.jh_pass.specs.Staying.{grown}
-use Rattle.jh_pass.specs.Walks.{Stays}
+use Rattle.jh_rewrite.specs.Rewritten.{leaves_alone}
+use Rattle.jh_rewrite.specs.Staying.{grown}
+use Rattle.jh_rewrite.specs.Walks.{Stays}
 use Rattle.jh_several.specs.OpenedAll.{opening_all, are_objects, objects_at}
 
 first-true : (p q : Bool) → (p && q) ≡ true → p ≡ true

@@ -6,10 +6,10 @@ use Rattle.jh_tree.specs.Tree.{ValueTree}
 use Rattle.jh_table.specs.Entries.{Listing, the_name, the_value}
 use Rattle.jh_table.specs.Growth.{Extends}
 use Rattle.jh_table.specs.Nodes.{nodes}
-use Rattle.jh_pass.specs.Rewritten.{leaves_alone}
-use Rattle.jh_pass.specs.Substitution.{IsReady}
-use Rattle.jh_pass.specs.Staying.{grown, substituting-stays}
-use Rattle.jh_pass.specs.Walks.{Stays}
+use Rattle.jh_rewrite.specs.Rewritten.{leaves_alone}
+use Rattle.jh_rewrite.specs.Substitution.{IsReady}
+use Rattle.jh_rewrite.specs.Staying.{grown, substituting-stays}
+use Rattle.jh_rewrite.specs.Walks.{Stays}
 use Rattle.jh_several.specs.declared.pairs.Instead.{Instead}
 use Rattle.jh_several.specs.Several.{instead}
 

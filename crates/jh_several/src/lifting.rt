@@ -5,12 +5,12 @@ ghost use Rattle.jh_walk.specs.Sizes.{value_depth};
 ghost use Rattle.jh_table.specs.Entries.{the_value};
 ghost use Rattle.jh_table.specs.Growth.{Extends};
 ghost use Rattle.jh_table.specs.Nodes.{nodes, tree_in};
-ghost use Rattle.jh_pass.specs.Rewritten.{leaves_alone};
-ghost use Rattle.jh_pass.specs.Walks.{IsRewritten};
+ghost use Rattle.jh_rewrite.specs.Rewritten.{leaves_alone};
+ghost use Rattle.jh_rewrite.specs.Walks.{IsRewritten};
 ghost use Rattle.jh_several.specs.Lifted.{lifting, lifting-stays};
 
 use jh_name::NoMemory;
-use jh_pass::{LeafRules, walked};
+use jh_rewrite::{LeafRules, walked};
 use jh_table::{Shape, Table};
 
 /// The rules by which loose bound variables rise.

@@ -5,13 +5,13 @@ ghost use Rattle.jh_walk.specs.Sizes.{value_depth};
 ghost use Rattle.jh_table.specs.Entries.{is_truth, the_truth, the_value};
 ghost use Rattle.jh_table.specs.Growth.{Extends};
 ghost use Rattle.jh_table.specs.Nodes.{nodes, tree_in};
-ghost use Rattle.jh_pass.specs.Rewritten.{leaves_alone};
-ghost use Rattle.jh_pass.specs.Walks.{IsRewritten};
+ghost use Rattle.jh_rewrite.specs.Rewritten.{leaves_alone};
+ghost use Rattle.jh_rewrite.specs.Walks.{IsRewritten};
 ghost use Rattle.jh_several.specs.OpenedAll.{opening_all, opened_all, values_before, terms_closed, are_objects, objects_at};
 ghost use Rattle.jh_several.specs.OpeningStays.{opening_all-stays};
 
 use jh_name::NoMemory;
-use jh_pass::{LeafRules, walked};
+use jh_rewrite::{LeafRules, walked};
 use jh_table::{Shape, Table};
 
 /// The rules by which nodes stand for the variables of several binders.

@@ -3,8 +3,8 @@ ghost use Rattle.jh_tree.specs.Sorts.{tree_sort};
 ghost use Rattle.jh_table.specs.Entries.{the_value};
 ghost use Rattle.jh_table.specs.Growth.{Extends};
 ghost use Rattle.jh_table.specs.Nodes.{nodes};
-ghost use Rattle.jh_pass.specs.Leaf.{free_shape};
-ghost use Rattle.jh_pass.specs.Substitution.{IsReady};
+ghost use Rattle.jh_rewrite.specs.Leaf.{free_shape};
+ghost use Rattle.jh_rewrite.specs.Substitution.{IsReady};
 
 use jh_name::{Name, NoMemory, Sort};
 use jh_table::{Shape, Table};
@@ -19,7 +19,7 @@ pub struct Instead {
 }
 
 /// The shape of a free name of a sort.
-#[tactic(auto, unfolding(jh_pass::specs::Leaf::free_shape))]
+#[tactic(auto, unfolding(jh_rewrite::specs::Leaf::free_shape))]
 fn free_name(name: usize, sort: Sort) -> Shape
     ensures { result ≡ free_shape name sort }
 {

@@ -7,13 +7,13 @@ ghost use Rattle.jh_walk.specs.Sizes.{value_depth};
 ghost use Rattle.jh_table.specs.Entries.{is_truth, the_truth, the_value};
 ghost use Rattle.jh_table.specs.Growth.{Extends};
 ghost use Rattle.jh_table.specs.Nodes.{nodes};
-ghost use Rattle.jh_pass.specs.Rewritten.{leaves_alone};
+ghost use Rattle.jh_rewrite.specs.Rewritten.{leaves_alone};
 ghost use Rattle.jh_several.specs.Pairs.{pairs_in, AreReady, chosen_of, several-stays};
 ghost use Rattle.jh_several.specs.Several.{instead, none_of, all_closed, all_assigned};
 
 use crate::pairs::Instead;
 use jh_name::NoMemory;
-use jh_pass::{LeafRules, walked};
+use jh_rewrite::{LeafRules, walked};
 use jh_table::{Shape, Table};
 
 /// The rules by which each name of a list has a node put for it.

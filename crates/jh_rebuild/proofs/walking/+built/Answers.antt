@@ -4,12 +4,12 @@ use Rattle.jh_table.specs.Growth.{Extends}
 use Rattle.jh_table.specs.Nodes.{nodes, tree_in}
 use Rattle.jh_table.specs.Parts.{parts}
 use Rattle.jh_table.proofs.Listed.{fits-grows, parts-grows, extends-trans}
-use Rattle.jh_pass.proofs.Makings.{still, if-ok}
+use Rattle.jh_rewrite.proofs.Makings.{still, if-ok}
 use Rattle.jh_rebuild.specs.declared.polarity.Polarity.{Polarity}
 use Rattle.jh_rebuild.specs.Walking.{IsBuilt, sign, applied}
 use Rattle.jh_rebuild.proofs.Rebuilds.{Rebuilt}
 use Rattle.jh_rebuild.proofs.Growths.{all-grows, all-step, all-whole, all-length, rebuilt-grown, made-built}
-use Rattle.jh_pass.proofs.Rewritings.{on-ok}
+use Rattle.jh_rewrite.proofs.Rewritings.{on-ok}
 use Rattle.jh_rebuild.specs.Memos.{found}
 use Rattle.jh_rebuild.proofs.Notes.{holds-grows, holds-notes}
 use Rattle.jh_rebuild.proofs.walking.+built.Goals as goal

@@ -4,9 +4,9 @@ use Rattle.jh_tree.specs.Meaning.{Interp, datum}
 use Rattle.jh_walk.specs.Mapped.{mapped_value}
 use Rattle.jh_table.specs.Entries.{the_value}
 use Rattle.jh_table.specs.Nodes.{nodes}
-use Rattle.jh_pass.specs.Rewritten.{leaves_alone, rewritten_value}
-use Rattle.jh_pass.specs.Walks.{KeepsMeaning}
-use Rattle.jh_pass.proofs.Wholes.{value-alone}
+use Rattle.jh_rewrite.specs.Rewritten.{leaves_alone, rewritten_value}
+use Rattle.jh_rewrite.specs.Walks.{KeepsMeaning}
+use Rattle.jh_rewrite.proofs.Wholes.{value-alone}
 use Rattle.jh_several.specs.Lifted.{lifting}
 use Rattle.jh_several.proofs.Liftings.{removed, lifting-keeps, lifting-wholes}
 use Rattle.jh_several.proofs.lifting.lift.Goals as goal

@@ -2,8 +2,8 @@ use Rattle.std.proofs.Common.{◌≡◌, ◌∙◌, ap, refl, ◌+◌, ◌≤◌
 use Rattle.std.proofs.lemmas.Result.{IfOk-weaker}
 use Rattle.jh_table.specs.Nodes.{nodes, fits, tree_in}
 use Rattle.jh_table.specs.declared.shapes.Shape.TheVariants as s
-use Rattle.jh_pass.specs.Rewritten.{leaves_alone}
-use Rattle.jh_pass.specs.Walks.{IsRewritten}
+use Rattle.jh_rewrite.specs.Rewritten.{leaves_alone}
+use Rattle.jh_rewrite.specs.Walks.{IsRewritten}
 use Rattle.jh_several.specs.Lifted.{lifting}
 use Rattle.jh_several.proofs.Liftings.{lifts-below, lifts-loose}
 use Rattle.jh_several.proofs.lifting.risen.Goals as goal

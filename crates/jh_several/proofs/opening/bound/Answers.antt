@@ -4,8 +4,8 @@ use Rattle.jh_tree.specs.Tree.{TermTree}
 use Rattle.jh_table.specs.Entries.{the_object}
 use Rattle.jh_table.specs.Nodes.{nodes, fits, tree_in}
 use Rattle.jh_table.specs.declared.shapes.Shape.TheVariants as s
-use Rattle.jh_pass.specs.Rewritten.{leaves_alone}
-use Rattle.jh_pass.specs.Walks.{IsRewritten}
+use Rattle.jh_rewrite.specs.Rewritten.{leaves_alone}
+use Rattle.jh_rewrite.specs.Walks.{IsRewritten}
 use Rattle.jh_several.specs.OpenedAll.{opening_all, objects_at}
 use Rattle.jh_several.specs.OpeningStays.{objects-grow}
 use Rattle.jh_several.proofs.Openings.{opens-below, opens-at, opens-beyond, object-at, object-there, object-none, object-length, at-place}

@@ -4,8 +4,8 @@ use Rattle.jh_tree.specs.Tree.{of_truth}
 use Rattle.jh_tree.specs.Meaning.{Interp, truth}
 use Rattle.jh_table.specs.Entries.{the_truth, the_value}
 use Rattle.jh_table.specs.Nodes.{nodes}
-use Rattle.jh_pass.specs.Rewritten.{leaves_alone, rewritten_value}
-use Rattle.jh_pass.proofs.Sorted.{truth-within, rewritten-truth}
+use Rattle.jh_rewrite.specs.Rewritten.{leaves_alone, rewritten_value}
+use Rattle.jh_rewrite.proofs.Sorted.{truth-within, rewritten-truth}
 use Rattle.jh_several.specs.OpenedAll.{opening_all, opened_all, objects_at, values_before}
 use Rattle.jh_several.proofs.Openings.{several-opened}
 use Rattle.jh_several.proofs.opening.open_several.Goals as goal

@@ -1,8 +1,8 @@
 use Rattle.std.proofs.Common.{◌∙◌, ap, Some, is_some}
 use Rattle.jh_table.specs.Nodes.{nodes, fits_in, tree_in}
-use Rattle.jh_pass.specs.Leaf.{free_shape}
-use Rattle.jh_pass.proofs.SubstitutionRules.{free-fits}
-use Rattle.jh_pass.proofs.Substituted.{made-ready}
+use Rattle.jh_rewrite.specs.Leaf.{free_shape}
+use Rattle.jh_rewrite.proofs.SubstitutionRules.{free-fits}
+use Rattle.jh_rewrite.proofs.Substituted.{made-ready}
 use Rattle.jh_several.proofs.pairs.replacement.Goals as goal
 
 pub make-requires : goal.make-requires

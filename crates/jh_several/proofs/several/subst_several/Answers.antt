@@ -5,8 +5,8 @@ use Rattle.jh_tree.specs.Meaning.{Interp, truth}
 use Rattle.jh_walk.specs.Mapped.{mapped_formula}
 use Rattle.jh_table.specs.Entries.{the_truth, the_value}
 use Rattle.jh_table.specs.Nodes.{nodes}
-use Rattle.jh_pass.specs.Rewritten.{leaves_alone, rewritten_value}
-use Rattle.jh_pass.proofs.Sorted.{truth-within}
+use Rattle.jh_rewrite.specs.Rewritten.{leaves_alone, rewritten_value}
+use Rattle.jh_rewrite.proofs.Sorted.{truth-within}
 use Rattle.jh_several.specs.Pairs.{pairs_in}
 use Rattle.jh_several.specs.Several.{instead, all_assigned}
 use Rattle.jh_several.proofs.Rules.{several-tree, several-means}

@@ -1,7 +1,7 @@
 use Rattle.std.proofs.Common.{ℕ, sym, subst}
 use Rattle.jh_table.specs.Nodes.{nodes}
-use Rattle.jh_pass.specs.Rewritten.{leaves_alone}
-use Rattle.jh_pass.specs.Walks.{IsRewritten}
+use Rattle.jh_rewrite.specs.Rewritten.{leaves_alone}
+use Rattle.jh_rewrite.specs.Walks.{IsRewritten}
 use Rattle.jh_several.specs.Pairs.{pairs_in}
 use Rattle.jh_several.specs.Several.{instead}
 use Rattle.jh_several.proofs.Leaves.{leaf-put}

@@ -1,4 +1,0 @@
-pub mod BackSteps
-pub mod FieldLists
-pub mod Places
-pub mod Values

@@ -1,3 +1,0 @@
-pub mod DoorSteps
-pub mod Fields
-pub mod Keeping

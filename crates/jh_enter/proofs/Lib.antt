@@ -1,0 +1,3 @@
+pub mod EnterSteps
+pub mod Fields
+pub mod Keeping

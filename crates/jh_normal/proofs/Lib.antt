@@ -1,0 +1,3 @@
+mod Labels
+mod Arms
+mod Normals

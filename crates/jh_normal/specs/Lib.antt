@@ -1,0 +1,4 @@
+pub mod Memos
+pub mod Negating
+pub mod Normal
+pub mod Unlabelling

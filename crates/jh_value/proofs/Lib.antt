@@ -1,0 +1,4 @@
+pub mod ValueSteps
+pub mod FieldLists
+pub mod Places
+pub mod Values

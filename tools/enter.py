@@ -1,0 +1,432 @@
+#!/usr/bin/env python3
+"""Writes the recursion that enters formulas into a table, one arm for each variant, and the steps of its proof."""
+import os
+import sys
+sys.path.insert(0, __file__.rsplit('/', 1)[0])
+from forms import TYPES, ORDER, core, is_part, boxed
+from table import WRAP, camel, names as shape_names
+
+PARAM = {'T': 'term', 'I': 'term', 'S': 'term', 'F': 'field', 'V': 'value', 'P': 'formula'}
+STEPS = {'T': 'object_steps', 'I': 'number_steps', 'S': 'set_steps', 'F': 'field_steps', 'V': 'value_steps', 'P': 'truth_steps'}
+WORD = {'T': 'term', 'I': 'int', 'S': 'set', 'F': 'field', 'V': 'value', 'P': 'formula'}
+
+
+def arm(code, variant, ctor, kinds):
+    rust = TYPES[code][0]
+    word = {'u': 'number', 'n': 'name', 'z': 'number', 'k': 'mark', 'L': 'fields'}
+    parts = iter('abcd')
+    ns = [word[core(k)] if core(k) == 'L' or not is_part(k) else next(parts) for k in kinds]
+    pattern = f"{rust}::{variant}" + (f"({', '.join(ns)})" if ns else '')
+    if code == 'V':
+        return f"        {pattern} => enter_{WORD[core(kinds[0])]}(table, a),\n"
+    lines, args = [], []
+    for k, n in zip(kinds, ns):
+        if is_part(k) and core(k) != 'L':
+            lines.append(f"let {n} = enter_{WORD[core(k)]}(table, {n})?;")
+    for k, n in zip(kinds, ns):
+        if core(k) == 'n':
+            lines.append("let name = table.name(name)?;")
+        elif core(k) == 'k':
+            lines.append("let mark = table.mark(mark)?;")
+        elif core(k) == 'L':
+            lines.append("let fields = enter_fields(table, fields.items())?;")
+    for k, n in zip(kinds, ns):
+        args.append(f"*{n}" if core(k) in 'uz' else n)
+    made = f"table.make(Shape::{camel(ctor)}" + (f"({', '.join(args)})" if args else '') + ")"
+    if not lines:
+        return f"        {pattern} => {made},\n"
+    return f"        {pattern} => {{\n" + ''.join(f"            {l}\n" for l in lines) + f"            {made}\n        }}\n"
+
+
+def code():
+    out = ["""ghost use Rattle.std.specs.Prelude.{◌≡◌, IfOk, Some, slice_get};
+ghost use Rattle.jh_tree.specs.Tree.{of_object, of_number, of_truth, of_set, of_field};
+ghost use Rattle.jh_tree.specs.Bare.{term_tree, int_tree, set_tree, field_tree, value_tree, formula_tree, list_tree};
+ghost use Rattle.jh_table.specs.Growth.{Extends};
+ghost use Rattle.jh_table.specs.Nodes.{nodes};
+ghost use Rattle.jh_enter.specs.Entered.{IsList, IsKept, AreKept};
+
+use jh_name::NoMemory;
+use jh_table::{Shape, Table};
+use jh_tree::{FieldTerm, Formula, IntTerm, SetTerm, Term, Value};
+"""]
+    doc = {'T': 'a term for an object', 'I': 'a term for a number', 'S': 'a term for a set', 'F': 'a field', 'V': 'a value of any sort', 'P': 'a formula'}
+    for c in 'TISFPV':
+        rust, tree, fn, variants = TYPES[c]
+        p = PARAM[c]
+        wanted = f"value_tree {p}.now" if c == 'V' else f"{WRAP[c]} ({fn}_tree {p}.now)"
+        wanted = f"({wanted})"
+        out.append(f"""/// The node of {doc[c]}. Nodes that are new are made, those before stay. Where the tree is listed
+/// already, no node is made.
+#[cycle(entered)]
+#[tactic(auto, using(crate::proofs::EnterSteps::{STEPS[c]}))]
+pub fn enter_{WORD[c]}(table: &mut Table, {p}: &{rust}) -> Result<usize, NoMemory>
+    ensures node {{ IfOk result (λ node. slice_get (nodes table.new) node ≡ Some {wanted}) }}
+    ensures grows {{ Extends table.old table.new }}
+    ensures kept {{ IsKept table.old table.new {wanted} }}
+{{
+    table.parts_come_first();
+    match {p} {{
+""" + ''.join(arm(c, v, ctor, kinds) for v, ctor, kinds in variants) + "    }\n}\n")
+    out.append("""#[cycle(entered)]
+#[tactic(auto, using(crate::proofs::EnterSteps::list_steps))]
+fn enter_fields(table: &mut Table, fields: &[FieldTerm]) -> Result<usize, NoMemory>
+    ensures list { IfOk result (λ number. IsList table.new number (list_tree fields.now)) }
+    ensures grows { Extends table.old table.new }
+    ensures kept { AreKept table.old table.new (list_tree fields.now) }
+{
+    let mut made = Vec::new(table.alloc());
+    for field in fields {
+        let node = enter_field(table, field)?;
+        made.push(node)?;
+    }
+    table.list(made.as_slice())
+}
+""")
+    return '\n'.join(out)
+
+
+def guards():
+    """The calls for others, which ask first how deep the tree nests."""
+    out = ["""// Written by tools/enter.py.
+ghost use Rattle.std.specs.Prelude.{◌≡◌, ◌≤◌, IfOk, Some, slice_get};
+ghost use Rattle.jh_tree.specs.Tree.{of_object, of_number, of_truth, of_set, of_field};
+ghost use Rattle.jh_tree.specs.Bare.{term_tree, int_tree, set_tree, field_tree, value_tree, formula_tree};
+ghost use Rattle.jh_walk.specs.Sizes.{value_depth};
+ghost use Rattle.jh_table.specs.Growth.{Extends};
+ghost use Rattle.jh_table.specs.Nodes.{nodes};
+ghost use Rattle.jh_enter.specs.Entered.{IsKept};
+
+use crate::entering;
+use jh_name::NoMemory;
+use jh_table::{MOST_LEVELS, Table};
+use jh_tree::{FieldTerm, Formula, IntTerm, SetTerm, Term, Value};
+use jh_walk::Walk;
+"""]
+    doc = {'T': 'a term for an object', 'I': 'a term for a number', 'S': 'a term for a set', 'F': 'a field', 'V': 'a value of any sort', 'P': 'a formula'}
+    for c in 'TISFPV':
+        rust, tree, fn, variants = TYPES[c]
+        p = PARAM[c]
+        wanted = f"(value_tree {p}.now)" if c == 'V' else f"({WRAP[c]} ({fn}_tree {p}.now))"
+        out.append(f"""/// The node of {doc[c]}. Nodes that are new are made, those before stay. Where the tree is listed
+/// already, no node is made. The answer is want of memory where the tree nests deeper than MOST_LEVELS, and
+/// nothing is entered then.
+""" + ("#[tactic(auto, using(crate::proofs::EnterSteps::value_steps))]\n" if c == 'V' else '') + f"""pub fn enter{'' if c == 'V' else '_' + WORD[c]}(table: &mut Table, {p}: &{rust}) -> Result<usize, NoMemory>
+    ensures node {{ IfOk result (λ node. slice_get (nodes table.new) node ≡ Some {wanted}) }}
+    ensures shallow {{ IfOk result (λ node. value_depth {wanted} ≤ 10001) }}
+    ensures grows {{ Extends table.old table.new }}
+    ensures kept {{ IsKept table.old table.new {wanted} }}
+{{
+""" + (f"""    match value {{
+""" + ''.join(f"        Value::{v}(a) => enter_{WORD[core(kinds[0])]}(table, a),\n" for v, ctor, kinds in variants) + "    }\n" if c == 'V' else f"""    if {p}.depth() > MOST_LEVELS {{
+        return Err(NoMemory);
+    }}
+    entering::enter_{WORD[c]}(table, {p})
+""") + "}\n")
+    return '\n'.join(out)
+
+
+def steps():
+    uses, rules = [], []
+    shape_rules = []
+    for c in 'TISFPV':
+        rust, tree, fn, variants = TYPES[c]
+        mine = []
+        for v, ctor, kinds in variants:
+            mine.append(f"{fn}_tree-{v}")
+            if c != 'V' and not any(core(k) == 'L' for k in kinds):
+                mine += [f"fits-{camel(ctor)}", f"tree-{camel(ctor)}"]
+                shape_rules += [f"fits-{camel(ctor)}", f"tree-{camel(ctor)}"]
+        if c == 'P':
+            mine += ['fits-listed-Reach', 'tree-listed-Reach', 'fits-listed-Tree', 'tree-listed-Tree']
+        uses += [m for m in mine if '_tree-' in m]
+        rules.append(f"pub ruleset {STEPS[c]} = ({', '.join(mine + ['node-stays', 'extends-trans'])})")
+    return f"""-- What the arms of entering cite, for each sort.
+use Rattle.jh_tree.proofs.Steps.{{{', '.join(uses)}}}
+use Rattle.jh_table.proofs.NodeSteps.{{{', '.join(shape_rules)}}}
+use Rattle.jh_table.proofs.Listed.{{node-stays, extends-trans}}
+use Rattle.jh_enter.proofs.Fields.{{fits-listed-Reach, tree-listed-Reach, fits-listed-Tree, tree-listed-Tree}}
+
+""" + '\n\n'.join(rules) + "\n\npub ruleset list_steps = (node-stays, extends-trans)\n"
+
+
+# the answers that no arm shares
+ANSWERS = """use Rattle.std.proofs.Common.{◌≡◌, rules, refl, ap, sym, ◌∙◌, Some, slice_get, SFits, to_z, of_z, w64}
+use Rattle.std.proofs.lemmas.Int.{to_z-of_z}
+use Rattle.jh_tree.specs.Tree.{FieldTree, ValueTree, of_object, of_number, of_truth, of_set, of_field}
+use Rattle.jh_tree.specs.Tree as tree
+use Rattle.jh_tree.specs.Bare.{term_tree, int_tree, set_tree, field_tree, value_tree, formula_tree, list_tree}
+use Rattle.jh_tree.proofs.Steps.{STEPS}
+use Rattle.jh_walk.specs.Parts as part
+use Rattle.jh_table.specs.declared.shapes.Shape.TheVariants as s
+use Rattle.jh_table.specs.Nodes.{nodes, tree_in}
+use Rattle.jh_table.proofs.Listed.{extends-refl, extends-trans, node-stays}
+use Rattle.jh_table.proofs.NodeSteps.{SHAPES}
+use Rattle.jh_enter.proofs.Fields.{entering-start, entering-step, listed-as, made-as, fits-listed-Reach, tree-listed-Reach, tree-listed-Tree}
+use Rattle.jh_enter.proofs.Keeping.{kept-self, kept-part, kept-fields, kept-pool, kept-made, kept-field}
+use Rattle.jh_enter.proofs.entering.+entered.Goals as goal
+
+pub enter_field-returns-in_ok-c-in-Update-clause-node :
+    goal.enter_field-returns-in_ok-c-in-Update-clause-node
+enter_field-returns-in_ok-c-in-Update-clause-node t c =
+    let last = c.enter_value.new.table in
+    let x = field_tree c.deref.result.now in
+    let y = term_tree c.deref-in-Update.result.now in
+    let z = value_tree c.deref-in-Update-2.result.now in
+    let i = c.in_ok-a-in-Update.a in
+    let j = c.in_ok-b-in-Update.b in
+    let k = c.in_ok-c-in-Update.c in
+    let first : slice_get (nodes c.enter_term.new.table) i ≡ Some (of_field x) = node-stays c.enter_field.new.table c.enter_term.new.table i (of_field x) c.in_ok-b-in-Update.ensures.grows c.in_ok-a-in-Update.ensures.node in
+    let at : slice_get (nodes last) i ≡ Some (of_field x) = node-stays c.enter_term.new.table last i (of_field x) c.in_ok-c-in-Update.ensures.grows first in
+    let bt : slice_get (nodes last) j ≡ Some (of_object y) = node-stays c.enter_term.new.table last j (of_object y) c.in_ok-c-in-Update.ensures.grows c.in_ok-b-in-Update.ensures.node in
+    let whole : field_tree c.args.field.now ≡ tree.update x y z = search (rules, field_tree-Update) in
+    made-as (nodes c.make-in-Update.new.self) c.make-in-Update.result (tree_in last (s.Update i j k)) (of_field (field_tree c.args.field.now))
+    (tree-Update last.pools (nodes last) i j k x y z at bt c.in_ok-c-in-Update.ensures.node ∙ ap (λ f. of_field f) (sym whole)) c.make-in-Update.ensures.node
+
+pub enter_fields-loop-field-init : goal.enter_fields-loop-field-init
+enter_fields-loop-field-init t c = record {
+  grows = extends-refl c.args.table.now;
+  entering = entering-start c.args.table.now c.new-made.result.items (list_tree c.args.fields.now) c.new-made.ensures.items;
+  kept = λ h. refl;
+}
+
+pub enter_fields-returns-in_err-node-clause-kept :
+    goal.enter_fields-returns-in_err-node-clause-kept
+enter_fields-returns-in_err-node-clause-kept t c =
+    kept-field c.args.table.now c.loop-field.table c.enter_field.new.table c.args.fields.now c.loop-field.field-index c.field-item.result c.loop-field.invariant.kept c.in_err-node.ensures.kept
+    c.loop-field-test.true c.field-item.is
+
+pub enter_fields-returns-in_err-push-clause-kept :
+    goal.enter_fields-returns-in_err-push-clause-kept
+enter_fields-returns-in_err-push-clause-kept t c =
+    kept-field c.args.table.now c.loop-field.table c.enter_field.new.table c.args.fields.now c.loop-field.field-index c.field-item.result c.loop-field.invariant.kept c.in_ok-node.ensures.kept
+    c.loop-field-test.true c.field-item.is
+
+pub enter_fields-returns-clause-kept : goal.enter_fields-returns-clause-kept
+enter_fields-returns-clause-kept t c = λ h. c.list.ensures.nodes ∙ c.loop-field.invariant.kept h
+
+pub enter_fields-returns-in_err-node-clause-grows :
+    goal.enter_fields-returns-in_err-node-clause-grows
+enter_fields-returns-in_err-node-clause-grows t c =
+    extends-trans c.args.table.now c.loop-field.table c.enter_field.new.table c.loop-field.invariant.grows c.in_err-node.ensures.grows
+
+pub enter_fields-returns-in_err-push-clause-grows :
+    goal.enter_fields-returns-in_err-push-clause-grows
+enter_fields-returns-in_err-push-clause-grows t c =
+    extends-trans c.args.table.now c.loop-field.table c.enter_field.new.table c.loop-field.invariant.grows c.in_ok-node.ensures.grows
+
+pub enter_fields-loop-field-preserved : goal.enter_fields-loop-field-preserved
+enter_fields-loop-field-preserved t c = record {
+  grows = extends-trans c.args.table.now c.loop-field.table c.enter_field.new.table c.loop-field.invariant.grows c.in_ok-node.ensures.grows;
+  entering =
+      entering-step c.loop-field.table c.enter_field.new.table c.loop-field.made.items c.push.new.self.items c.in_ok-node.node c.args.fields.now c.loop-field.field-index
+      c.field-item.result (list_tree c.args.fields.now) c.loop-field.invariant.entering c.in_ok-node.ensures.grows c.in_ok-node.ensures.node c.in_ok-push.ensures.items
+      c.loop-field-test.true c.field-item.is;
+  kept =
+      kept-field c.args.table.now c.loop-field.table c.enter_field.new.table c.args.fields.now c.loop-field.field-index c.field-item.result c.loop-field.invariant.kept c.in_ok-node.ensures.kept
+      c.loop-field-test.true c.field-item.is;
+}
+
+pub enter_fields-returns-clause-list : goal.enter_fields-returns-clause-list
+enter_fields-returns-clause-list t c =
+    listed-as c.loop-field.table c.list.new.self c.list.result c.loop-field.made.items c.as_slice.result.now c.args.fields.now c.loop-field.field-index (list_tree c.args.fields.now)
+    c.loop-field.invariant.entering c.loop-field-test.false c.list.ensures.nodes c.as_slice.ensures.value c.list.ensures.number
+
+pub enter_fields-returns-clause-grows : goal.enter_fields-returns-clause-grows
+enter_fields-returns-clause-grows t c =
+    extends-trans c.args.table.now c.loop-field.table c.list.new.self c.loop-field.invariant.grows c.list.ensures.grows
+
+pub enter_formula-returns-in_ok-fields-in-Reach-clause-node :
+    goal.enter_formula-returns-in_ok-fields-in-Reach-clause-node
+enter_formula-returns-in_ok-fields-in-Reach-clause-node t c =
+    let last = c.enter_fields.new.table in
+    let fs = list_tree c.items.result.now in
+    let x = term_tree c.in-Reach.a in
+    let y = term_tree c.in-Reach.b in
+    let l = c.in_ok-fields-in-Reach.fields in
+    let i = c.in_ok-a-in-Reach.a in
+    let j = c.in_ok-b-in-Reach.b in
+    let first : slice_get (nodes c.enter_term-in-Reach-2.new.table) i ≡ Some (of_object x) = node-stays c.enter_term-in-Reach.new.table c.enter_term-in-Reach-2.new.table i (of_object x) c.in_ok-b-in-Reach.ensures.grows c.in_ok-a-in-Reach.ensures.node in
+    let at : slice_get (nodes last) i ≡ Some (of_object x) = node-stays c.enter_term-in-Reach-2.new.table last i (of_object x) c.in_ok-fields-in-Reach.ensures.grows first in
+    let bt : slice_get (nodes last) j ≡ Some (of_object y) = node-stays c.enter_term-in-Reach-2.new.table last j (of_object y) c.in_ok-fields-in-Reach.ensures.grows c.in_ok-b-in-Reach.ensures.node in
+    let whole : formula_tree c.args.formula.now ≡ tree.reach fs x y = search (rules, formula_tree-Reach) in
+    made-as (nodes c.make-in-Reach.new.self) c.make-in-Reach.result (tree_in last (s.Reach l i j)) (of_truth (formula_tree c.args.formula.now))
+    (tree-listed-Reach last l i j fs x y c.in_ok-fields-in-Reach.ensures.list at bt ∙ ap (λ f. of_truth f) (sym whole)) c.make-in-Reach.ensures.node
+
+pub enter_formula-returns-in_ok-mark-in-Mark-clause-node :
+    goal.enter_formula-returns-in_ok-mark-in-Mark-clause-node
+enter_formula-returns-in_ok-mark-in-Mark-clause-node t c =
+    let last = c.mark.new.self in
+    let x = formula_tree c.deref-in-Mark.result.now in
+    let i = c.in_ok-a-in-Mark.a in
+    let m = c.in_ok-mark-in-Mark.mark in
+    let at : slice_get (nodes last) i ≡ Some (of_truth x) = node-stays c.enter_formula-in-Mark.new.table last i (of_truth x) c.in_ok-mark-in-Mark.ensures.grows c.in_ok-a-in-Mark.ensures.node in
+    let whole : formula_tree c.args.formula.now ≡ tree.mark c.in-Mark.mark x = search (rules, formula_tree-Mark) in
+    made-as (nodes c.make-in-Mark.new.self) c.make-in-Mark.result (tree_in last (s.Mark m i)) (of_truth (formula_tree c.args.formula.now))
+    (tree-Mark last.pools (nodes last) m i c.in-Mark.mark x c.in_ok-mark-in-Mark.ensures.number at ∙ ap (λ f. of_truth f) (sym whole)) c.make-in-Mark.ensures.node
+
+pub enter_formula-make-requires-in-Reach :
+    goal.enter_formula-make-requires-in-Reach
+enter_formula-make-requires-in-Reach t c =
+    let last = c.enter_fields.new.table in
+    let x = term_tree c.in-Reach.a in
+    let y = term_tree c.in-Reach.b in
+    let i = c.in_ok-a-in-Reach.a in
+    let j = c.in_ok-b-in-Reach.b in
+    let first : slice_get (nodes c.enter_term-in-Reach-2.new.table) i ≡ Some (of_object x) = node-stays c.enter_term-in-Reach.new.table c.enter_term-in-Reach-2.new.table i (of_object x) c.in_ok-b-in-Reach.ensures.grows c.in_ok-a-in-Reach.ensures.node in
+    let at : slice_get (nodes last) i ≡ Some (of_object x) = node-stays c.enter_term-in-Reach-2.new.table last i (of_object x) c.in_ok-fields-in-Reach.ensures.grows first in
+    let bt : slice_get (nodes last) j ≡ Some (of_object y) = node-stays c.enter_term-in-Reach-2.new.table last j (of_object y) c.in_ok-fields-in-Reach.ensures.grows c.in_ok-b-in-Reach.ensures.node in
+    fits-listed-Reach last c.in_ok-fields-in-Reach.fields i j (list_tree c.items.result.now) x y c.in_ok-fields-in-Reach.ensures.list at bt
+"""
+
+
+class Calls:
+    """The names that a function's calls have in its goals: the first one's is the callee's, later ones name their arm."""
+
+    def __init__(self):
+        self.seen = set()
+
+    def name(self, callee, variant):
+        name, count = callee, 1
+        while name in self.seen:
+            name = f"{callee}-in-{variant}" + (f"-{count}" if count > 1 else '')
+            count += 1
+        self.seen.add(name)
+        return f"c.{name}"
+
+
+def wrapped(code, tree):
+    return tree if code == 'V' else f"({WRAP[code]} {tree})"
+
+
+def kept(code, variant, ctor, kinds, calls):
+    """The answers for the clause `kept` in one arm: where each call fails, and where the node is made."""
+    fn, param = TYPES[code][2], PARAM[code]
+    letters, trees, steps = iter('abc'), iter('xyz'), []
+    args = []
+    for k in kinds:
+        if core(k) == 'L':
+            args.append('fs')
+            steps.append((2, 'fields', k, 'fs'))
+        elif is_part(k):
+            args.append(next(trees))
+            steps.append((0, next(letters), k, args[-1]))
+        else:
+            data = {'z': 'number', 'k': 'mark'}[core(k)]
+            args.append(f"c.in-{variant}.{data}")
+            if core(k) == 'k':
+                steps.append((1, 'mark', k, None))
+    steps.sort(key=lambda step: step[0])
+    entered = []
+    for _, word, k, tree in steps:
+        if core(k) == 'k':
+            entered.append((word, k, tree, f"{calls.name('mark', variant)}.new.self", None))
+            continue
+        if core(k) == 'L':
+            at = f"list_tree {calls.name('items', variant)}.result.now"
+            later = f"list_tree c.in-{variant}.fields"
+            table = calls.name('enter_fields', variant)
+        else:
+            at = f"{TYPES[core(k)][2]}_tree " + (f"{calls.name('deref', variant)}.result.now" if boxed(k) else f"c.in-{variant}.{word}")
+            later = f"{TYPES[core(k)][2]}_tree c.in-{variant}.{word}" + ('.value' if boxed(k) else '')
+            table = calls.name(f"enter_{WORD[core(k)]}", variant)
+        entered.append((word, k, tree, f"{table}.new.table", (at, later)))
+    made = calls.name('make', variant)
+    tree_now, built = f"{fn}_tree c.args.{param}.now", ' '.join(['tree.' + ctor] + args)
+    several = sum(1 for k in kinds if is_part(k)) > 1
+
+    def arm_of(ends):
+        """The lines up to the step of this number, which fails, or up to the end."""
+        lines = ["let start = c.args.table.now in", "let law = c.parts_come_first.ensures in"]
+        for i, (word, k, tree, table, words) in enumerate(entered):
+            if tree:
+                lines.append(f"let {tree} = {words[0] if i <= ends else words[1]} in")
+        lines.append(f"let v = {WRAP[code]} ({tree_now}) in")
+        lines.append(f"let w = {WRAP[code]} ({built}) in")
+        lines.append(f"let whole : {tree_now} ≡ {built} = search (rules, {fn}_tree-{variant}) in")
+        lines.append(f"let same : v ≡ w = ap (λ d. {WRAP[code]} d) whole in")
+        last, chain = 'start', "(kept-self start v)"
+        for i, (word, k, tree, table, words) in enumerate(entered[:ends + 1]):
+            result = f"c.in_{'err' if i == ends else 'ok'}-{word}-in-{variant}.ensures"
+            if core(k) == 'k':
+                value = f"kept-pool start {last} {table} v {result}.nodes {chain}"
+            elif core(k) == 'L':
+                value = f"kept-fields start {last} {table} v w fs law same (λ f m. {' '.join([f'part.{ctor}-field', 'f'] + args + ['m'])}) {chain} {result}.kept"
+            else:
+                child = f"part.{ctor}" + (f"-{word}" if several else '')
+                value = f"kept-part start {last} {table} v w {wrapped(core(k), tree)} law same ({' '.join([child] + args)}) {chain} {result}.kept"
+            if i == ends:
+                return lines + [value]
+            lines.append(f"let after_{word} = {value} in")
+            last, chain = table, f"after_{word}"
+        return lines, last, chain
+
+    out = []
+    for i, (word, *_) in enumerate(entered):
+        out.append((f"enter_{WORD[code]}-returns-in_err-{word}-in-{variant}-clause-kept", arm_of(i)))
+    lines, last, chain = arm_of(len(entered))
+    lines.append(f"let last = {last} in")
+    places, trees, proofs, numbers, again = {}, [], [], [], ''
+    for i, (word, k, tree, table, words) in enumerate(entered):
+        ok = f"c.in_ok-{word}-in-{variant}"
+        place = f"{ok}.{word}"
+        if core(k) == 'k':
+            places['k'] = (place, f"c.in-{variant}.mark", f"{ok}.ensures.number")
+        elif core(k) == 'L':
+            places['L'] = (place, tree, f"{ok}.ensures.list")
+        else:
+            value, proof, now = wrapped(core(k), tree), f"{ok}.ensures.node", table
+            for later_word, _, _, later_table, _ in entered[i + 1:]:
+                proof = f"(node-stays {now} {later_table} {place} {value} c.in_ok-{later_word}-in-{variant}.ensures.grows {proof})"
+                now = later_table
+            places[word] = (place, tree, proof)
+    words = iter('abc')
+    for k in kinds:
+        if core(k) == 'z':
+            # the call has the number as it is written to bits and read again
+            lines.append(f"let z = c.in-{variant}.number in")
+            lines.append("let read = to_z w64 (of_z w64 z) in")
+            lines.append("let fits : SFits w64 z = search rules in")
+            numbers.append('read')
+            again = f" ∙ ap (λ d. {WRAP[code]} ({built.replace(f'c.in-{variant}.number', 'd')})) (to_z-of_z w64 z fits)"
+            continue
+        place, tree, proof = places[core(k) if core(k) in 'kL' else next(words)]
+        numbers.append(place)
+        trees.append(tree)
+        proofs.append(proof)
+    listed = any(core(k) == 'L' for k in kinds)
+    lemma = f"tree-listed-{camel(ctor)} last" if listed else f"tree-{camel(ctor)} last.pools (nodes last)"
+    shape = f"(s.{camel(ctor)} {' '.join(numbers)})"
+    lines.append(f"let made : tree_in last {shape} ≡ v = {' '.join([lemma] + numbers + trees + proofs)}{again} ∙ sym same in")
+    lines.append(f"kept-made start last {made}.new.self v {shape} {made}.result made {chain} {made}.ensures.kept")
+    out.append((f"enter_{WORD[code]}-returns-in_ok-{entered[-1][0]}-in-{variant}-clause-kept", lines))
+    return out
+
+
+def answers():
+    arms = [(code, v, ctor, kinds) for code in 'TISFP' for v, ctor, kinds in TYPES[code][3] if any(is_part(k) for k in kinds)]
+    steps = ', '.join(f"{TYPES[code][2]}_tree-{v}" for code, v, _, _ in arms)
+    shapes = ', '.join(f"tree-{camel(ctor)}" for _, _, ctor, kinds in arms if not any(core(k) == 'L' for k in kinds))
+    out = [ANSWERS.replace('STEPS', steps).replace('SHAPES', shapes)]
+    for code in 'TISFP':
+        calls = Calls()
+        for variant, ctor, kinds in TYPES[code][3]:
+            if not any(is_part(k) for k in kinds):
+                calls.name('make', variant)
+                continue
+            for goal, lines in kept(code, variant, ctor, kinds, calls):
+                out.append(f"pub {goal} :\n    goal.{goal}\n{goal} t c =\n" + ''.join(f"    {line}\n" for line in lines))
+    return '\n'.join(out)
+
+
+if __name__ == '__main__':
+    root = sys.argv[1]
+
+    def write(path, text):
+        path = f'{root}/crates/jh_enter/{path}'
+        os.makedirs(os.path.dirname(path), exist_ok=True)
+        open(path, 'w').write(text)
+    write('src/entering.rt', code())
+    write('src/guarded.rt', guards())
+    write('proofs/EnterSteps.antt', steps())
+    write('proofs/entering/+entered/Answers.antt', answers())
