@@ -1,4 +1,4 @@
-use Rattle.std.specs.Prelude.{ℕ, ◌≡◌, ◌==◌, ◌+◌, ◌-◌, ◌^◌, ◌||◌, true, min, List, [], length, Option, Some, Bool, false, is_none, Result, Ok, Err, String, Vec}
+use Rattle.std.specs.Prelude.{ℕ, ◌≡◌, ◌==◌, ◌+◌, ◌-◌, ◌^◌, ◌||◌, true, min, List, [], ◌++◌, length, take, if◌then◌else◌, Option, Some, Bool, false, is_none, Result, Ok, Err, String, Vec}
 use Rattle.std.specs.List.{list_any}
 use Rattle.std.specs.declared.alloc.Global.{Global}
 use Rattle.jh_files.specs.Held.{bytes_of, found}
@@ -36,6 +36,17 @@ pub record FilesStart (files : MemFiles) (entries : List (String Global × Vec �
   pub calls : files.calls ≡ 0
   pub failed : files.failed ≡ 0
 
+-- a count of faults after a call that fails or doesn't, which stays at the greatest number that it can be
+abbrev pub failed_after : Bool → ℕ → ℕ
+failed_after fails failed = if fails then min (failed + 1) (2 ^ 64 - 1) else failed
+
+-- files after a call for a name: they hold what they held, one call more was made, and one more failed where it was to fail
+pub record FilesAfter (old : MemFiles) (name : List ℕ) (new : MemFiles) : Type 0 where
+  pub held : new.held.items ≡ old.held.items
+  pub failing : new.failing.items ≡ old.failing.items
+  pub calls : new.calls ≡ next_call old.calls
+  pub failed : new.failed ≡ failed_after (fails_get old name) old.failed
+
 -- what a sink in memory has taken
 abbrev pub mem_written : MemSink → Option (List ℕ)
 mem_written sink = Some sink.written.items
@@ -59,3 +70,12 @@ pub record SinkStarts (most piece : ℕ) (numbers : List ℕ) (sink : MemSink) :
   pub failing : sink.failing.items ≡ numbers
   pub calls : sink.calls ≡ 0
   pub failed : sink.failed ≡ 0
+
+-- a sink after a put: what it took of the piece was appended, one call more was made, and one more failed where it was to fail
+pub record SinkAfter (old : MemSink) (piece : List ℕ) (new : MemSink) : Type 0 where
+  pub written : new.written.items ≡ (if fails_put old then old.written.items else old.written.items ++ take (piece_len old (length piece)) piece)
+  pub room : new.room ≡ old.room
+  pub each : new.each ≡ old.each
+  pub failing : new.failing.items ≡ old.failing.items
+  pub calls : new.calls ≡ next_call old.calls
+  pub failed : new.failed ≡ failed_after (fails_put old) old.failed

@@ -1,5 +1,8 @@
-ghost use Rattle.std.specs.Prelude.{◌≡◌, ◌≤◌, ◌+◌, ◌⊎◌, ◌<◌, ◌^◌, ◌-◌, ℕ, length, IfOk, None};
-ghost use Rattle.jh_files.specs.Reading.{ReadsWithin};
+ghost use Rattle.std.specs.Prelude.{◌≡◌, ◌≤◌, ◌+◌, ◌⊎◌, ◌<◌, ◌^◌, ◌-◌, ℕ, List, length, take, Option, OnOk, OnErr, IfOk, None};
+ghost use Rattle.std.specs.Io.KnownBytes.{WriteAppends};
+ghost use Rattle.jh_files.specs.Contents.{Appends};
+ghost use Rattle.jh_files.specs.Counts.{Rose};
+ghost use Rattle.jh_files.specs.Reading.{Reads};
 
 use crate::{FileFault, Files, Sink, SinkFailed};
 use std::alloc::{AllocError, Global};
@@ -26,7 +29,7 @@ enum Reading {
 
 /// Reads to the end, and stops where more than `most` bytes came.
 fn read_within<F: Read>(alloc: Global, file: &mut F, most: u64) -> Result<Reading, AllocError>
-    ensures { IfOk result (ReadsWithin most) }
+    ensures { IfOk result (Reads (F.remaining file.old) most) }
 {
     let mut bytes = Vec::new(alloc);
     let mut piece = [0u8; 4096];
@@ -92,7 +95,19 @@ impl<W: Write> Sink for HostSink<W> {
 
     ghost faults = { λ sink. sink.failed };
 
-    fn put(&mut self, bytes: &[u8]) -> Result<usize, SinkFailed> {
+    fn put(&mut self, bytes: &[u8]) -> Result<usize, SinkFailed>
+        requires { 0 < length bytes.now }
+        ensures some { IfOk result (λ taken. 0 < taken) }
+        ensures within { IfOk result (λ taken. taken ≤ length bytes.now) }
+        ensures appends { IfOk result (λ taken. Appends None (take taken bytes.now) None) }
+        ensures failed { OnErr result (Rose self.old.failed self.new.failed) }
+        ensures unchanged { OnErr result (◌≡◌ {A = Option (List ℕ)} None None) }
+        ensures counted { self.old.failed ≤ self.new.failed }
+        ensures no_fault { OnOk result (self.new.failed ≡ self.old.failed) }
+
+        // The writer has just what was taken, where it tells: after a short write that is no more than it took.
+        ensures written { WriteAppends (W.contents self.old.inner) (W.contents self.new.inner) result bytes.now }
+    {
         match self.inner.write(bytes) {
             Ok(count) if count > 0 => Ok(count),
             _ => {

@@ -1,4 +1,4 @@
-ghost use Rattle.std.specs.Prelude.{◌≡◌, ◌+◌, ◌-◌, ◌^◌, ◌≤◌, ◌<◌, ℕ, List, [], length, take, IfOk, IfErr, IfSome, OnErr, None, Some, is_err, if◌then◌else◌, ◌==◌, ◌||◌, vec_len, vec_capacity};
+ghost use Rattle.std.specs.Prelude.{◌≡◌, ◌+◌, ◌-◌, ◌^◌, ◌≤◌, ◌<◌, ℕ, List, [], length, take, IfOk, IfErr, IfSome, OnOk, OnErr, None, Some, is_err, if◌then◌else◌, ◌==◌, ◌||◌, vec_len, vec_capacity};
 ghost use Rattle.std.specs.List.{list_any};
 ghost use Rattle.std.specs.Option.{option_map};
 ghost use Rattle.jh_files.specs.Held.{found};
@@ -60,7 +60,7 @@ impl MemFiles {
 }
 
 impl Files for MemFiles {
-    ghost use Rattle.jh_files.specs.MemShown.{mem_holds, mem_faults, fails_get, is_failed};
+    ghost use Rattle.jh_files.specs.MemShown.{mem_holds, mem_faults, fails_get, is_failed, FilesAfter};
 
     ghost holds = { mem_holds };
 
@@ -77,6 +77,9 @@ impl Files for MemFiles {
 
         // Just the calls that are to fail do.
         ensures exact { is_failed result ≡ fails_get self.old name.now }
+
+        // What the call leaves.
+        ensures after { FilesAfter self.old name.now self.new }
     {
         self.calls = self.calls.saturating_add(1);
         match find_unless(
@@ -141,7 +144,7 @@ impl MemSink {
 }
 
 impl Sink for MemSink {
-    ghost use Rattle.jh_files.specs.MemShown.{mem_written, sink_faults, fails_put, piece_len};
+    ghost use Rattle.jh_files.specs.MemShown.{mem_written, sink_faults, fails_put, piece_len, SinkAfter};
 
     ghost written = { mem_written };
 
@@ -155,10 +158,14 @@ impl Sink for MemSink {
         ensures failed { OnErr result (Rose (sink_faults self.old) (sink_faults self.new)) }
         ensures unchanged { OnErr result (mem_written self.new ≡ mem_written self.old) }
         ensures counted { sink_faults self.old ≤ sink_faults self.new }
+        ensures no_fault { OnOk result (sink_faults self.new ≡ sink_faults self.old) }
 
         // Just the puts that are to fail do, and the others take as much as they may.
         ensures exact { is_err result ≡ fails_put self.old }
         ensures count { IfOk result (λ taken. taken ≡ piece_len self.old (length bytes.now)) }
+
+        // What the put leaves.
+        ensures after { SinkAfter self.old bytes.now self.new }
     {
         self.calls = self.calls.saturating_add(1);
         let free = self.room - self.written.len();

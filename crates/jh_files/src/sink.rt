@@ -21,7 +21,10 @@ pub trait Sink {
         ensures appends { IfOk result (λ taken. Appends (written self.old) (take taken bytes.now) (written self.new)) }
         ensures failed { OnErr result (Rose (faults self.old) (faults self.new)) }
         ensures unchanged { OnErr result (written self.new ≡ written self.old) }
-        ensures counted { faults self.old ≤ faults self.new };
+        ensures counted { faults self.old ≤ faults self.new }
+
+        // Where it takes something, no fault is counted.
+        ensures no_fault { OnOk result (faults self.new ≡ faults self.old) };
 }
 
 /// Puts a whole piece. Where that fails, a front of the piece was taken.
@@ -30,6 +33,7 @@ pub fn put_all<S: Sink>(sink: &mut S, bytes: &[u8]) -> Result<(), SinkFailed>
     ensures front { OnErr result (AppendsFront (S.written sink.old) bytes.now (S.written sink.new)) }
     ensures failed { OnErr result (Rose (S.faults sink.old) (S.faults sink.new)) }
     ensures counted { S.faults sink.old ≤ S.faults sink.new }
+    ensures no_fault { OnOk result (S.faults sink.new ≡ S.faults sink.old) }
 {
     let mut at = 0;
     while at < bytes.len() {

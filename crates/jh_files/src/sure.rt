@@ -1,5 +1,7 @@
-ghost use Rattle.std.specs.Prelude.{◌≡◌, ◌+◌, ◌≤◌, ◌<◌, ℕ, List, [], ◌++◌, length, Some, IfOk, IfSome, vec_len, vec_capacity};
+ghost use Rattle.std.specs.Prelude.{◌≡◌, ◌+◌, ◌-◌, ◌≤◌, ◌<◌, ℕ, List, [], ◌++◌, length, take, Some, IsOk, OnOk, OnErr, IfOk, IfSome, vec_len, vec_capacity};
 ghost use Rattle.jh_files.specs.Held.{bytes_of};
+ghost use Rattle.jh_files.specs.Counts.{Rose};
+ghost use Rattle.jh_files.specs.Contents.{Appends};
 
 use crate::held::{copy_within, find, keep};
 use crate::{FileFault, Files, Sink, SinkFailed};
@@ -52,12 +54,12 @@ pub struct SureSink {
 }
 
 impl SureSink {
-    ghost use Rattle.jh_files.specs.Shown.{sure_written};
+    ghost use Rattle.jh_files.specs.Shown.{sure_written, SureStarts};
 
     /// A sink that keeps at most `room` bytes and takes at most `each` bytes of a piece.
     pub fn of(alloc: Global, room: usize, each: usize) -> Result<SureSink, NoMemory>
         requires { 0 < each }
-        ensures { IfOk result (λ sink. sure_written sink ≡ Some []) }
+        ensures { IfOk result (SureStarts room each) }
     {
         Ok(SureSink {
             written: Vec::with_capacity(alloc, room)?,
@@ -76,13 +78,29 @@ impl SureSink {
 }
 
 impl Sink for SureSink {
-    ghost use Rattle.jh_files.specs.Shown.{sure_written};
+    ghost use Rattle.jh_files.specs.Shown.{sure_written, sure_faults, taken_len, SureAfter};
 
     ghost written = { sure_written };
 
-    ghost faults = { λ _. 0 };
+    ghost faults = { sure_faults };
 
-    fn put(&mut self, bytes: &[u8]) -> Result<usize, SinkFailed> {
+    fn put(&mut self, bytes: &[u8]) -> Result<usize, SinkFailed>
+        requires { 0 < length bytes.now }
+        ensures some { IfOk result (λ taken. 0 < taken) }
+        ensures within { IfOk result (λ taken. taken ≤ length bytes.now) }
+        ensures appends { IfOk result (λ taken. Appends (sure_written self.old) (take taken bytes.now) (sure_written self.new)) }
+        ensures failed { OnErr result (Rose (sure_faults self.old) (sure_faults self.new)) }
+        ensures unchanged { OnErr result (sure_written self.new ≡ sure_written self.old) }
+        ensures counted { sure_faults self.old ≤ sure_faults self.new }
+        ensures no_fault { OnOk result (sure_faults self.new ≡ sure_faults self.old) }
+
+        // No put fails. Each takes as much as it may, and keeps what there is room for.
+        ensures exact { IsOk result }
+        ensures count { IfOk result (λ taken. taken ≡ taken_len self.old (length bytes.now)) }
+
+        // What the put leaves. Only one that found the room full makes the sink go over.
+        ensures after { SureAfter self.old bytes.now self.new }
+    {
         let taken = bytes.len().min(self.each);
         let free = self.room - self.written.len();
         if free == 0 {

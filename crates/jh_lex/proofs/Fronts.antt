@@ -65,7 +65,7 @@ unfolding word_length
 word_starts [] h = absurd (omega arith)
 word_starts (c ∷ cs) h = cond_both (starts_word c) (1 + prefix_len continues_word cs) 0 (λ k. 0 < k → starts_word c ≡ true) (λ e _. e) (λ _ none. absurd (omega (arith, none))) h
 
-word_some : (cs : List ℕ) → is_word cs ≡ true → 0 < length cs
+pub word_some : (cs : List ℕ) → is_word cs ≡ true → 0 < length cs
 word_some [] e = absurd (false≢true e)
 word_some (c ∷ cs) e = omega arith
 
@@ -85,7 +85,7 @@ number_passes cs h =
     some_digits (take n cs) (omega (arith, h, length-take-le n cs (prefix_len-le-length is_ascii_digit cs))) (front_passes is_ascii_digit cs)
 
 -- qualified words
-dot_stops : continues_word 46 ≡ false
+pub dot_stops : continues_word 46 ≡ false
 dot_stops = is_xid_continue-ascii 46 (omega arith)
 
 left_length : (a r : List ℕ) → is_word a ≡ true → word_length (a ++ 46 ∷ r) ≡ length a

@@ -2,8 +2,10 @@ pub mod Behind
 pub mod Counts
 pub mod Digits
 pub mod Fronts
+pub mod Halving
 pub mod Longest
 pub mod Reading
+pub mod Rises
 pub mod Shaped
 pub mod Signs
 pub mod Sources

@@ -1,9 +1,12 @@
 -- What the tokens of each source have, wherever they stand in it.
-use Rattle.std.specs.Prelude.{◌≡◌, ◌≢◌, ℕ, ◌<◌, Bool, true, false, not, ◌&&◌, ◌==◌, List, [], ◌∷◌, ◌++◌, length, codes, pos}
+use Rattle.std.specs.Prelude.{◌≡◌, ◌≢◌, ℕ, ◌<◌, Bool, not, ◌&&◌, ◌==◌, List, [], ◌∷◌, ◌++◌, length, slice_get, slice_index, Some, codes, pos}
 use Rattle.std.specs.List.{AllPass}
 use Rattle.jh_name.specs.declared.naming.Name.{Name}
 use Rattle.jh_name.specs.declared.place.Place.{Place}
+use Rattle.jh_lex.specs.Modes.{mode_at}
 use Rattle.jh_lex.specs.Texts.{token}
+use Rattle.jh_lex.specs.declared.mode.Mode.{Mode}
+use Rattle.jh_lex.specs.declared.mode.Mode.TheVariants as mode
 use Rattle.jh_lex.specs.declared.token.Token.{Token}
 use Rattle.jh_lex.specs.declared.token.TokenKind.{TokenKind}
 use Rattle.jh_lex.specs.declared.token.TokenKind.TheVariants as kind
@@ -12,40 +15,45 @@ use Rattle.jh_lex.specs.declared.token.TokenKind.TheVariants as kind
 abbrev pub is_inside_word : ℕ → Bool
 is_inside_word b = not (b == 32) && (not (b == 10) && not (b == 46))
 
--- a name as a source spells it: turn 0, not empty, and with no space, line feed or dot
+-- the bytes of a word: some, and among them no space, line feed or dot
+pub record IsWordText (text : List ℕ) : Type 0 where
+  pub some : 0 < length text
+  pub plain : AllPass is_inside_word text
+
+-- a name as a source spells it: a word, at turn 0
 pub record IsWordName (x : Name) : Type 0 where
   pub turn : x.turn ≡ 0
-  pub some : 0 < length x.text
-  pub plain : AllPass is_inside_word x.text
+  pub word : IsWordText x.text
 
--- a token in a formula, or outside: `this` is a word in formulas alone, and no number is below 0
-abbrev pub KindFits : Bool → TokenKind → Type 0
-KindFits in_formula (kind.Word x) = IsWordName x × (in_formula ≡ false → x.text ≢ codes "this")
-KindFits in_formula (kind.Qualified x) = x.turn ≡ 0
-KindFits in_formula (kind.Number n) = (k : ℕ) × (n ≡ pos k)
-KindFits in_formula (kind.Symbol x) = Unit {0}
-KindFits in_formula kind.SpecOpen = Unit {0}
-KindFits in_formula kind.SpecClose = Unit {0}
-KindFits in_formula kind.QuoteOpen = Unit {0}
-KindFits in_formula kind.QuoteClose = Unit {0}
-KindFits in_formula kind.End = Unit {0}
+-- a qualified name: two words with a dot between them, at turn 0
+pub record IsQualifiedName (x : Name) : Type 0 where
+  pub turn : x.turn ≡ 0
+  pub left : List ℕ
+  pub right : List ℕ
+  pub left_word : IsWordText left
+  pub right_word : IsWordText right
+  pub parts : x.text ≡ left ++ 46 ∷ right
 
--- whether a formula goes on behind the token
-abbrev pub in_formula_after : Bool → TokenKind → Bool
-in_formula_after in_formula (kind.Word x) = in_formula
-in_formula_after in_formula (kind.Qualified x) = in_formula
-in_formula_after in_formula (kind.Number n) = in_formula
-in_formula_after in_formula (kind.Symbol x) = in_formula
-in_formula_after in_formula kind.SpecOpen = in_formula
-in_formula_after in_formula kind.SpecClose = in_formula
-in_formula_after in_formula kind.QuoteOpen = true
-in_formula_after in_formula kind.QuoteClose = false
-in_formula_after in_formula kind.End = in_formula
+-- no dot stands in a text
+abbrev pub HasNoDot : List ℕ → Type 0
+HasNoDot text = (i : ℕ) → i < length text → slice_index text i ≢ 46
 
--- each token fits where it stands; the first one stands in a formula, or outside
-abbrev pub HasShape : Bool → List Token → Type 0
-HasShape in_formula [] = Unit {0}
-HasShape in_formula (t ∷ ts) = KindFits in_formula t.kind × HasShape (in_formula_after in_formula t.kind) ts
+-- What may stand in a mode. `this` is a word in formulas alone, qualified words stand in specifications and formulas, and no number is
+-- below 0. Specifications open and close in code, and formulas in specifications.
+abbrev pub KindFits : Mode → TokenKind → Type 0
+KindFits m (kind.Word x) = IsWordName x × (m ≢ mode.Formula → x.text ≢ codes "this")
+KindFits m (kind.Qualified x) = IsQualifiedName x × (m ≢ mode.Code)
+KindFits m (kind.Number n) = (k : ℕ) × (n ≡ pos k)
+KindFits m (kind.Symbol x) = Unit {0}
+KindFits m kind.SpecOpen = m ≡ mode.Code
+KindFits m kind.SpecClose = m ≡ mode.Specification
+KindFits m kind.QuoteOpen = m ≡ mode.Specification
+KindFits m kind.QuoteClose = m ≡ mode.Formula
+KindFits m kind.End = m ≡ mode.Code
+
+-- each token fits the mode in which it stands
+abbrev pub HasShape : List Token → Type 0
+HasShape ts = (i : ℕ) (t : Token) → slice_get ts i ≡ Some t → KindFits (mode_at ts i) t.kind
 
 -- the list ends with End
 pub record EndsWithEnd (ts : List Token) : Type 0 where

@@ -1,7 +1,9 @@
-ghost use Rattle.std.specs.Prelude.{◌≡◌, ℕ, false, ◌+◌, ◌<◌, ◌≤◌, ◌^◌, length, take, List, IfOk, IfErr, MatchResult};
+ghost use Rattle.std.specs.Prelude.{◌≡◌, ℕ, ◌+◌, ◌<◌, ◌≤◌, ◌^◌, length, take, List, IfOk, IfErr, MatchResult};
 ghost use Rattle.std.specs.Str.{chars, IsUtf8};
 ghost use Rattle.jh_lex.specs.Places.{start, after};
 ghost use Rattle.jh_lex.specs.Lexes.{Lexes, IsFirstFault};
+ghost use Rattle.jh_lex.specs.Modes.{mode_after_all};
+ghost use Rattle.jh_lex.specs.Rising.{Rises};
 ghost use Rattle.jh_lex.specs.Shapes.{HasShape, EndsWithEnd};
 ghost use Rattle.jh_lex.specs.declared.error.LexError.{LexError};
 ghost use Rattle.jh_lex.specs.declared.token.Token.{Token};
@@ -9,7 +11,7 @@ ghost use Rattle.jh_lex.specs.Reports.{UnlessMemory};
 
 use crate::code::code;
 use crate::cursor::Cursor;
-use crate::{LexError, Token, TokenKind};
+use crate::{LexError, Mode, Token, TokenKind};
 use jh_name::Place;
 use std::alloc::{AllocError, Global};
 use std::str::from_utf8;
@@ -105,9 +107,18 @@ pub fn at_most_one_fault()
         IsFirstFault bytes fault → Lexes bytes all → ⊥ }
 {}
 
-/// The tokens of a source end with `End`. Of them each name has turn 0. A word isn't empty, holds no space, line feed or
-/// dot, and isn't `this` outside formulas. No number is below 0.
+/// Each token of a source fits the mode in which it stands: a specification opens in code, a formula in a specification, and
+/// each ends in the mode that it opened. A word isn't empty, holds no space, line feed or dot, and isn't `this` outside
+/// formulas; a qualified word is two words with a dot between them. All names have turn 0, and no number is below 0. What
+/// was opened is closed, and the last token is `End`.
 pub fn shape_of_tokens()
-    ensures shape { (bytes : List ℕ) (all : List Token) → Lexes bytes all → HasShape false all }
+    ensures shape { (bytes : List ℕ) (all : List Token) → Lexes bytes all → HasShape all }
+    ensures closed { (bytes : List ℕ) (all : List Token) → Lexes bytes all → mode_after_all Mode.Code all ≡ Mode.Code }
     ensures ends { (bytes : List ℕ) (all : List Token) → Lexes bytes all → EndsWithEnd all }
+{}
+
+/// Places rise from token to token of a source, so that no two tokens stand at one place. Only where the end of the source closes
+/// a specification do that end and `End` have one place.
+pub fn places_rise()
+    ensures { (bytes : List ℕ) (all : List Token) → Lexes bytes all → Rises all }
 {}

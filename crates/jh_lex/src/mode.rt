@@ -1,3 +1,8 @@
+ghost use Rattle.std.specs.Prelude.{◌≡◌};
+ghost use Rattle.jh_lex.specs.Modes.{mode_after};
+
+use crate::TokenKind;
+
 /// What kind of text stands at a place. Each mode has signs and reserved words of its own.
 #[derive(Clone, Copy, Debug, PartialEq, Eq, Hash)]
 pub enum Mode {
@@ -7,4 +12,19 @@ pub enum Mode {
     Specification,
     /// The text between two quotes in a specification.
     Formula,
+}
+
+impl Mode {
+    /// The mode of the token after one of this mode.
+    pub fn after(self, kind: &TokenKind) -> Mode
+        ensures { result ≡ mode_after self kind.now }
+    {
+        match kind {
+            TokenKind::SpecOpen => Mode::Specification,
+            TokenKind::SpecClose => Mode::Code,
+            TokenKind::QuoteOpen => Mode::Formula,
+            TokenKind::QuoteClose => Mode::Specification,
+            _ => self,
+        }
+    }
 }

@@ -6,7 +6,8 @@ use Rattle.std.specs.Option.{option_map_or}
 use Rattle.jh_name.specs.declared.place.Place.{Place}
 use Rattle.jh_lex.specs.declared.mode.Mode.{Mode}
 use Rattle.jh_lex.specs.declared.token.Token.{Token}
-use Rattle.jh_nest.specs.Nesting.{nesting, with_token, behind_token, mode_after, is_else, nestings, first_deep}
+use Rattle.jh_lex.specs.Modes.{mode_after}
+use Rattle.jh_nest.specs.Nesting.{nesting, with_token, behind_token, is_else, nestings, first_deep}
 
 -- an index of the first deep one
 pub record Deep (ns : List ℕ) (ts : List Token) (p : Place) : Type 0 where

@@ -11,6 +11,7 @@ use Rattle.jh_lex.specs.declared.mode.Mode.TheVariants as mode
 use Rattle.jh_lex.specs.declared.token.Token.{Token}
 use Rattle.jh_lex.specs.declared.token.TokenKind.{TokenKind}
 use Rattle.jh_lex.specs.declared.token.TokenKind.TheVariants as kind
+use Rattle.jh_lex.specs.Modes.{mode_after}
 use Rattle.jh_lex.specs.Numbers.{symbol_number, kind_number}
 
 -- whether a token is that symbol
@@ -38,14 +39,6 @@ abbrev pub separates : Mode → TokenKind → Bool
 separates mode.Code k = is k symbol.Semicolon || is k symbol.RightBrace || is k symbol.Comma
 separates mode.Specification k = is k symbol.Semicolon || is k symbol.RightBrace
 separates mode.Formula k = false
-
--- the mode of the token behind this one
-abbrev pub mode_after : Mode → TokenKind → Mode
-mode_after m kind.SpecOpen = mode.Specification
-mode_after m kind.SpecClose = mode.Code
-mode_after m kind.QuoteOpen = mode.Formula
-mode_after m kind.QuoteClose = mode.Specification
-mode_after m k = m
 
 -- The counts of the open levels, that of the file first, as far as the token, which is counted itself. The level of the file
 -- never closes.

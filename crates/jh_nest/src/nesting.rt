@@ -102,19 +102,6 @@ fn separates(mode: Mode, kind: &TokenKind) -> bool
     }
 }
 
-/// The mode of the token behind this one.
-fn mode_after(mode: Mode, kind: &TokenKind) -> Mode
-    ensures { result ≡ nest.mode_after mode kind.now }
-{
-    match kind {
-        TokenKind::SpecOpen => Mode::Specification,
-        TokenKind::SpecClose => Mode::Code,
-        TokenKind::QuoteOpen => Mode::Formula,
-        TokenKind::QuoteClose => Mode::Specification,
-        _ => mode,
-    }
-}
-
 /// Takes a token into the counts of the levels.
 #[tactic(auto, unfolding(crate::specs::Nesting::with_token, crate::specs::Nesting::behind_token))]
 fn take_token(mode: Mode, kind: &TokenKind, levels: &mut Vec<u64>) -> Result<(), NoMemory>
@@ -203,7 +190,7 @@ fn first_deep(alloc: Global, tokens: &[Token]) -> Result<Option<Place>, NoMemory
             return Ok(Some(token.place));
         }
         end_token(mode, &token.kind, is_else(tokens, at + 1), &mut levels);
-        mode = mode_after(mode, &token.kind);
+        mode = mode.after(&token.kind);
         at += 1;
     }
     Ok(None)

@@ -2,7 +2,8 @@ use Rattle.std.proofs.Common.{◌≡◌, ◌+◌, ◌≤◌, ◌<◌, ◌∷◌,
 use Rattle.std.specs.Prelude.{nat_lt, if◌then◌else◌, Some}
 use Rattle.jh_lex.specs.declared.mode.Mode.{Mode}
 use Rattle.jh_lex.specs.declared.token.Token.{Token}
-use Rattle.jh_nest.specs.Nesting.{nesting, nestings, first_deep, with_token, behind_token, mode_after, is_else}
+use Rattle.jh_lex.specs.Modes.{mode_after}
+use Rattle.jh_nest.specs.Nesting.{nesting, nestings, first_deep, with_token, behind_token, is_else}
 use Rattle.jh_nest.proofs.Bounds.{with-some, with-few, behind-some, behind-few}
 use Rattle.jh_nest.proofs.nesting.first_deep.Goals as goal
 
@@ -33,7 +34,7 @@ each-preserved c =
     let small : nesting (with_token c.each.mode c.index-tokens-at.result.kind c.each.levels.items) ≤ 64 = omega (arith, counted, c.if-nesting-gt64.false, ap nesting (c.deref.ensures.value ∙ made)) in
     let more : c.end_token.new.levels.items ≡ behind_token c.each.mode c.index-tokens-at.result.kind (is_else (drop (c.each.at + 1) c.args.tokens.now)) (with_token c.each.mode c.index-tokens-at.result.kind c.each.levels.items) = c.end_token.ensures.value ∙ ap (λ b. behind_token c.each.mode c.index-tokens-at.result.kind b c.take_token.new.levels.items) c.is_else.ensures ∙ ap (λ l. behind_token c.each.mode c.index-tokens-at.result.kind (is_else (drop (c.each.at + 1) c.args.tokens.now)) l) made in
     record {
-      whole = rw c.mode_after-mode.ensures (next c.each.mode c.each.levels.items c.end_token.new.levels.items c.args.tokens.now c.each.at c.index-tokens-at.result c.each-test.true c.index-tokens-at.is more small ∙ c.each.invariant.whole);
+      whole = rw c.after-mode.ensures (next c.each.mode c.each.levels.items c.end_token.new.levels.items c.args.tokens.now c.each.at c.index-tokens-at.result c.each-test.true c.index-tokens-at.is more small ∙ c.each.invariant.whole);
       some = rw more (behind-some c.each.mode c.index-tokens-at.result.kind (is_else (drop (c.each.at + 1) c.args.tokens.now)) (with_token c.each.mode c.index-tokens-at.result.kind c.each.levels.items) (with-some c.each.mode c.index-tokens-at.result.kind c.each.levels.items c.each.invariant.some));
       few = rw more (omega (arith, small, behind-few c.each.mode c.index-tokens-at.result.kind (is_else (drop (c.each.at + 1) c.args.tokens.now)) (with_token c.each.mode c.index-tokens-at.result.kind c.each.levels.items) (with-some c.each.mode c.index-tokens-at.result.kind c.each.levels.items c.each.invariant.some)));
       inside = omega (arith, c.each-test.true);
