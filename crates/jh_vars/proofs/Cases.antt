@@ -1,5 +1,5 @@
 -- What small sources read, name, assign and call, by the definitions.
-use Rattle.std.proofs.Common.{◌≡◌, refl, sym, ap, ◌∙◌, ℕ, zero, suc, ◌<◌, pos, Bool, true, false, List, [], ◌∷◌, length, subst, Option, Some, None, codes, arith}
+use Rattle.std.proofs.Common.{◌≡◌, refl, sym, ℕ, zero, suc, ◌<◌, pos, Bool, true, false, List, [], ◌∷◌, length, subst, Option, Some, None, codes, arith}
 use Rattle.std.specs.List.{Contains}
 use Rattle.jh_name.specs.declared.naming.Name.{Name}
 use Rattle.jh_name.specs.declared.place.Place.{Place}

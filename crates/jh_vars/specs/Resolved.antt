@@ -1,12 +1,15 @@
 -- The value of a formula of a source: its names resolved, and what is defined put for each defined variable.
-use Rattle.std.specs.Prelude.{ℕ, ℤ, zero, suc, pos, negsuc, ◌+◌, ◌==◌, nat_lt, Bool, List, [], ◌∷◌, ◌++◌, map, length, Option, Some, None, codes, if◌then◌else◌}
+use Rattle.std.specs.Prelude.{ℕ, ℤ, zero, suc, pos, neg_ℤ, ◌+◌, ◌==◌, nat_lt, Bool, List, [], ◌∷◌, ◌++◌, map, length, Option, Some, None, option_map, codes, if◌then◌else◌}
 use Rattle.std.specs.List.{list_any}
 use Rattle.std.specs.Option.{option_map_or}
 use Rattle.jh_name.specs.declared.naming.Name.{Name}
 use Rattle.jh_name.specs.declared.place.Kind.{Kind}
 use Rattle.jh_name.specs.declared.place.Kind.TheVariants as k
+use Rattle.jh_name.specs.declared.place.Sort as place
+use Rattle.jh_name.specs.declared.place.Sort.TheVariants as Sort
 use Rattle.jh_tree.specs.Tree.{TermTree, IntTree, SetTree, FieldTree, ValueTree, FormulaTree, FieldTrees}
 use Rattle.jh_tree.specs.Tree as t
+use Rattle.jh_tree.specs.Sorts.{tree_sort, same_sort}
 use Rattle.jh_walk.specs.Mapped.{LeafMap, unchanged, mapped_value, mapped_term}
 use Rattle.jh_ast.specs.declared.word.Word.{Word}
 use Rattle.jh_ast.specs.declared.spec.SpecOp.{SpecOp}
@@ -97,35 +100,38 @@ unfoldable pub bound_as : List ℕ → List (List ℕ) → Option ℕ
 bound_as x [] = None
 bound_as x (y ∷ ys) = option_map_or (λ i. Some i) (bound_as x ys) (if same_text y x then Some (length ys) else None)
 
--- equality, by the sort of its left side
+-- equality at a sort
+abbrev pub equal_at : place.Sort → ValueTree → ValueTree → FormulaTree
+equal_at Sort.Obj a b = t.eq_object (as_object a) (as_object b)
+equal_at Sort.Int a b = t.eq_number (as_number a) (as_number b)
+equal_at Sort.Set a b = t.eq_set (as_set a) (as_set b)
+equal_at Sort.Bool a b = t.iff (as_truth a) (as_truth b)
+equal_at Sort.Field a b = t.true_formula
+
+-- equality, at the sort of its left side
 abbrev pub equal : ValueTree → ValueTree → FormulaTree
-equal (t.of_object a) b = t.eq_object a (as_object b)
-equal (t.of_number a) b = t.eq_number a (as_number b)
-equal (t.of_set a) b = t.eq_set a (as_set b)
-equal (t.of_truth a) b = t.iff a (as_truth b)
-equal (t.of_field a) b = t.true_formula
+equal a b = equal_at (tree_sort a) a b
+
+abbrev pub is_of_sets : ValueTree → Bool
+is_of_sets a = same_sort Sort.Set (tree_sort a)
 
 abbrev pub at_most : ValueTree → ValueTree → FormulaTree
-at_most (t.of_set a) b = t.subset a (as_set b)
-at_most a b = t.less_equal (as_number a) (as_number b)
+at_most a b = if is_of_sets a then t.subset (as_set a) (as_set b) else t.less_equal (as_number a) (as_number b)
 
 abbrev pub difference : ValueTree → ValueTree → ValueTree
-difference (t.of_set a) b = t.of_set (t.diff a (as_set b))
-difference a b = t.of_number (t.sub (as_number a) (as_number b))
+difference a b = if is_of_sets a then t.of_set (t.diff (as_set a) (as_set b)) else t.of_number (t.sub (as_number a) (as_number b))
 
 abbrev pub opposite : ValueTree → ValueTree
-opposite (t.of_set a) = t.of_set (t.compl a)
-opposite a = t.of_number (t.neg (as_number a))
+opposite a = if is_of_sets a then t.of_set (t.compl (as_set a)) else t.of_number (t.neg (as_number a))
 
 -- the number of a literal, plain or negated
-abbrev pub minus_number : ℤ → ℤ
-minus_number (pos zero) = pos 0
-minus_number (pos (suc n)) = negsuc n
-minus_number (negsuc n) = pos (suc n)
+unfoldable pub plain_literal : FormTree → Option ℤ
+plain_literal (f.number q z) = Some z
+plain_literal _ = None
 
-abbrev pub literal : FormTree → Option ℤ
+unfoldable pub literal : FormTree → Option ℤ
 literal (f.number q z) = Some z
-literal (f.minus q (f.number r z)) = Some (minus_number z)
+literal (f.minus q a) = option_map neg_ℤ (plain_literal a)
 literal _ = None
 
 abbrev pub scaled : Option ℤ → Option ℤ → ValueTree → ValueTree → ValueTree
@@ -157,54 +163,66 @@ abbrev pub with_single : Option SetTree → TermTree → SetTree
 with_single None a = t.single a
 with_single (Some made) a = t.union made (t.single a)
 
-unfoldable pub quantified : (FormulaTree → FormulaTree) → List Word → FormulaTree → FormulaTree
-quantified q [] a = a
-quantified q (w ∷ ws) a = q (quantified q ws a)
+-- under so many quantifiers
+unfoldable pub quantified : (FormulaTree → FormulaTree) → ℕ → FormulaTree → FormulaTree
+quantified q zero a = a
+quantified q (suc n) a = q (quantified q n a)
 
--- over what is declared, the texts of the classes by their numbers, and what defined variables stand for
+abbrev pub kind_of_local : LocalEntry → Kind
+kind_of_local x = option_map_or kind_of x.ty k.Obj
+
+abbrev pub kind_known : State → Kind
+kind_known x = option_map_or (λ u. u) x.entry.kind k.Obj
+
+-- the state name of a field, static or variable, by the texts of the classes
+abbrev pub state_name : (ℕ → List ℕ) → State → Name
+state_name spelled x = own (spelled x.entry.class ++ codes "." ++ x.name) 0
+
+-- over what is declared, and the texts of the classes by their numbers
+module _ (l : Declared) (spelled : ℕ → List ℕ) where
+  abbrev pub field_name : Spot → Word → Name
+  field_name at w = option_map_or (state_name spelled) (state_named l at.class (text_of w)) (own [] 0)
+
+  unfoldable pub field_list : Spot → List Word → FieldTrees
+  field_list at [] = t.none
+  field_list at (w ∷ ws) = t.more (t.free_field (field_name at w)) (field_list at ws)
+
+  abbrev pub path_fields : Spot → Word → Word → FormTree → FieldTrees
+  path_fields at x y body = option_map_or (field_list at) (equations (text_of x) (text_of y) body) t.none
+
+-- and over what defined variables stand for
 module _ (l : Declared) (spelled : ℕ → List ℕ) (meaning : ℕ → List ℕ → ValueTree) where
-  -- the state name of a field, static or variable
-  abbrev pub state_name : State → Name
-  state_name x = own (spelled x.entry.class ++ codes "." ++ x.name) 0
-
-  abbrev pub kind_known : State → Kind
-  kind_known x = option_map_or (λ u. u) x.entry.kind k.Obj
-
   -- a static, or a defined static variable
   abbrev pub static_value : State → ValueTree
-  static_value x = if x.entry.is_defined then meaning x.entry.class x.name else free (kind_known x) (state_name x)
+  static_value x = if x.entry.is_defined then meaning x.entry.class x.name else free (kind_known x) (state_name spelled x)
 
   -- a member of an object, or what is defined for it
   abbrev pub member_value : State → TermTree → ValueTree
-  member_value x a = if x.entry.is_defined then mapped_value (meaning x.entry.class x.name) (receiving a) 0 else read (kind_known x) (state_name x) a
+  member_value x a = if x.entry.is_defined then mapped_value (meaning x.entry.class x.name) (receiving a) 0 else read (kind_known x) (state_name spelled x) a
 
   abbrev pub state_value : Spot → State → ValueTree
   state_value at x = if x.entry.fixed then static_value x else member_value x (this_at at)
+
+  -- a field, static or variable, or else the set of the objects of a class
+  abbrev pub state_or_class : Spot → Word → ValueTree
+  state_or_class at w = option_map_or (state_value at) (state_spelled l at.class (text_of w)) (t.of_set (t.free_set (own (text_of w) 0)))
 
   abbrev pub outer_value : Spot → Word → ValueTree
   outer_value at w =
       if same_text (text_of w) (codes "this") then t.of_object (this_at at) else
       if same_text (text_of w) (codes "result") then free at.result (own (codes "result") 0) else
       if is_one_of (text_of w) (codes "alloc" ∷ codes "Object" ∷ codes "Object.alloc" ∷ []) then t.of_set (t.free_set (own (codes "alloc") 0)) else
-      option_map_or (state_value at) (state_spelled l at.class (text_of w)) (t.of_set (t.free_set (own (text_of w) 0)))
+      state_or_class at w
+
+  -- a parameter or local, or else what is found outside the method
+  abbrev pub local_value : Spot → Word → ValueTree
+  local_value at w = option_map_or (λ (l : LocalEntry). free (kind_of_local l) (own (text_of w) 0)) (at.local (text_of w)) (outer_value at w)
 
   abbrev pub name_value : Spot → Word → ValueTree
-  name_value at w =
-      option_map_or (λ i. t.of_object (t.bound i)) (bound_as (text_of w) at.bound)
-      (option_map_or (λ (l : LocalEntry). free (option_map_or kind_of l.ty k.Obj) (own (text_of w) 0)) (at.local (text_of w)) (outer_value at w))
-
-  abbrev pub field_name : Spot → Word → Name
-  field_name at w = option_map_or state_name (state_named l at.class (text_of w)) (own [] 0)
-
-  unfoldable pub field_list : Spot → List Word → FieldTrees
-  field_list at [] = t.none
-  field_list at (w ∷ ws) = t.more (t.free_field (field_name at w)) (field_list at ws)
+  name_value at w = option_map_or (λ i. t.of_object (t.bound i)) (bound_as (text_of w) at.bound) (local_value at w)
 
   abbrev pub after_dots : Spot → TermTree → Word → ValueTree
   after_dots at a w = option_map_or (λ x. member_value x a) (state_named l at.class (text_of w)) (t.of_object a)
-
-  abbrev pub path_fields : Spot → Word → Word → FormTree → FieldTrees
-  path_fields at x y body = option_map_or (field_list at) (equations (text_of x) (text_of y) body) t.none
 
   unfoldable mutual
     pub resolved : FormTree → Spot → ValueTree
@@ -221,10 +239,10 @@ module _ (l : Declared) (spelled : ℕ → List ℕ) (meaning : ℕ → List ℕ
     resolved (f.card q a) at = t.of_number (t.card (as_set (resolved a at)))
     resolved (f.binary q o a b) at = binary o (literal a) (resolved a at) (literal b) (resolved b at)
     resolved (f.dvd q z a) at = t.of_truth (t.divides z (as_number (resolved a at)))
-    resolved (f.all q ws a) at = t.of_truth (quantified t.all ws (as_truth (resolved a (under at ws))))
-    resolved (f.ex q ws a) at = t.of_truth (quantified t.ex ws (as_truth (resolved a (under at ws))))
-    resolved (f.tree q ws) at = t.of_truth (t.tree (field_list at ws))
-    resolved (f.rtrancl q x y body a b) at = t.of_truth (t.reach (path_fields at x y body) (as_object (resolved a at)) (as_object (resolved b at)))
+    resolved (f.all q ws a) at = t.of_truth (quantified t.all (length ws) (as_truth (resolved a (under at ws))))
+    resolved (f.ex q ws a) at = t.of_truth (quantified t.ex (length ws) (as_truth (resolved a (under at ws))))
+    resolved (f.tree q ws) at = t.of_truth (t.tree (field_list l spelled at ws))
+    resolved (f.rtrancl q x y body a b) at = t.of_truth (t.reach (path_fields l spelled at x y body) (as_object (resolved a at)) (as_object (resolved b at)))
     resolved (f.braces q fs) at = t.of_set (union_of fs at None)
     resolved (f.compr q w a) at = t.of_set (t.compr (as_truth (resolved a (under at (w ∷ [])))))
 

@@ -1,5 +1,5 @@
 -- The state that a method may write, and the state that it names.
-use Rattle.std.specs.Prelude.{◌≡◌, ◌↔◌, IsTrue, filter, ℕ, ◌+◌, Bool, false, List, [], ◌∷◌, ◌++◌, map, Option, Some, None, is_some, slice_get, codes, if◌then◌else◌}
+use Rattle.std.specs.Prelude.{◌≡◌, ◌↔◌, IsTrue, filter, ℕ, ◌+◌, Bool, false, List, [], ◌∷◌, ◌++◌, map, Option, Some, None, is_some, codes, if◌then◌else◌}
 use Rattle.std.specs.List.{flat_map, Contains}
 use Rattle.std.specs.Option.{option_map_or}
 use Rattle.jh_name.specs.declared.naming.Name.{Name}
