@@ -134,10 +134,15 @@ literal (f.number q z) = Some z
 literal (f.minus q a) = option_map neg_ℤ (plain_literal a)
 literal _ = None
 
+-- a number so many times, or the number itself where no factor is known
+abbrev pub multiple : Option ℤ → ValueTree → ValueTree
+multiple (Some z) a = t.of_number (t.scale z (as_number a))
+multiple None a = t.of_number (as_number a)
+
+-- a product, whose factor is the literal; of two the left one
 abbrev pub scaled : Option ℤ → Option ℤ → ValueTree → ValueTree → ValueTree
-scaled (Some z) y a b = t.of_number (t.scale z (as_number b))
-scaled None (Some z) a b = t.of_number (t.scale z (as_number a))
-scaled None None a b = t.of_number (as_number a)
+scaled (Some z) y a b = multiple (Some z) b
+scaled None y a b = multiple y a
 
 -- two values with an operator between them, each with the number that it is as a literal
 abbrev pub binary : SpecOp → Option ℤ → ValueTree → Option ℤ → ValueTree → ValueTree
