@@ -11,5 +11,6 @@ mod spelling;
 mod spot;
 
 pub use formulas::{form_kind, truth_faults};
+pub use shapes::equation_fields;
 pub use spelling::{field_named, state_named, state_spelled};
 pub use spot::Spot;

@@ -186,18 +186,16 @@ fn gather(
     }
 }
 
-/// The fields of a body of equations over its own two names, where it is one.
-fn body_fields(
+/// The fields of a body of equations of reads of the first name and the second name, joined by `|`, where it
+/// is one.
+pub fn equation_fields(
     alloc: Global,
     first: &Word,
     second: &Word,
     body: &SpecTree,
 ) -> Result<Option<Row<Word>>, NoMemory>
-    ensures { IfOk result (λ fields. fields ≡ parts.body_fields (text_of first.now) (text_of second.now) (form_tree body.now)) }
+    ensures { IfOk result (λ fields. fields ≡ forms.equations (text_of first.now) (text_of second.now) (form_tree body.now)) }
 {
-    if first.text.text() == second.text.text() {
-        return Ok(None);
-    }
     let mut made = Vec::new(alloc);
     let good = gather(
         alloc,
@@ -211,6 +209,21 @@ fn body_fields(
     } else {
         Ok(None)
     }
+}
+
+/// The fields of a body of equations over its own two names, where it is one.
+fn body_fields(
+    alloc: Global,
+    first: &Word,
+    second: &Word,
+    body: &SpecTree,
+) -> Result<Option<Row<Word>>, NoMemory>
+    ensures { IfOk result (λ fields. fields ≡ parts.body_fields (text_of first.now) (text_of second.now) (form_tree body.now)) }
+{
+    if first.text.text() == second.text.text() {
+        return Ok(None);
+    }
+    equation_fields(alloc, first, second, body)
 }
 
 /// What is found of the body of a path.
