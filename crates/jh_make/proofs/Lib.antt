@@ -1,2 +1,3 @@
 mod Steps
 mod Joins
+mod FieldLists

@@ -9,6 +9,7 @@ mod leaves;
 mod lists;
 mod numbers;
 mod objects;
+mod reaches;
 mod sets;
 
 pub use fields::update;
@@ -22,6 +23,7 @@ pub use leaves::{bound, free_field, free_number, free_object, free_set, free_tru
 pub use lists::conjunction_of;
 pub use numbers::{cardinality, constant, difference, multiple, negative, read_number, sum};
 pub use objects::{null, read_object};
+pub use reaches::{forest, reach};
 pub use sets::{
     all_objects, complement, comprehension, empty_set, intersection, read_set, set_difference,
     singleton, union_of,

@@ -1,0 +1,76 @@
+ghost use Rattle.std.specs.Prelude.{◌≡◌, ◌<◌, ◌≤◌, true, Some, IfOk, OnOk, length, slice_get};
+ghost use Rattle.jh_walk.specs.Sizes.{value_depth};
+ghost use Rattle.jh_table.specs.Entries.{the_value};
+ghost use Rattle.jh_table.specs.Growth.{Extends};
+ghost use Rattle.jh_table.specs.Nodes.{nodes, tree_in, fits_in};
+ghost use Rattle.jh_table.specs.Parts.{ArePartsBelow};
+ghost use Rattle.jh_carry.specs.Carried.{IsCarried, HoldsCarried};
+ghost use Rattle.jh_carry.specs.Memos.{found};
+
+use crate::memo::Memo;
+use crate::placing::placed;
+use jh_name::NoMemory;
+use jh_table::{Shape, Table};
+
+/// The answer for a node that was met before, or else that of its shape, which is noted.
+#[cycle(carried)]
+fn carried(from: &Table, into: &mut Table, memo: &mut Memo, node: usize) -> Result<usize, NoMemory>
+    requires inside { node < length (nodes from.now) }
+    requires memo { HoldsCarried (nodes from.now) (nodes into.old) (found memo.old.answers) }
+    ensures node { IfOk result (λ made. IsCarried (nodes from.now) (nodes into.new) node made) }
+    ensures grows { Extends into.old into.new }
+    ensures memo { OnOk result (HoldsCarried (nodes from.now) (nodes into.new) (found memo.new.answers)) }
+{
+    match memo.known(node) {
+        Some(answer) => Ok(answer),
+        None => {
+            let shape = from.shape(node);
+            let answer = carried_parts(from, into, memo, node, shape)?;
+            memo.note(node, answer)?;
+            Ok(answer)
+        }
+    }
+}
+
+/// The shape of a node over the answers for its parts.
+#[cycle(carried)]
+fn carried_parts(
+    from: &Table,
+    into: &mut Table,
+    memo: &mut Memo,
+    node: usize,
+    shape: Shape,
+) -> Result<usize, NoMemory>
+    requires there { slice_get (nodes from.now) node ≡ Some (tree_in from.now shape) }
+    requires fits { fits_in from.now shape ≡ true }
+    requires below { ArePartsBelow node from.now.pools.lists shape }
+    requires memo { HoldsCarried (nodes from.now) (nodes into.old) (found memo.old.answers) }
+    ensures node { IfOk result (λ made. IsCarried (nodes from.now) (nodes into.new) node made) }
+    ensures grows { Extends into.old into.new }
+    ensures memo { OnOk result (HoldsCarried (nodes from.now) (nodes into.new) (found memo.new.answers)) }
+{
+    let mut answers = Vec::new(into.alloc());
+    for index in 0..from.count(shape) {
+        let part = from.part(shape, index);
+        let answer = carried(from, into, memo, part)?;
+        answers.push(answer)?;
+    }
+    let made = placed(from, into, shape, answers.as_slice())?;
+    into.make(made)
+}
+
+/// The node of one table that is the tree of a node of another. What the table held stays in its place, after any
+/// answer. The time is in proportion to the parts, each counted once, however often it stands in the tree. The answer
+/// is want of memory where the tree nests deeper than MOST_LEVELS; no part of it is looked at then.
+pub fn carry(from: &Table, into: &mut Table, node: usize) -> Result<usize, NoMemory>
+    requires inside { node < length (nodes from.now) }
+    ensures tree { IfOk result (λ made. slice_get (nodes into.new) made ≡ slice_get (nodes from.now) node) }
+    ensures shallow { IfOk result (λ made. value_depth (the_value (slice_get (nodes from.now) node)) ≤ 10001) }
+    ensures grows { Extends into.old into.new }
+{
+    if !from.is_shallow(node) {
+        return Err(NoMemory);
+    }
+    let mut memo = Memo::new(into.alloc());
+    carried(from, into, &mut memo, node)
+}

@@ -1,0 +1,3 @@
+mod Collections
+mod Listings
+mod Askings

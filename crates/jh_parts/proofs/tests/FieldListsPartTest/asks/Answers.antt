@@ -1,0 +1,10 @@
+use Rattle.std.proofs.Common.{◌∙◌, slice_get}
+use Rattle.jh_table.specs.Nodes.{nodes, tree_in}
+use Rattle.jh_parts.specs.Asked.{is_field_list}
+use Rattle.jh_parts.proofs.Askings.{field_list-shape, asked-there}
+use Rattle.jh_parts.proofs.tests.FieldListsPartTest.asks.Goals as goal
+
+pub returns : goal.returns
+returns c =
+    asked-there is_field_list (slice_get (nodes c.args.table.now) c.args.node) (tree_in c.args.table.now c.shape.result) c.is_field_list.result c.shape.ensures.tree
+    (c.is_field_list.ensures ∙ field_list-shape c.args.table.now.pools (nodes c.args.table.now) c.shape.result)
