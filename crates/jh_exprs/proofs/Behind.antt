@@ -42,6 +42,9 @@ one-word : (f : List ℕ → Option Place) (v w : Word) (b : Bool) → same_text
 one-word f v w true e = after-earlier (f (text_of v)) v.place w.place ∙ ap (λ x. is_after (f x) w.place || is_before v.place w.place) ((bytes_decides (text_of v) (text_of w)).0 e)
 one-word f v w false e = sym (or-false (is_after (f (text_of w)) w.place))
 
+pub behind-one : (t new : Firsts) (v : Word) → ((x : List ℕ) → first new x ≡ with_word v (first t) x) → (w : Word) → is_behind new w ≡ is_behind t w || (same_text (text_of v) (text_of w) && is_before v.place w.place)
+behind-one t new v h w = ap (λ o. is_after o w.place) (h (text_of w)) ∙ one-word (first t) v w (same_text (text_of v) (text_of w)) refl
+
 abbrev pub Holds : Firsts → ℕ → List Word → Type 0
 Holds t i ws = (w : Word) → is_behind t w || used_before (drop i ws) w ≡ used_before ws w
 

@@ -1,4 +1,4 @@
-mod Lists
+pub mod Lists
 mod Arguments
 mod Results
 mod Changes

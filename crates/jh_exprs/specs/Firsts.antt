@@ -1,5 +1,5 @@
 -- The first place of each name, and which words come behind it.
-use Rattle.std.specs.Prelude.{ℕ, Bool, false, List, Option, Some, None, if◌then◌else◌}
+use Rattle.std.specs.Prelude.{ℕ, ◌&&◌, Bool, false, List, Option, Some, None, if◌then◌else◌}
 use Rattle.indexmap.specs.IndexMap.{get_by_text}
 use Rattle.jh_name.specs.declared.place.Place.{Place}
 use Rattle.jh_ast.specs.declared.word.Word.{Word}
@@ -23,3 +23,7 @@ is_after (Some p) q = is_before p q
 -- a word behind the first place of its name
 abbrev pub is_behind : Firsts → Word → Bool
 is_behind t w = is_after (first t (text_of w)) w.place
+
+-- whether a word has the name of one that stands before it
+abbrev pub is_named_before : Word → Word → Bool
+is_named_before v w = same_text (text_of v) (text_of w) && is_before v.place w.place

@@ -1,4 +1,4 @@
-ghost use Rattle.std.specs.Prelude.{◌≡◌, OnOk, IfOk};
+ghost use Rattle.std.specs.Prelude.{◌≡◌, ◌||◌, false, OnOk, IfOk};
 ghost use Rattle.std.specs.Prelude.{List, ℕ};
 ghost use Rattle.jh_ast.specs.declared.word.Word.{Word};
 ghost use Rattle.jh_rules.specs.Words.{used_before};
@@ -33,6 +33,15 @@ fn earlier(found: Option<Place>, place: Place) -> Place
 }
 
 impl Firsts {
+    /// No names.
+    pub fn new(alloc: Global) -> Firsts
+        ensures { (w : Word) → firsts.is_behind result w ≡ false }
+    {
+        Firsts {
+            places: IndexMap::new(alloc),
+        }
+    }
+
     /// The first place of a name.
     fn first(&self, text: &str) -> Option<Place>
         ensures { result ≡ firsts.first self.now text.now }
@@ -41,8 +50,9 @@ impl Firsts {
     }
 
     /// Takes a word in.
-    fn add(&mut self, alloc: Global, word: &Word) -> Result<(), NoMemory>
-        ensures { OnOk result ((x : List ℕ) → firsts.first self.new x ≡ firsts.with_word word.now (firsts.first self.old) x) }
+    pub fn add(&mut self, alloc: Global, word: &Word) -> Result<(), NoMemory>
+        ensures first { OnOk result ((x : List ℕ) → firsts.first self.new x ≡ firsts.with_word word.now (firsts.first self.old) x) }
+        ensures behind { OnOk result ((w : Word) → firsts.is_behind self.new w ≡ firsts.is_behind self.old w || firsts.is_named_before word.now w) }
     {
         let text = word.text.text();
         let place = earlier(self.first(text), word.place);

@@ -10,5 +10,5 @@ mod scope;
 pub use calls::{call_place, call_type};
 pub use expressions::{as_boolean, class_spelled, expr_type};
 pub use firsts::{Firsts, firsts_of};
-pub use looking::{Lookups, Members};
+pub use looking::{Lookups, Member, MemberEntry, Members, state_in};
 pub use scope::{ScopeTable, Undo, class_type, kind_of_word, type_of};

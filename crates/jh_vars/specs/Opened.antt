@@ -14,7 +14,7 @@ use Rattle.jh_ast.specs.Stmts as s
 use Rattle.jh_ast.specs.Programs.{ProgramTree, ClassPart, VarPart, DefPart, MethodPart}
 use Rattle.jh_rules.specs.Words.{same_text, is_one_of, text_of}
 use Rattle.jh_rules.specs.Names.{declared_in, def_of, kind_of_word}
-use Rattle.jh_vars.specs.States.{State, state_spelled}
+use Rattle.jh_vars.specs.States.{State, class_text, state_spelled}
 use Rattle.jh_rules.specs.Scopes.{Scope, behind, declare_all, outermost, text_behind}
 use Rattle.jh_rules.specs.declared.entries.StateEntry.{StateEntry}
 use Rattle.jh_vars.specs.Resolved.{Spot, own, as_truth, resolved}
@@ -36,14 +36,14 @@ module _ (p : ProgramTree) where
   -- its `this` as the one loose variable.
   unfoldable pub meant : ℕ → ℕ → List ℕ → ValueTree
   meant zero c x = t.of_object t.null
-  meant (suc n) c x = option_map_or (λ (d : DefPart). resolved p (meant n) d.spec.form (outside c (is_of_objects c x))) (def_of p c x) (t.of_object t.null)
+  meant (suc n) c x = option_map_or (λ (d : DefPart). resolved (declared_in p) (class_text p) (meant n) d.spec.form (outside c (is_of_objects c x))) (def_of p c x) (t.of_object t.null)
 
   -- as often as there are variables is enough where none is cyclic
   abbrev pub all_variables : ℕ
   all_variables = sum (map (λ (c : ClassPart). length c.vars) p.classes)
 
   abbrev pub value_at : Spot → FormTree → ValueTree
-  value_at at a = resolved p (meant all_variables) a at
+  value_at at a = resolved (declared_in p) (class_text p) (meant all_variables) a at
 
   -- whether a formula outside methods uses `this`, spelled or not, as it is written
   abbrev pub is_of_object : Option State → Bool
@@ -51,7 +51,7 @@ module _ (p : ProgramTree) where
 
   abbrev pub name_uses : ℕ → List (List ℕ) → Word → Bool
   name_uses n bound w = if is_one_of (text_of w) bound then false else if same_text (text_of w) (codes "this") then true else
-      if is_one_of (text_of w) (codes "result" ∷ codes "alloc" ∷ codes "Object" ∷ codes "Object.alloc" ∷ []) then false else is_of_object (state_spelled p n (text_of w))
+      if is_one_of (text_of w) (codes "result" ∷ codes "alloc" ∷ codes "Object" ∷ codes "Object.alloc" ∷ []) then false else is_of_object (state_spelled (declared_in p) n (text_of w))
 
   unfoldable mutual
     pub uses_this : FormTree → ℕ → List (List ℕ) → Bool

@@ -7,7 +7,7 @@ use Rattle.jh_ast.specs.Forms.{FormTree, FormTrees}
 use Rattle.jh_ast.specs.Forms as f
 use Rattle.jh_ast.specs.Programs.{ProgramTree, ClassPart, VarPart, DefPart}
 use Rattle.jh_rules.specs.Words.{is_one_of, text_of}
-use Rattle.jh_rules.specs.Names.{def_of}
+use Rattle.jh_rules.specs.Names.{declared_in, def_of}
 use Rattle.jh_vars.specs.States.{State, state_spelled, state_named}
 use Rattle.jh_rules.specs.Formulas.{equations}
 
@@ -17,10 +17,10 @@ module _ (p : ProgramTree) where
 
   abbrev pub name_reads : ℕ → List (List ℕ) → Word → List State
   name_reads n bound w =
-      if is_one_of (text_of w) (bound ++ codes "this" ∷ codes "result" ∷ codes "alloc" ∷ codes "Object" ∷ codes "Object.alloc" ∷ []) then [] else some_state (state_spelled p n (text_of w))
+      if is_one_of (text_of w) (bound ++ codes "this" ∷ codes "result" ∷ codes "alloc" ∷ codes "Object" ∷ codes "Object.alloc" ∷ []) then [] else some_state (state_spelled (declared_in p) n (text_of w))
 
   abbrev pub fields_read : ℕ → List Word → List State
-  fields_read n ws = flat_map (λ w. some_state (state_named p n (text_of w))) ws
+  fields_read n ws = flat_map (λ w. some_state (state_named (declared_in p) n (text_of w))) ws
 
   unfoldable mutual
     -- the fields, statics and variables that a formula outside methods reads

@@ -1,5 +1,5 @@
 -- The state that a method may write, and the state that it names.
-use Rattle.std.specs.Prelude.{◌≡◌, ◌↔◌, IsTrue, filter, ℕ, ◌+◌, Bool, false, List, [], ◌∷◌, ◌++◌, map, Option, Some, None, is_some, slice_get, codes, if◌then◌else◌}
+use Rattle.std.specs.Prelude.{◌≡◌, ◌↔◌, IsTrue, filter, ℕ, ◌+◌, Bool, false, List, [], ◌∷◌, ◌++◌, map, Option, Some, None, is_some, codes, if◌then◌else◌}
 use Rattle.std.specs.List.{flat_map, Contains}
 use Rattle.std.specs.Option.{option_map_or}
 use Rattle.jh_name.specs.declared.naming.Name.{Name}
@@ -15,7 +15,7 @@ use Rattle.jh_rules.specs.declared.types.Ty.{Ty}
 use Rattle.jh_rules.specs.Words.{text_of, is_before}
 use Rattle.jh_rules.specs.Kinds.{class_of}
 use Rattle.jh_rules.specs.Names.{MemberPart, method, declared_in, number_of, member_of}
-use Rattle.jh_vars.specs.States.{State, state_spelled, state_named}
+use Rattle.jh_vars.specs.States.{State, class_text, state_spelled, state_named}
 use Rattle.jh_rules.specs.Scopes.{Scope, behind, text_behind, declare_all, outermost}
 use Rattle.jh_vars.specs.Reading.{Reads}
 use Rattle.jh_vars.specs.Resolved.{own}
@@ -57,8 +57,8 @@ module _ (p : ProgramTree) where
   rhs_writes (s.new w) = class_written (number_of p (text_of w))
 
   abbrev pub ghost_writes : Scope → FormTree → List Written
-  ghost_writes at (f.name q w) = some_state (state_spelled p at.class (text_of w))
-  ghost_writes at (f.member q a w) = some_state (state_named p at.class (text_of w))
+  ghost_writes at (f.name q w) = some_state (state_spelled (declared_in p) at.class (text_of w))
+  ghost_writes at (f.member q a w) = some_state (state_named (declared_in p) at.class (text_of w))
   ghost_writes at _ = []
 
   -- the method that a call calls
@@ -126,7 +126,7 @@ module _ (p : ProgramTree) where
 
   unfoldable pub put_in : Word → List Word → List Word
   put_in w [] = w ∷ []
-  put_in w (v ∷ vs) = if is_before w.place v.place then w ∷ v ∷ vs else v ∷ put_in w vs
+  put_in w (v ∷ vs) = if is_before v.place w.place then v ∷ put_in w vs else w ∷ v ∷ vs
 
   unfoldable pub in_order : List Word → List Word
   in_order [] = []
@@ -162,20 +162,17 @@ module _ (p : ProgramTree) where
     through : (named : List State) (x y : State) → Contains named x → Reads p x y → y.entry.is_defined ≡ false → Names named (as_written y)
 
   abbrev pub named_by : ℕ → MethodPart → List State
-  named_by n m = flat_map (λ w. option_map_or (λ x. x ∷ []) (state_named p n (text_of w)) []) m.modifies
+  named_by n m = flat_map (λ w. option_map_or (λ x. x ∷ []) (state_named (declared_in p) n (text_of w)) []) m.modifies
 
   abbrev pub IsModifiedList : ℕ → MethodPart → List Written → Type 0
   IsModifiedList n m result = IsSelected (Names (named_by n m)) result
 
   -- the name of each piece of state
-  abbrev pub class_word : ℕ → List ℕ
-  class_word n = option_map_or (λ (c : ClassPart). text_of c.name) (slice_get p.classes n) []
-
   abbrev pub written_name : Written → Name
   written_name allocated = own (codes "alloc") 0
-  written_name (objects n) = own (class_word n) 0
+  written_name (objects n) = own (class_text p n) 0
   written_name plain_objects = own (codes "Object") 0
-  written_name (state n x) = own (class_word n ++ codes "." ++ x) 0
+  written_name (state n x) = own (class_text p n ++ codes "." ++ x) 0
 
   -- all state names, in their order
   abbrev pub state_names : List Name

@@ -1,0 +1,4 @@
+mod Steps
+mod Halves
+mod Gathering
+mod Repeats

@@ -1,0 +1,2 @@
+pub mod Receivings
+pub mod Entries
