@@ -1,14 +1,13 @@
 -- From what was due and delivered to the clauses of the top call.
 use Rattle.std.proofs.Common.{◌≡◌, ◌≤◌, ◌<◌, ℕ, List, length, ap, sym, ◌∙◌, Bool, true, false, refl, arith, inl, inr}
 use Rattle.std.specs.Prelude.{Option, None, Some, IfSome, ◌⊎◌, if◌then◌else◌, codes}
-use Rattle.jahob.specs.declared.prove.Answer.{Answer}
 use Rattle.jahob.specs.declared.tree.Program.{Program}
 use Rattle.jahob.specs.declared.top.Reply.{Reply}
 use Rattle.jahob.specs.declared.top.Reply.TheVariants as reply
-use Rattle.jahob.specs.Causes.{FilesSeen, SinkSeen, Finding, reported, no_job, refused, file_failed, file_too_long, no_memory, Comes, Due, due, reply_due, Takes, IsTaken, Delivered, Answered, IsExcused, Exact, FitsBytes, FitsFile, Fits, IsFault, fault_text}
+use Rattle.jahob.specs.Causes.{FilesSeen, SinkSeen, Finding, reported, no_job, refused, unbuilt, file_failed, file_too_long, no_memory, Comes, Due, due, reply_due, Takes, IsTaken, Delivered, Answered, IsExcused, Exact, FitsBytes, FitsFile, Fits, IsFault, fault_text}
 use Rattle.jahob.specs.Verify.{Spells, Tells, Reports, Verifies, all_proved, source_limit}
 use Rattle.jahob.specs.Words.{verify_file}
-use Rattle.jahob.proofs.Verifying.{spells-one, reports-verifies}
+use Rattle.jahob.proofs.Verifying.{spells-one, refused-parses, unbuilt-spells, reports-verifies}
 
 -- a status is the one that is due, or 5
 takes-status : (sink : SinkSeen) (text : List ℕ) (d status : ℕ) → Takes sink text d status → (status ≡ d) ⊎ (status ≡ 5)
@@ -30,7 +29,8 @@ reports-of words files out err status (reported p answers) comes delivered low =
       | inr front ↦ not-low 5 status (omega arith) (inr front.0) low
     ]
 reports-of words files out err status no_job comes delivered low = not-low 2 status (omega arith) (takes-status err _ 2 status delivered.0) low
-reports-of words files out err status refused comes delivered low = not-low 3 status (omega arith) (takes-status err _ 3 status delivered.0) low
+reports-of words files out err status (refused n place) comes delivered low = not-low 3 status (omega arith) (takes-status err _ 3 status delivered.0) low
+reports-of words files out err status unbuilt comes delivered low = not-low 3 status (omega arith) (takes-status err _ 3 status delivered.0) low
 reports-of words files out err status (file_failed file) comes delivered low = not-low 4 status (omega arith) (takes-status err _ 4 status delivered.0) low
 reports-of words files out err status (file_too_long file) comes delivered low = not-low 4 status (omega arith) (takes-status err _ 4 status delivered.0) low
 reports-of words files out err status no_memory comes delivered low = not-low 6 status (omega arith) (takes-status err _ 6 status delivered.0) low
@@ -62,7 +62,8 @@ memory-of words files out err status (reported p answers) delivered six =
       | inr front ↦ absurd (omega (arith, front, six))
     ]
 memory-of words files out err status no_job delivered six = delivered.1.written
-memory-of words files out err status refused delivered six = delivered.1.written
+memory-of words files out err status (refused n place) delivered six = delivered.1.written
+memory-of words files out err status unbuilt delivered six = delivered.1.written
 memory-of words files out err status (file_failed file) delivered six = delivered.1.written
 memory-of words files out err status (file_too_long file) delivered six = delivered.1.written
 memory-of words files out err status no_memory delivered six = delivered.1.written
@@ -77,7 +78,8 @@ none-some o file none some = let both : None ≡ Some file = sym none ∙ some i
 usage-of : (words : List (List ℕ)) (files : FilesSeen) (out err : SinkSeen) (status : ℕ) (o : Finding) → Comes words files o → Delivered (due o) out err status → verify_file words ≡ None → (status ≡ 2) ⊎ (status ≡ 5)
 usage-of words files out err status (reported p answers) comes delivered none = none-some (verify_file words) comes.0.file none comes.0.asked
 usage-of words files out err status no_job comes delivered none = takes-status err _ 2 status delivered.0
-usage-of words files out err status refused comes delivered none = none-some (verify_file words) comes.file none comes.asked
+usage-of words files out err status (refused n place) comes delivered none = none-some (verify_file words) comes.file none comes.asked
+usage-of words files out err status unbuilt comes delivered none = none-some (verify_file words) comes.file none comes.asked
 usage-of words files out err status (file_failed file) comes delivered none = none-some (verify_file words) file none comes.0
 usage-of words files out err status (file_too_long file) comes delivered none = none-some (verify_file words) file none comes.0
 usage-of words files out err status no_memory comes delivered none = none-some (verify_file words) comes.0 none comes.1
@@ -118,7 +120,11 @@ too_long-of words files out err status (reported p answers) comes delivered file
     let within : length bytes ≤ source_limit = rw (sym same) comes.0.within in
     absurd (omega (arith, within, long))
 too_long-of words files out err status no_job comes delivered file bytes asked held long = none-some (verify_file words) file comes asked
-too_long-of words files out err status refused comes delivered file bytes asked held long =
+too_long-of words files out err status (refused n place) comes delivered file bytes asked held long =
+    let same : comes.bytes ≡ bytes = told-bytes words files.holds file bytes comes.file comes.bytes asked held comes.asked comes.told in
+    let within : length bytes ≤ source_limit = rw (sym same) comes.within in
+    absurd (omega (arith, within, long))
+too_long-of words files out err status unbuilt comes delivered file bytes asked held long =
     let same : comes.bytes ≡ bytes = told-bytes words files.holds file bytes comes.file comes.bytes asked held comes.asked comes.told in
     let within : length bytes ≤ source_limit = rw (sym same) comes.within in
     absurd (omega (arith, within, long))
@@ -137,13 +143,15 @@ not-long words files file bytes other asked held comes =
     let is : files.holds other ≡ Some bytes = ap files.holds same ∙ held in
     longer (files.holds other) bytes is comes.1
 
+-- a file whose bytes are as short as a source may be, and why its bytes spell no program: the status is 3, or it is excused
 refused-of : (words : List (List ℕ)) (files : FilesSeen) (out err : SinkSeen) (status : ℕ) (o : Finding) → Comes words files o → Delivered (due o) out err status
     → (file bytes : List ℕ) → verify_file words ≡ Some file → files.holds file ≡ Some bytes → length bytes ≤ source_limit → ((p : Program) → Spells bytes p → ⊥) → (status ≡ 3) ⊎ IsExcused files file status
 refused-of words files out err status (reported p answers) comes delivered file bytes asked held short none =
     let same : comes.0.bytes ≡ bytes = told-bytes words files.holds file bytes comes.0.file comes.0.bytes asked held comes.0.asked comes.0.told in
     absurd (none p (rw (sym same) comes.0.spelled))
 refused-of words files out err status no_job comes delivered file bytes asked held short none = none-some (verify_file words) file comes asked
-refused-of words files out err status refused comes delivered file bytes asked held short none = due-or files err _ file 3 status delivered.0
+refused-of words files out err status (refused n place) comes delivered file bytes asked held short none = due-or files err _ file 3 status delivered.0
+refused-of words files out err status unbuilt comes delivered file bytes asked held short none = due-or files err _ file 3 status delivered.0
 refused-of words files out err status (file_failed other) comes delivered file bytes asked held short none = inr (excused-failed words files err _ file other status asked comes delivered.0)
 refused-of words files out err status (file_too_long other) comes delivered file bytes asked held short none =
     let long : source_limit < length bytes = not-long words files file bytes other asked held comes in
@@ -163,9 +171,12 @@ reported-of words files out err status (reported q answers) comes delivered file
       | inr five ↦ inr (inr (inr (inl five)))
     ]
 reported-of words files out err status no_job comes delivered file bytes p asked held short spells = none-some (verify_file words) file comes asked
-reported-of words files out err status refused comes delivered file bytes p asked held short spells =
+reported-of words files out err status (refused n place) comes delivered file bytes p asked held short spells =
     let same : comes.bytes ≡ bytes = told-bytes words files.holds file bytes comes.file comes.bytes asked held comes.asked comes.told in
-    absurd (comes.none_spelled p (rw same spells))
+    absurd (refused-parses bytes n place spells.tree (rw (sym same) comes.why) spells.parsed)
+reported-of words files out err status unbuilt comes delivered file bytes p asked held short spells =
+    let same : comes.bytes ≡ bytes = told-bytes words files.holds file bytes comes.file comes.bytes asked held comes.asked comes.told in
+    absurd (unbuilt-spells bytes p (rw (sym same) comes.why) spells)
 reported-of words files out err status (file_failed other) comes delivered file bytes p asked held short spells = inr (inr (excused-failed words files err _ file other status asked comes delivered.0))
 reported-of words files out err status (file_too_long other) comes delivered file bytes p asked held short spells =
     let long : source_limit < length bytes = not-long words files file bytes other asked held comes in
@@ -176,7 +187,8 @@ pub answered-exact : (words : List (List ℕ)) (files : FilesSeen) (out err : Si
 answered-exact words files out err status a = record {
   usage = usage-of words files out err status a.finding a.comes a.delivered;
   too_long = too_long-of words files out err status a.finding a.comes a.delivered;
-  refused = refused-of words files out err status a.finding a.comes a.delivered;
+  refused = λ file bytes n place asked held short why. refused-of words files out err status a.finding a.comes a.delivered file bytes asked held short (λ p spells. refused-parses bytes n place spells.tree why spells.parsed);
+  unbuilt = λ file bytes asked held short why. refused-of words files out err status a.finding a.comes a.delivered file bytes asked held short (λ p spells. unbuilt-spells bytes p why spells);
   reported = reported-of words files out err status a.finding a.comes a.delivered;
 }
 
@@ -188,9 +200,14 @@ read-fits words files file bytes (reply.Report text accepted) asked told short f
   is_due = λ i. record { status = if sym fits.2.accepted_is i then 0 else 1; on_out = true; text = sym fits.2.text_is i };
 }
 read-fits words files file bytes reply.Usage asked told short fits = absurd fits
-read-fits words files file bytes reply.Refused asked told short fits = record {
-  finding = refused;
-  comes = record { file = file; bytes = bytes; asked = asked; told = told; within = short; none_spelled = fits };
+read-fits words files file bytes (reply.Refused text) asked told short fits = record {
+  finding = refused fits.0 fits.1;
+  comes = record { file = file; bytes = bytes; asked = asked; told = told; within = short; why = fits.2 };
+  is_due = λ i. record { status = 3; on_out = false; text = sym fits.3 i };
+}
+read-fits words files file bytes reply.Unbuilt asked told short fits = record {
+  finding = unbuilt;
+  comes = record { file = file; bytes = bytes; asked = asked; told = told; within = short; why = fits };
   is_due = refl;
 }
 read-fits words files file bytes (reply.Fault text) asked told short fits = absurd fits
@@ -200,7 +217,8 @@ read-fits words files file bytes reply.NoMemory asked told short fits = record {
 fault-fits : (words : List (List ℕ)) (files : FilesSeen) (file kind : List ℕ) (o : Finding) (answer : Reply) → verify_file words ≡ Some file → IsFault kind file answer → due o ≡ record { status = 4; on_out = false; text = fault_text kind file } → Comes words files o → Fits words files answer
 fault-fits words files file kind o (reply.Report text accepted) asked fits is comes = absurd fits
 fault-fits words files file kind o reply.Usage asked fits is comes = absurd fits
-fault-fits words files file kind o reply.Refused asked fits is comes = absurd fits
+fault-fits words files file kind o (reply.Refused text) asked fits is comes = absurd fits
+fault-fits words files file kind o reply.Unbuilt asked fits is comes = absurd fits
 fault-fits words files file kind o (reply.Fault text) asked fits is comes = record {
   finding = o;
   comes = comes;

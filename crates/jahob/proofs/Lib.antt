@@ -1,7 +1,5 @@
-pub mod Cutting
-pub mod Cuts
 pub mod Refusals
-pub mod Readings
+pub mod Collecting
 pub mod Commands
 pub mod Splitting
 pub mod Exactness

@@ -1,8 +1,8 @@
 -- What a reader's refusal says.
 use Rattle.std.proofs.Common.{◌≡◌}
 use Rattle.std.specs.Prelude.{Option, None, Err}
-use Rattle.jahob.specs.declared.token.ReadError.{ReadError}
-use Rattle.jahob.specs.declared.token.ReadError.TheVariants.{Refused, Memory}
+use Rattle.jahob.specs.declared.error.ReadError.{ReadError}
+use Rattle.jahob.specs.declared.error.ReadError.TheVariants.{Refused, Memory}
 use Rattle.jahob.specs.Reads.{Gives}
 
 -- where it refuses, nothing is there

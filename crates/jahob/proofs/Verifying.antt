@@ -1,42 +1,71 @@
 -- From what was read and answered to the headline.
-use Rattle.std.proofs.Common.{◌≡◌, ℕ, List, ap, sym, ◌∙◌, Bool, true, false, refl, arith}
-use Rattle.std.specs.Prelude.{Option, None, Some, if◌then◌else◌}
-use Rattle.jahob.specs.declared.token.Token.{Token}
+use Rattle.std.proofs.Common.{◌≡◌, ◌<◌, ◌≤◌, ℕ, List, length, ap, sym, subst, ◌∙◌, Bool, true, false, refl, arith}
+use Rattle.std.specs.Prelude.{Option, Some, Err, if◌then◌else◌}
+use Rattle.jh_ast.specs.Programs.{ProgramTree}
+use Rattle.jh_lex.specs.declared.error.LexError.{LexError}
+use Rattle.jh_lex.specs.declared.token.Token.{Token}
+use Rattle.jh_lex.specs.Lexes.{Lexes, IsFirstFault}
+use Rattle.jh_lex.specs.Reports.{UnlessMemory}
+use Rattle.jh_lex.proofs.Unique.{one_list, fault_or_list}
+use Rattle.jh_name.specs.declared.place.Place.{Place}
+use Rattle.jh_nest.specs.Nesting.{nesting_at}
+use Rattle.jh_parse.specs.Members.{Spells as Spelled}
+use Rattle.jh_parse.specs.Parsed.{ParsedProgram}
+use Rattle.jh_spec.specs.declared.error.ParseError.{ParseError}
+use Rattle.jh_spec.specs.declared.error.ParseError.TheVariants as parse
+use Rattle.jh_parse.proofs.MemberComplete.{at_most_one_program}
 use Rattle.jahob.specs.declared.tree.Program.{Program}
-use Rattle.jahob.specs.declared.lexing.Mode.TheVariants.{Code}
-use Rattle.jahob.specs.Lexing.{Lexes}
-use Rattle.jahob.specs.Reading.{program_of}
-use Rattle.jahob.specs.Checked.{is_sound}
 use Rattle.jahob.specs.Obligations.{sequents_of}
+use Rattle.jahob.specs.Refusals.{Parses, RefusedAt, not_utf8, bad_char, open_comment, open_quote, too_wide, syntax, too_deep, IsUnbuilt}
+use Rattle.jahob.specs.Subset.{program_of}
 use Rattle.jahob.specs.Verify.{Spells, Reports, Verifies, all_proved}
-use Rattle.jahob.proofs.Cuts.{cuts-one}
 use Rattle.jahob.proofs.Rights.{proved-valid}
 use Rattle.jahob.proofs.Soundness.{valid_sound}
 
-lexes-one : (bytes : List ℕ) (ts us : List Token) → Lexes bytes ts → Lexes bytes us → ts ≡ us
-lexes-one bytes ts us p q = cuts-one Code (record { line = 1; column = 1 }) bytes ts us p q
+-- bytes spell one tree at most
+parses-one : (bytes : List ℕ) (t u : ProgramTree) → Parses bytes t → Parses bytes u → t ≡ u
+parses-one bytes t u p q = at_most_one_program q.tokens t u (subst (λ ts. Spelled ts t) (one_list bytes p.tokens q.tokens p.cut q.cut) p.spelled) q.spelled
+
+-- what is read from one tree is read from the other
+tree-is : (bytes : List ℕ) (t u : ProgramTree) (p : Program) → Parses bytes t → Parses bytes u → program_of t ≡ Some p → program_of u ≡ Some p
+tree-is bytes t u p first second is = ap program_of (parses-one bytes u t second first) ∙ is
 
 -- bytes spell one program at most
 pub spells-one : (bytes : List ℕ) (p q : Program) → Spells bytes p → Spells bytes q → p ≡ q
 spells-one bytes p q first second =
-    let same : first.tokens ≡ second.tokens = lexes-one bytes first.tokens second.tokens first.cut second.cut in
-    let left : program_of second.tokens ≡ Some p = ap program_of (sym same) ∙ first.spelled in
-    let both : Some p ≡ Some q = sym left ∙ second.spelled in
+    let left : program_of second.tree ≡ Some p = tree-is bytes first.tree second.tree p first.parsed second.parsed first.is in
+    let both : Some p ≡ Some q = sym left ∙ second.is in
     cc
 
--- what is spelled is what was read from the tokens
-pub spelled-read : (bytes : List ℕ) (ts : List Token) (p : Program) → Lexes bytes ts → Spells bytes p → program_of ts ≡ Some p
-spelled-read bytes ts p lexes spells = ap program_of (lexes-one bytes ts spells.tokens lexes spells.cut) ∙ spells.spelled
+-- bytes that spell a tree that is no program spell none
+pub unbuilt-spells : (bytes : List ℕ) (p : Program) → IsUnbuilt bytes → Spells bytes p → ⊥
+unbuilt-spells bytes p left spells = left.none p (tree-is bytes spells.tree left.tree p spells.parsed left.parsed spells.is) spells.named
 
--- the program that was read is the one that is spelled
-pub spelled-named : (bytes : List ℕ) (ts : List Token) (p q : Program) → Lexes bytes ts → program_of ts ≡ Some p → Spells bytes q → is_sound p ≡ false → ⊥
-spelled-named bytes ts p q lexes read spells named =
-    let there : program_of ts ≡ Some q = spelled-read bytes ts q lexes spells in
-    let both : Some p ≡ Some q = sym read ∙ there in
-    let same : p ≡ q = cc in
-    let fact : is_sound p ≡ true = ap is_sound same ∙ spells.named in
-    let wrong : true ≡ false = sym fact ∙ named in
-    cc
+-- bytes that are refused spell no tree
+pub refused-parses : (bytes : List ℕ) (n : ℕ) (place : Place) (t : ProgramTree) → RefusedAt bytes n place → Parses bytes t → ⊥
+refused-parses bytes n place t (not_utf8 f) p = fault_or_list bytes _ p.tokens f p.cut
+refused-parses bytes n place t (bad_char f) p = fault_or_list bytes _ p.tokens f p.cut
+refused-parses bytes n place t (open_comment f) p = fault_or_list bytes _ p.tokens f p.cut
+refused-parses bytes n place t (open_quote f) p = fault_or_list bytes _ p.tokens f p.cut
+refused-parses bytes n place t (too_wide f) p = fault_or_list bytes _ p.tokens f p.cut
+refused-parses bytes n place t (syntax {ts = ts} cut shallow none start) p = none t (subst (λ us. Spelled us t) (one_list bytes p.tokens ts p.cut cut) p.spelled)
+refused-parses bytes n place t (too_deep {ts = ts} cut deep) p = shallow-deep (p.shallow deep.index (subst (λ us. deep.index < length us) (sym same) deep.within)) (subst (λ us. 64 < nesting_at us deep.index) (sym same) deep.deep) where
+  same : p.tokens ≡ ts
+  same = one_list bytes p.tokens ts p.cut cut
+
+  shallow-deep : {n : ℕ} → n ≤ 64 → 64 < n → ⊥
+  shallow-deep low high = omega (arith, low, high)
+
+-- why tokens that spell no program are refused
+pub syntax-why : (bytes : List ℕ) (ts us : List Token) (e : ParseError) (p : Place) → us ≡ ts → Lexes bytes ts → ParsedProgram us (Err e) → e ≡ parse.Syntax p → RefusedAt bytes 6 p
+syntax-why bytes ts us e p same cut parsed is = let why : ParsedProgram us (Err (parse.Syntax p)) = subst (λ d. ParsedProgram us (Err d)) is parsed in syntax (subst (λ l. Lexes bytes l) (sym same) cut) why.0 why.1 why.2
+
+pub deep-why : (bytes : List ℕ) (ts us : List Token) (e : ParseError) (p : Place) → us ≡ ts → Lexes bytes ts → ParsedProgram us (Err e) → e ≡ parse.TooDeep p → RefusedAt bytes 7 p
+deep-why bytes ts us e p same cut parsed is = let why : ParsedProgram us (Err (parse.TooDeep p)) = subst (λ d. ParsedProgram us (Err d)) is parsed in too_deep (subst (λ l. Lexes bytes l) (sym same) cut) why
+
+-- a fault of the text
+pub fault-is : (bytes : List ℕ) (e d : LexError) → e ≡ d → UnlessMemory e (IsFirstFault bytes e) → UnlessMemory d (IsFirstFault bytes d)
+fault-is bytes e d is fault = subst (λ x. UnlessMemory x (IsFirstFault bytes x)) is fault
 
 -- only accepted has status 0
 accepted-by : (b : Bool) → ◌≡◌ {A = ℕ} (if b then 0 else 1) 0 → b ≡ true
@@ -50,7 +79,3 @@ reports-verifies words holds before after status report zero = record {
   read = report.read;
   sound = valid_sound report.program (proved-valid (sequents_of report.program) report.answers report.right (accepted-by (all_proved report.answers) (sym report.status_is ∙ zero)));
 }
-
--- where the program of tokens isn't there, nothing is spelled
-pub none-spelled : (bytes : List ℕ) (ts : List Token) (p : Program) → Lexes bytes ts → program_of ts ≡ None → Spells bytes p → ⊥
-none-spelled bytes ts p lexes none spells = let both : None ≡ Some p = sym none ∙ spelled-read bytes ts p lexes spells in cc

@@ -1,5 +1,6 @@
 -- What each call of the program answers, and why.
 use Rattle.std.specs.Prelude.{ℕ, ◌≡◌, ◌<◌, ◌≤◌, ◌++◌, ◌⊎◌, Bool, true, false, List, [], ◌∷◌, length, codes, if◌then◌else◌, Option, None, Some, IfSome, string_bytes}
+use Rattle.std.specs.Fmt.{decimal}
 use Rattle.jh_files.specs.Contents.{Appends, AppendsFront}
 use Rattle.jh_files.specs.Counts.{Rose}
 use Rattle.jahob.specs.declared.prove.Answer.{Answer}
@@ -9,7 +10,9 @@ use Rattle.jahob.specs.declared.top.Reply.TheVariants as reply
 use Rattle.jahob.specs.Sequents.{AllRight}
 use Rattle.jahob.specs.Obligations.{sequents_of}
 use Rattle.jahob.specs.Report.{report_of}
-use Rattle.jahob.specs.Verify.{Spells, Tells, IsRead, IsRefused, IsReport, all_proved, source_limit}
+use Rattle.jahob.specs.Refusals.{RefusedAt, IsUnbuilt}
+use Rattle.jh_name.specs.declared.place.Place.{Place}
+use Rattle.jahob.specs.Verify.{Spells, Tells, IsRead, IsRefused, IsLeft, IsReport, all_proved, source_limit}
 use Rattle.jahob.specs.Words.{verify_file}
 
 -- What there is to see of the files over a call: what they hold, and for each name how many calls had
@@ -31,7 +34,8 @@ pub record SinkSeen : Type 0 where
 pub data Finding : Type 0 where
   reported : Program → List Answer → Finding
   no_job : Finding
-  refused : Finding
+  refused : ℕ → Place → Finding
+  unbuilt : Finding
   file_failed : List ℕ → Finding
   file_too_long : List ℕ → Finding
   no_memory : Finding
@@ -41,7 +45,8 @@ pub data Finding : Type 0 where
 abbrev pub Comes : List (List ℕ) → FilesSeen → Finding → Type 0
 Comes words files (reported p answers) = IsRead words files.holds p × AllRight (sequents_of p) answers
 Comes words files no_job = verify_file words ≡ None
-Comes words files refused = IsRefused words files.holds
+Comes words files (refused number place) = IsRefused words files.holds number place
+Comes words files unbuilt = IsLeft words files.holds
 Comes words files (file_failed file) = (verify_file words ≡ Some file) × Rose (files.before file) (files.after file)
 Comes words files (file_too_long file) = (verify_file words ≡ Some file) × IfSome (files.holds file) (λ held. source_limit < length held)
 Comes words files no_memory = (file : List ℕ) × (verify_file words ≡ Some file)
@@ -55,8 +60,12 @@ pub record Due : Type 0 where
 abbrev pub usage_text : List ℕ
 usage_text = codes "usage: jahob verify FILE" ++ 10 ∷ []
 
-abbrev pub refused_text : List ℕ
-refused_text = codes "refused 13" ++ 10 ∷ []
+-- the line for a source that is refused with a number, at a place
+abbrev pub refused_text : ℕ → Place → List ℕ
+refused_text number place = codes "refused " ++ (decimal number ++ (codes " at " ++ (decimal place.line ++ (codes ":" ++ (decimal place.column ++ 10 ∷ [])))))
+
+abbrev pub unbuilt_text : List ℕ
+unbuilt_text = codes "refused 13" ++ 10 ∷ []
 
 -- the text for a file that fails in some way
 abbrev pub fault_text : List ℕ → List ℕ → List ℕ
@@ -68,7 +77,8 @@ no_memory_text = codes "no memory" ++ 10 ∷ []
 abbrev pub due : Finding → Due
 due (reported p answers) = record { status = if all_proved answers then 0 else 1; on_out = true; text = report_of p (sequents_of p) answers }
 due no_job = record { status = 2; on_out = false; text = usage_text }
-due refused = record { status = 3; on_out = false; text = refused_text }
+due (refused number place) = record { status = 3; on_out = false; text = refused_text number place }
+due unbuilt = record { status = 3; on_out = false; text = unbuilt_text }
 due (file_failed file) = record { status = 4; on_out = false; text = fault_text (codes "failed") file }
 due (file_too_long file) = record { status = 4; on_out = false; text = fault_text (codes "too long") file }
 due no_memory = record { status = 6; on_out = false; text = no_memory_text }
@@ -105,26 +115,47 @@ abbrev pub IsExcused : FilesSeen → List ℕ → ℕ → Type 0
 IsExcused files file status = ((status ≡ 4) × Rose (files.before file) (files.after file)) ⊎ (status ≡ 5) ⊎ (status ≡ 6)
 
 -- The answers by their conditions. Without a job it is usage. Else, for what the file holds where it tells: 4
--- where it is too long, 3 where it spells no program, and 0 or 1 where it spells one.
+-- where it is too long, 3 where it is refused or spells a tree that isn't verified so far, and 0 or 1 where it spells a program.
 pub record Exact (words : List (List ℕ)) (files : FilesSeen) (status : ℕ) : Type 0 where
   pub usage : verify_file words ≡ None → (status ≡ 2) ⊎ (status ≡ 5)
   pub too_long : (file bytes : List ℕ) → verify_file words ≡ Some file → files.holds file ≡ Some bytes → source_limit < length bytes → (status ≡ 4) ⊎ IsExcused files file status
-  pub refused : (file bytes : List ℕ) → verify_file words ≡ Some file → files.holds file ≡ Some bytes → length bytes ≤ source_limit → ((p : Program) → Spells bytes p → ⊥) → (status ≡ 3) ⊎ IsExcused files file status
+  pub refused : (file bytes : List ℕ) (number : ℕ) (place : Place) → verify_file words ≡ Some file → files.holds file ≡ Some bytes → length bytes ≤ source_limit → RefusedAt bytes number place → (status ≡ 3) ⊎ IsExcused files file status
+  pub unbuilt : (file bytes : List ℕ) → verify_file words ≡ Some file → files.holds file ≡ Some bytes → length bytes ≤ source_limit → IsUnbuilt bytes → (status ≡ 3) ⊎ IsExcused files file status
   pub reported : (file bytes : List ℕ) (p : Program) → verify_file words ≡ Some file → files.holds file ≡ Some bytes → length bytes ≤ source_limit → Spells bytes p → (status ≡ 0) ⊎ (status ≡ 1) ⊎ IsExcused files file status
 
 -- what is due for a reply
 abbrev pub reply_due : Reply → Due
 reply_due (reply.Report text accepted) = record { status = if accepted then 0 else 1; on_out = true; text = string_bytes text }
 reply_due reply.Usage = record { status = 2; on_out = false; text = usage_text }
-reply_due reply.Refused = record { status = 3; on_out = false; text = refused_text }
+reply_due (reply.Refused text) = record { status = 3; on_out = false; text = string_bytes text }
+reply_due reply.Unbuilt = record { status = 3; on_out = false; text = unbuilt_text }
 reply_due (reply.Fault text) = record { status = 4; on_out = false; text = string_bytes text }
 reply_due reply.NoMemory = record { status = 6; on_out = false; text = no_memory_text }
+
+-- a reply is the report on a program, or want of memory
+abbrev pub IsReply : Program → Reply → Type 0
+IsReply p (reply.Report text accepted) = IsReport p (string_bytes text) accepted
+IsReply p reply.Usage = ⊥
+IsReply p (reply.Refused text) = ⊥
+IsReply p reply.Unbuilt = ⊥
+IsReply p (reply.Fault text) = ⊥
+IsReply p reply.NoMemory = Unit {0}
+
+-- a reply says that a source is refused with a number, at a place, or is want of memory
+abbrev pub IsRefusal : ℕ → Place → Reply → Type 0
+IsRefusal number place (reply.Report text accepted) = ⊥
+IsRefusal number place reply.Usage = ⊥
+IsRefusal number place (reply.Refused text) = string_bytes text ≡ refused_text number place
+IsRefusal number place reply.Unbuilt = ⊥
+IsRefusal number place (reply.Fault text) = ⊥
+IsRefusal number place reply.NoMemory = Unit {0}
 
 -- A reply is right for the bytes of a source.
 abbrev pub FitsBytes : List ℕ → Reply → Type 0
 FitsBytes bytes (reply.Report text accepted) = (p : Program) × Spells bytes p × IsReport p (string_bytes text) accepted
 FitsBytes bytes reply.Usage = ⊥
-FitsBytes bytes reply.Refused = (p : Program) → Spells bytes p → ⊥
+FitsBytes bytes (reply.Refused text) = (number : ℕ) × (place : Place) × RefusedAt bytes number place × (string_bytes text ≡ refused_text number place)
+FitsBytes bytes reply.Unbuilt = IsUnbuilt bytes
 FitsBytes bytes (reply.Fault text) = ⊥
 FitsBytes bytes reply.NoMemory = Unit {0}
 
@@ -132,7 +163,8 @@ FitsBytes bytes reply.NoMemory = Unit {0}
 abbrev pub IsFault : List ℕ → List ℕ → Reply → Type 0
 IsFault kind file (reply.Report text accepted) = ⊥
 IsFault kind file reply.Usage = ⊥
-IsFault kind file reply.Refused = ⊥
+IsFault kind file (reply.Refused text) = ⊥
+IsFault kind file reply.Unbuilt = ⊥
 IsFault kind file (reply.Fault text) = string_bytes text ≡ fault_text kind file
 IsFault kind file reply.NoMemory = Unit {0}
 

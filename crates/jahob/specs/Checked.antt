@@ -1,5 +1,7 @@
 -- Which programs are well named.
-use Rattle.std.specs.Prelude.{◌&&◌, not, Bool, true, false, List, [], ◌∷◌, length, nat_le, Option, None, Some, count_by}
+use Rattle.std.specs.Prelude.{ℕ, ◌&&◌, not, Bool, true, false, List, [], ◌∷◌, length, nat_le, nat_eq, codes, Option, None, Some}
+use Rattle.std.specs.Char.{is_ascii}
+use Rattle.std.specs.Cmp.Lexicographic.{pointwise}
 use Rattle.std.specs.List.{list_all, list_any}
 use Rattle.jh_name.specs.declared.naming.Name.{Name}
 use Rattle.jh_name.specs.Names.{same_name}
@@ -12,8 +14,6 @@ use Rattle.jahob.specs.declared.tree.Stmt.{Stmt}
 use Rattle.jahob.specs.declared.tree.Method.{Method}
 use Rattle.jahob.specs.declared.tree.Member.{Member}
 use Rattle.jahob.specs.declared.tree.Member.TheVariants as member
-use Rattle.jahob.specs.declared.tree.Modifier.{Modifier}
-use Rattle.jahob.specs.declared.tree.Modifier.TheVariants as modifier
 use Rattle.jahob.specs.declared.tree.Program.{Program}
 
 abbrev pub declared_name : Member → Name
@@ -65,24 +65,25 @@ abbrev pub sound_member : List Member → Member → Bool
 sound_member members (member.Static word) = true
 sound_member members (member.Method method) = sound_method members method
 
-abbrev pub is_public : Modifier → Bool
-is_public modifier.Public = true
-is_public modifier.Final = false
-is_public (modifier.ClaimedBy word) = false
+-- The words that name nothing of a program: those reserved in code, in specifications or in formulas, and the names to which
+-- the language gives a meaning.
+unfoldable pub reserved : List (List ℕ)
+reserved =
+    codes "class" ∷ codes "public" ∷ codes "private" ∷ codes "protected" ∷ codes "static" ∷ codes "final" ∷ codes "void" ∷ codes "int" ∷ codes "boolean"
+    ∷ codes "null" ∷ codes "true" ∷ codes "false" ∷ codes "this" ∷ codes "if" ∷ codes "else" ∷ codes "while" ∷ codes "return" ∷ codes "new"
+    ∷ codes "specvar" ∷ codes "ghost" ∷ codes "vardefs" ∷ codes "invariant" ∷ codes "requires" ∷ codes "modifies" ∷ codes "ensures" ∷ codes "inv"
+    ∷ codes "assert" ∷ codes "note" ∷ codes "from" ∷ codes "claimedby"
+    ∷ codes "ALL" ∷ codes "EX" ∷ codes "old" ∷ codes "card" ∷ codes "tree" ∷ codes "rtrancl_pt" ∷ codes "Un" ∷ codes "Int" ∷ codes "dvd"
+    ∷ codes "UNIV" ∷ codes "True" ∷ codes "False"
+    ∷ codes "Object" ∷ codes "result" ∷ codes "alloc" ∷ []
 
-abbrev pub is_final : Modifier → Bool
-is_final modifier.Public = false
-is_final modifier.Final = true
-is_final (modifier.ClaimedBy word) = false
+unfoldable pub is_reserved : List ℕ → Bool
+is_reserved text = list_any (λ word. pointwise nat_eq word text) reserved
 
-abbrev pub sound_modifier : List Member → Modifier → Bool
-sound_modifier members modifier.Public = true
-sound_modifier members modifier.Final = true
-sound_modifier members (modifier.ClaimedBy word) = names_static members word
+-- a name is of ASCII alone, and isn't reserved
+unfoldable pub is_free : Name → Bool
+is_free name = list_all is_ascii name.text && not (is_reserved name.text)
 
--- Names are declared once, each word in a body or a specification names a static, no modifier stands
--- twice, and nothing is longer than it may be.
-unfoldable pub is_sound : Program → Bool
-is_sound p =
-    are_distinct p.name.name p.members && nat_le (count_by is_public p.modifiers) 1 && nat_le (count_by is_final p.modifiers) 1
-    && list_all (sound_modifier p.members) p.modifiers && list_all (sound_member p.members) p.members
+-- Names are free and declared once, each word in a body or a specification names a static, and nothing is longer than it may be.
+unfoldable pub is_well_named : Program → Bool
+is_well_named p = is_free p.name.name && list_all (λ m. is_free (declared_name m)) p.members && are_distinct p.name.name p.members && list_all (sound_member p.members) p.members

@@ -1,8 +1,7 @@
-pub mod Lexing
 pub mod Reads
-pub mod First
-pub mod Reading
+pub mod Subset
 pub mod Checked
+pub mod Refusals
 pub mod Words
 pub mod Command
 pub mod Wp

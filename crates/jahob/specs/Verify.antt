@@ -3,23 +3,24 @@ use Rattle.std.specs.List.{list_all}
 use Rattle.std.specs.Prelude.{not, ℕ, ◌≡◌, ◌≤◌, Bool, true, List, length, if◌then◌else◌, Option, Some, IfSome}
 use Rattle.jh_files.specs.Contents.{Appends}
 use Rattle.jahob.specs.declared.prove.Answer.{Answer}
-use Rattle.jahob.specs.declared.token.Token.{Token}
 use Rattle.jahob.specs.declared.tree.Program.{Program}
-use Rattle.jahob.specs.Lexing.{Lexes}
-use Rattle.jahob.specs.Reading.{program_of}
-use Rattle.jahob.specs.Checked.{is_sound}
+use Rattle.jh_ast.specs.Programs.{ProgramTree}
+use Rattle.jh_name.specs.declared.place.Place.{Place}
+use Rattle.jahob.specs.Checked.{is_well_named}
+use Rattle.jahob.specs.Refusals.{Parses, RefusedAt, IsUnbuilt}
+use Rattle.jahob.specs.Subset.{program_of}
 use Rattle.jahob.specs.Words.{verify_file}
 use Rattle.jahob.specs.Sequents.{AllRight}
 use Rattle.jahob.specs.Obligations.{sequents_of}
 use Rattle.jahob.specs.Report.{report_of, is_unproved}
 use Rattle.jahob.specs.Sound.{Sound}
 
--- Bytes spell a program: they are cut into tokens that spell it, and it is well named.
+-- Bytes spell a program: they spell a tree, which is a program of those that are verified so far, and it is well named.
 pub record Spells (bytes : List ℕ) (p : Program) : Type 0 where
-  pub tokens : List Token
-  pub cut : Lexes bytes tokens
-  pub spelled : program_of tokens ≡ Some p
-  pub named : is_sound p ≡ true
+  pub tree : ProgramTree
+  pub parsed : Parses bytes tree
+  pub is : program_of tree ≡ Some p
+  pub named : is_well_named p ≡ true
 
 -- the most bytes that a source may have
 abbrev pub source_limit : ℕ
@@ -50,14 +51,23 @@ pub record IsRead (words : List (List ℕ)) (holds : List ℕ → Option (List �
   pub spelled : Spells bytes p
   pub only : (q : Program) → Spells bytes q → q ≡ p
 
--- The words ask for a file, whose bytes spell no program.
-pub record IsRefused (words : List (List ℕ)) (holds : List ℕ → Option (List ℕ)) : Type 0 where
+-- The words ask for a file, whose bytes are refused with a number, at a place.
+pub record IsRefused (words : List (List ℕ)) (holds : List ℕ → Option (List ℕ)) (number : ℕ) (place : Place) : Type 0 where
   pub file : List ℕ
   pub bytes : List ℕ
   pub asked : verify_file words ≡ Some file
   pub told : Tells (holds file) bytes
   pub within : length bytes ≤ source_limit
-  pub none_spelled : (p : Program) → Spells bytes p → ⊥
+  pub why : RefusedAt bytes number place
+
+-- The words ask for a file, whose bytes spell a tree that is no program of those that are verified so far.
+pub record IsLeft (words : List (List ℕ)) (holds : List ℕ → Option (List ℕ)) : Type 0 where
+  pub file : List ℕ
+  pub bytes : List ℕ
+  pub asked : verify_file words ≡ Some file
+  pub told : Tells (holds file) bytes
+  pub within : length bytes ≤ source_limit
+  pub why : IsUnbuilt bytes
 
 -- The headline: the words ask for a file whose bytes spell one program, and that program is sound.
 pub record Verifies (words : List (List ℕ)) (holds : List ℕ → Option (List ℕ)) : Type 0 where

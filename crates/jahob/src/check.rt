@@ -1,9 +1,11 @@
 //! Which programs are well named.
-ghost use Rattle.std.specs.Prelude.{◌≡◌, count_by};
-ghost use Rattle.std.specs.List.{list_all};
+ghost use Rattle.std.specs.Prelude.{◌≡◌, nat_eq};
+ghost use Rattle.std.specs.Cmp.Lexicographic.{pointwise};
+ghost use Rattle.std.specs.Char.{is_ascii};
+ghost use Rattle.std.specs.List.{list_all, list_any};
 ghost use Rattle.jahob.specs.Checked as checked;
 
-use crate::tree::{Comparison, Member, Method, Modifier, Operand, Program, Spec, Stmt, Word};
+use crate::tree::{Comparison, Member, Method, Operand, Program, Spec, Stmt, Word};
 use jh_name::Name;
 
 /// The most statements of a body.
@@ -150,65 +152,98 @@ fn are_sound_members(members: &[Member], all: &[Member]) -> bool
     all.iter().all(|member| is_sound_member(members, member))
 }
 
-fn is_public(modifier: &Modifier) -> bool
-    ensures { result ≡ checked.is_public modifier.now }
+/// The words that name nothing: those reserved in code, in specifications and in formulas, and the names to which the language
+/// gives a meaning.
+const RESERVED: [&str; 45] = [
+    "class",
+    "public",
+    "private",
+    "protected",
+    "static",
+    "final",
+    "void",
+    "int",
+    "boolean",
+    "null",
+    "true",
+    "false",
+    "this",
+    "if",
+    "else",
+    "while",
+    "return",
+    "new",
+    "specvar",
+    "ghost",
+    "vardefs",
+    "invariant",
+    "requires",
+    "modifies",
+    "ensures",
+    "inv",
+    "assert",
+    "note",
+    "from",
+    "claimedby",
+    "ALL",
+    "EX",
+    "old",
+    "card",
+    "tree",
+    "rtrancl_pt",
+    "Un",
+    "Int",
+    "dvd",
+    "UNIV",
+    "True",
+    "False",
+    "Object",
+    "result",
+    "alloc",
+];
+
+fn is_among(words: &[&str], text: &str) -> bool
+    ensures { result ≡ list_any (λ word. pointwise nat_eq word.now text.now) words.now }
 {
-    matches!(modifier, Modifier::Public)
+    words.iter().any(|word| *word == text)
 }
 
-fn is_final(modifier: &Modifier) -> bool
-    ensures { result ≡ checked.is_final modifier.now }
+#[tactic(auto, unfolding(crate::specs::Checked::is_reserved, crate::specs::Checked::reserved))]
+fn is_reserved(text: &str) -> bool
+    ensures { result ≡ checked.is_reserved text.now }
 {
-    matches!(modifier, Modifier::Final)
+    is_among(&RESERVED, text)
 }
 
-fn count_public(modifiers: &[Modifier]) -> usize
-    ensures { result ≡ count_by checked.is_public modifiers.now }
+fn is_ascii(text: &[u8]) -> bool
+    ensures { result ≡ list_all is_ascii text.now }
 {
-    modifiers
-        .iter()
-        .filter(|modifier| is_public(modifier))
-        .count()
+    text.iter().all(|byte| byte.is_ascii())
 }
 
-fn count_final(modifiers: &[Modifier]) -> usize
-    ensures { result ≡ count_by checked.is_final modifiers.now }
+/// Whether a name is of ASCII alone, and isn't reserved.
+#[tactic(auto, unfolding(crate::specs::Checked::is_free))]
+fn is_free(name: &Name) -> bool
+    ensures { result ≡ checked.is_free name.now }
 {
-    modifiers
-        .iter()
-        .filter(|modifier| is_final(modifier))
-        .count()
+    is_ascii(name.text().as_bytes()) && !is_reserved(name.text())
 }
 
-fn is_sound_modifier(members: &[Member], modifier: &Modifier) -> bool
-    ensures { result ≡ checked.sound_modifier members.now modifier.now }
+fn are_free(members: &[Member]) -> bool
+    ensures { result ≡ list_all (λ m. checked.is_free (checked.declared_name m)) members.now }
 {
-    match modifier {
-        Modifier::Public => true,
-        Modifier::Final => true,
-        Modifier::ClaimedBy(word) => names_static(members, word),
-    }
+    members.iter().all(|member| is_free(declared_name(member)))
 }
 
-fn are_sound_modifiers(members: &[Member], modifiers: &[Modifier]) -> bool
-    ensures { result ≡ list_all (checked.sound_modifier members.now) modifiers.now }
-{
-    modifiers
-        .iter()
-        .all(|modifier| is_sound_modifier(members, modifier))
-}
-
-/// Whether the names of a program are declared once, each word in a body or a specification names a
-/// static, no modifier stands twice, and nothing is longer than it may be.
-#[tactic(auto, unfolding(crate::specs::Checked::is_sound))]
-pub fn is_sound(program: &Program) -> bool
-    ensures { result ≡ checked.is_sound program.now }
+/// Whether the names of a program are free and declared once, each word in a body or a specification names a static, and nothing
+/// is longer than it may be.
+#[tactic(auto, unfolding(crate::specs::Checked::is_well_named))]
+pub fn is_well_named(program: &Program) -> bool
+    ensures { result ≡ checked.is_well_named program.now }
 {
     let members = program.members.items();
-    let modifiers = program.modifiers.items();
-    are_distinct(&program.name.name, members)
-        && count_public(modifiers) <= 1
-        && count_final(modifiers) <= 1
-        && are_sound_modifiers(members, modifiers)
+    is_free(&program.name.name)
+        && are_free(members)
+        && are_distinct(&program.name.name, members)
         && are_sound_members(members, members)
 }

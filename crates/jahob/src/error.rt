@@ -1,43 +1,10 @@
-use jh_name::{NoMemory, Place, Text};
+use jh_name::{NoMemory, Place};
 use std::alloc::{AllocError, AllocFailed};
 
-/// The symbols of the language so far, with the ends of specifications, of formulas and of the source.
-#[derive(Clone, Copy, Debug, PartialEq, Eq)]
-pub enum Symbol {
-    LeftBrace,
-    RightBrace,
-    LeftParen,
-    RightParen,
-    Semicolon,
-    Comma,
-    Equal,
-    NotEqual,
-    And,
-    SpecOpen,
-    SpecClose,
-    QuoteOpen,
-    QuoteClose,
-    End,
-}
-
-/// What a token is. A reserved word is a word with its text.
-#[derive(Debug, PartialEq, Eq, Drop)]
-pub enum TokenKind {
-    Word(Text),
-    Symbol(Symbol),
-}
-
-/// A token, with the place of its first byte.
-#[derive(Debug, PartialEq, Eq, Drop)]
-pub struct Token {
-    pub kind: TokenKind,
-    pub place: Place,
-}
-
-/// Why a source isn't read.
+/// Why a syntax tree is no program of those that are verified so far.
 #[derive(Clone, Copy, Debug, PartialEq, Eq)]
 pub enum ReadError {
-    /// It spells no program.
+    /// It is none.
     Refused,
     /// Memory ran out.
     Memory,
@@ -45,7 +12,7 @@ pub enum ReadError {
 
 impl From<NoMemory> for ReadError {
     ghost use Rattle.std.specs.Prelude.{◌≡◌};
-    ghost use Rattle.jahob.specs.declared.token.ReadError.TheVariants.{Memory};
+    ghost use Rattle.jahob.specs.declared.error.ReadError.TheVariants.{Memory};
 
     ghost from_gives = { λ _ error. error ≡ Memory };
 
@@ -56,7 +23,7 @@ impl From<NoMemory> for ReadError {
 
 impl From<AllocError> for ReadError {
     ghost use Rattle.std.specs.Prelude.{◌≡◌};
-    ghost use Rattle.jahob.specs.declared.token.ReadError.TheVariants.{Memory};
+    ghost use Rattle.jahob.specs.declared.error.ReadError.TheVariants.{Memory};
 
     ghost from_gives = { λ _ error. error ≡ Memory };
 
@@ -67,11 +34,22 @@ impl From<AllocError> for ReadError {
 
 impl<T: Drop> From<AllocFailed<T>> for ReadError {
     ghost use Rattle.std.specs.Prelude.{◌≡◌};
-    ghost use Rattle.jahob.specs.declared.token.ReadError.TheVariants.{Memory};
+    ghost use Rattle.jahob.specs.declared.error.ReadError.TheVariants.{Memory};
 
     ghost from_gives = { λ _ error. error ≡ Memory };
 
     fn from(_error: AllocFailed<T>) -> ReadError {
         ReadError::Memory
     }
+}
+
+/// Why a source isn't verified.
+#[derive(Clone, Copy, Debug, PartialEq, Eq)]
+pub enum Refusal {
+    /// The source is refused with this number, from 1 to 7, at this place.
+    At(u8, Place),
+    /// It spells no program of those that are verified so far.
+    Unbuilt,
+    /// Memory ran out.
+    Memory,
 }

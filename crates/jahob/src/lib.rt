@@ -4,13 +4,12 @@
 mod check;
 mod command;
 mod copying;
-mod grammar;
-mod lexing;
+mod error;
 mod prove;
 mod report;
 mod sequent;
 mod split;
-mod token;
+mod subset;
 mod top;
 mod tree;
 mod words;

@@ -1,29 +1,37 @@
 //! The top call: from the words of a command line to a report.
 #![tactic(auto)]
 
-ghost use Rattle.std.specs.Prelude.{◌≡◌, ◌+◌, ◌<◌, ◌^◌, ◌-◌, ◌⊎◌, ◌++◌, ℕ, List, codes, map, length, string_bytes, IfOk, OnOk};
+ghost use Rattle.std.specs.Prelude.{◌≡◌, ◌+◌, ◌<◌, ◌^◌, ◌-◌, ◌⊎◌, ◌++◌, ℕ, List, codes, map, length, string_bytes, IfOk, IfErr, OnOk, Some, Err, true};
 ghost use Rattle.jh_tree.specs.Bare.{formula_tree};
 ghost use Rattle.jahob.specs.declared.tree.Program.{Program as ProgramTree};
 ghost use Rattle.jahob.specs.Obligations.{obligation_of, member_sequents, method_id, number_after, sequents_of};
 ghost use Rattle.jahob.specs.Sequents.{sequent_tree, split_of};
 ghost use Rattle.jahob.specs.Verify.{Spells, IsReport, Verifies, Reports};
-ghost use Rattle.jahob.specs.Causes.{fault_text, IsFault, FitsBytes, FitsFile, Fits, Takes, Delivered, reply_due, Answered, Exact};
+ghost use Rattle.jh_ast.specs.Bare.{program_tree};
+ghost use Rattle.jh_lex.specs.Lexes.{Lexes};
+ghost use Rattle.jahob.specs.Checked.{is_well_named};
+ghost use Rattle.jahob.specs.Refusals.{Parses, IsWhy};
+ghost use Rattle.jahob.specs.Subset.{program_of};
+ghost use Rattle.jahob.specs.Causes.{fault_text, refused_text, IsRefusal, IsReply, IsFault, FitsBytes, FitsFile, Fits, Takes, Delivered, reply_due, Answered, Exact};
 
-use crate::check::is_sound;
+use crate::check::is_well_named;
 use crate::command::of_method;
-use crate::grammar::program;
-use crate::lexing::tokens;
+use crate::error::{ReadError, Refusal};
 use crate::prove::prove_all;
 use crate::report::{all_proved, report};
 use crate::sequent::Sequent;
 use crate::split::split;
-use crate::token::ReadError;
+use crate::subset::subset_program;
 use crate::tree::{Member, Method, Program};
 use crate::words::file_of;
 use crate::wp::wp;
+use jh_ast::Program as Source;
 use jh_files::{FileFault, Files, Sink, put_all};
 use jh_form::Formula;
-use jh_name::{MethodId, NoMemory};
+use jh_lex::{LexError, Token, tokens};
+use jh_name::{MethodId, NoMemory, Place};
+use jh_parse::program;
+use jh_spec::ParseError;
 use std::alloc::Global;
 
 /// The most bytes that a source may have.
@@ -42,7 +50,10 @@ pub enum Reply {
     /// The report, and whether every sequent is proved.
     Report(String, bool),
     Usage,
-    Refused,
+    /// The source is refused; the line says with which number, and where.
+    Refused(String),
+    /// The source spells no program of those that are verified so far.
+    Unbuilt,
     /// The file can't be read; the line says why.
     Fault(String),
     NoMemory,
@@ -56,7 +67,8 @@ impl Reply {
         match self {
             Reply::Report(_, accepted) => { if *accepted { 0 } else { 1 } }
             Reply::Usage => 2,
-            Reply::Refused => 3,
+            Reply::Refused(_) => 3,
+            Reply::Unbuilt => 3,
             Reply::Fault(_) => 4,
             Reply::NoMemory => 6,
         }
@@ -69,7 +81,8 @@ impl Reply {
         match self {
             Reply::Report(text, _) => text.as_str(),
             Reply::Usage => "usage: jahob verify FILE\n",
-            Reply::Refused => "refused 13\n",
+            Reply::Refused(text) => text.as_str(),
+            Reply::Unbuilt => "refused 13\n",
             Reply::Fault(text) => text.as_str(),
             Reply::NoMemory => "no memory\n",
         }
@@ -82,31 +95,71 @@ impl Reply {
         match self {
             Reply::Report(_, _) => true,
             Reply::Usage => false,
-            Reply::Refused => false,
+            Reply::Refused(_) => false,
+            Reply::Unbuilt => false,
             Reply::Fault(_) => false,
             Reply::NoMemory => false,
         }
     }
 }
 
-/// The program that a source spells.
-fn read(alloc: Global, bytes: &[u8]) -> Result<Program, ReadError>
+/// The tokens of a source.
+fn cut(alloc: Global, bytes: &[u8]) -> Result<Vec<Token>, Refusal>
     requires { length bytes.now < 2 ^ 32 - 1 }
-    ensures sound { IfOk result (Spells bytes.now) }
-    ensures refused { result ≡ Err ReadError.Refused → (p : ProgramTree) → Spells bytes.now p → ⊥ }
+    ensures cut { IfOk result (λ made. Lexes bytes.now made.items) }
+    ensures why { IfErr result (IsWhy bytes.now) }
 {
-    let tokens = match tokens(alloc, bytes) {
-        Ok(tokens) => tokens,
-        Err(error) => return Err(error),
-    };
-    let program = match program(alloc, tokens.as_slice()) {
-        Ok(program) => program,
-        Err(error) => return Err(error),
-    };
-    if is_sound(&program) {
+    match tokens(alloc, bytes) {
+        Ok(tokens) => Ok(tokens),
+        Err(LexError::NotUtf8(place)) => Err(Refusal::At(1, place)),
+        Err(LexError::BadChar(place)) => Err(Refusal::At(2, place)),
+        Err(LexError::OpenComment(place)) => Err(Refusal::At(3, place)),
+        Err(LexError::OpenQuote(place)) => Err(Refusal::At(4, place)),
+        Err(LexError::TooWide(place)) => Err(Refusal::At(5, place)),
+        Err(LexError::Memory) => Err(Refusal::Memory),
+    }
+}
+
+/// The syntax tree of a source.
+fn parsed(alloc: Global, bytes: &[u8]) -> Result<Source, Refusal>
+    requires { length bytes.now < 2 ^ 32 - 1 }
+    ensures parsed { IfOk result (λ source. Parses bytes.now (program_tree source)) }
+    ensures why { IfErr result (IsWhy bytes.now) }
+{
+    let tokens = cut(alloc, bytes)?;
+    match program(alloc, tokens.as_slice()) {
+        Ok(source) => Ok(source),
+        Err(ParseError::Syntax(place)) => Err(Refusal::At(6, place)),
+        Err(ParseError::TooDeep(place)) => Err(Refusal::At(7, place)),
+        Err(ParseError::Memory) => Err(Refusal::Memory),
+    }
+}
+
+/// The program that a syntax tree is, where it is well named and one of those that are verified so far.
+fn built(alloc: Global, source: &Source) -> Result<Program, ReadError>
+    ensures is { IfOk result (λ p. program_of (program_tree source.now) ≡ Some p) }
+    ensures named { IfOk result (λ p. is_well_named p ≡ true) }
+    ensures none { result ≡ Err ReadError.Refused → (p : ProgramTree) → program_of (program_tree source.now) ≡ Some p → is_well_named p ≡ true → ⊥ }
+{
+    let program = subset_program(alloc, source)?;
+    if is_well_named(&program) {
         Ok(program)
     } else {
         Err(ReadError::Refused)
+    }
+}
+
+/// The program that a source spells.
+fn read(alloc: Global, bytes: &[u8]) -> Result<Program, Refusal>
+    requires { length bytes.now < 2 ^ 32 - 1 }
+    ensures spelled { IfOk result (Spells bytes.now) }
+    ensures why { IfErr result (IsWhy bytes.now) }
+{
+    let source = parsed(alloc, bytes)?;
+    match built(alloc, &source) {
+        Ok(program) => Ok(program),
+        Err(ReadError::Refused) => Err(Refusal::Unbuilt),
+        Err(ReadError::Memory) => Err(Refusal::Memory),
     }
 }
 
@@ -195,17 +248,44 @@ fn verify(alloc: Global, program: &Program) -> Result<Verified, NoMemory>
     Ok(Verified { text, accepted })
 }
 
+/// The line for a source that is refused with a number, at a place.
+fn refused_line(alloc: Global, number: u8, place: Place) -> Result<String, NoMemory>
+    ensures { IfOk result (λ text. string_bytes text ≡ refused_text number place) }
+{
+    let mut text = String::new(alloc);
+    let line = place.line;
+    let column = place.column;
+    writeln!(text, "refused {number} at {line}:{column}")?;
+    Ok(text)
+}
+
+fn reply_to_refusal(alloc: Global, number: u8, place: Place) -> Reply
+    ensures { IsRefusal number place result }
+{
+    match refused_line(alloc, number, place) {
+        Ok(text) => Reply::Refused(text),
+        Err(NoMemory) => Reply::NoMemory,
+    }
+}
+
+fn reply_to_program(alloc: Global, program: &Program) -> Reply
+    ensures { IsReply program.now result }
+{
+    match verify(alloc, program) {
+        Ok(verified) => Reply::Report(verified.text, verified.accepted),
+        Err(NoMemory) => Reply::NoMemory,
+    }
+}
+
 fn reply_to_bytes(alloc: Global, bytes: &[u8]) -> Reply
     requires { length bytes.now < 2 ^ 32 - 1 }
     ensures { FitsBytes bytes.now result }
 {
     match read(alloc, bytes) {
-        Ok(program) => match verify(alloc, &program) {
-            Ok(verified) => Reply::Report(verified.text, verified.accepted),
-            Err(NoMemory) => Reply::NoMemory,
-        },
-        Err(ReadError::Refused) => Reply::Refused,
-        Err(ReadError::Memory) => Reply::NoMemory,
+        Ok(program) => reply_to_program(alloc, &program),
+        Err(Refusal::At(number, place)) => reply_to_refusal(alloc, number, place),
+        Err(Refusal::Unbuilt) => Reply::Unbuilt,
+        Err(Refusal::Memory) => Reply::NoMemory,
     }
 }
 

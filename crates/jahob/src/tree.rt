@@ -49,14 +49,6 @@ pub struct Method {
     pub body: Row<Stmt>,
 }
 
-/// What a method requires, may change and ensures.
-#[derive(Debug, PartialEq, Eq, Drop)]
-pub struct Contract {
-    pub pre: Option<Spec>,
-    pub modifies: Row<Word>,
-    pub post: Option<Spec>,
-}
-
 /// A member of a class: a static field of type `Object`, or a method.
 #[derive(Debug, PartialEq, Eq, Drop)]
 pub enum Member {
@@ -64,18 +56,9 @@ pub enum Member {
     Method(Method),
 }
 
-/// A modifier of a class. None has a meaning.
-#[derive(Debug, PartialEq, Eq, Drop)]
-pub enum Modifier {
-    Public,
-    Final,
-    ClaimedBy(Word),
-}
-
 /// A program, which is one class.
 #[derive(Debug, PartialEq, Eq, Drop)]
 pub struct Program {
-    pub modifiers: Row<Modifier>,
     pub name: Word,
     pub members: Row<Member>,
 }

@@ -16,7 +16,7 @@ use std::process::ExitCode;
 use std::{fs, io, str};
 
 /// The files of cases, by what they are about.
-const FILES: [&str; 1] = ["statics.cases"];
+const FILES: [&str; 2] = ["statics.cases", "refusals.cases"];
 
 /// How many cases there were, and how many of them differed.
 #[derive(Clone, Copy)]

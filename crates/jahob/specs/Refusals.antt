@@ -1,0 +1,45 @@
+-- Why a source is refused, with the number and the place of the refusal.
+use Rattle.std.specs.Prelude.{ℕ, ◌≡◌, true, List, Some}
+use Rattle.jh_name.specs.declared.place.Place.{Place}
+use Rattle.jh_lex.specs.declared.token.Token.{Token}
+use Rattle.jh_lex.specs.declared.error.LexError.TheVariants as lex
+use Rattle.jh_lex.specs.Lexes.{Lexes, IsFirstFault}
+use Rattle.jh_ast.specs.Programs.{ProgramTree}
+use Rattle.jh_nest.specs.Nesting.{AllShallow, IsFirstDeep}
+use Rattle.jh_parse.specs.Members as grammar
+use Rattle.jh_spec.specs.Parsed.{IsStart}
+use Rattle.jahob.specs.declared.error.Refusal.{Refusal}
+use Rattle.jahob.specs.declared.error.Refusal.TheVariants as refusal
+use Rattle.jahob.specs.declared.tree.Program.{Program}
+use Rattle.jahob.specs.Checked.{is_well_named}
+use Rattle.jahob.specs.Subset.{program_of}
+
+-- The bytes spell a tree: they are cut into tokens that spell it, none of which is nested too deep.
+pub record Parses (bytes : List ℕ) (tree : ProgramTree) : Type 0 where
+  pub tokens : List Token
+  pub cut : Lexes bytes tokens
+  pub shallow : AllShallow tokens
+  pub spelled : grammar.Spells tokens tree
+
+-- A source is refused with a number, at a place: a fault of the text, the first of them; tokens that spell no program, at
+-- one of them; or the first token that is nested too deep.
+pub data RefusedAt (bytes : List ℕ) : ℕ → Place → Type 0 where
+  not_utf8 : {p : Place} → IsFirstFault bytes (lex.NotUtf8 p) → RefusedAt bytes 1 p
+  bad_char : {p : Place} → IsFirstFault bytes (lex.BadChar p) → RefusedAt bytes 2 p
+  open_comment : {p : Place} → IsFirstFault bytes (lex.OpenComment p) → RefusedAt bytes 3 p
+  open_quote : {p : Place} → IsFirstFault bytes (lex.OpenQuote p) → RefusedAt bytes 4 p
+  too_wide : {p : Place} → IsFirstFault bytes (lex.TooWide p) → RefusedAt bytes 5 p
+  syntax : {ts : List Token} {p : Place} → Lexes bytes ts → AllShallow ts → ((t : ProgramTree) → grammar.Spells ts t → ⊥) → IsStart ts p → RefusedAt bytes 6 p
+  too_deep : {ts : List Token} {p : Place} → Lexes bytes ts → IsFirstDeep ts p → RefusedAt bytes 7 p
+
+-- The bytes spell a tree that is no program of those that are verified so far.
+pub record IsUnbuilt (bytes : List ℕ) : Type 0 where
+  pub tree : ProgramTree
+  pub parsed : Parses bytes tree
+  pub none : (p : Program) → program_of tree ≡ Some p → is_well_named p ≡ true → ⊥
+
+-- a refusal is right
+abbrev pub IsWhy : List ℕ → Refusal → Type 0
+IsWhy bytes (refusal.At n p) = RefusedAt bytes n p
+IsWhy bytes refusal.Unbuilt = IsUnbuilt bytes
+IsWhy bytes refusal.Memory = Unit {0}
