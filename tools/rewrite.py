@@ -311,105 +311,50 @@ all-split ts l d (p ∷ ps) qs (f ∷ fs) gs h e =
     return '\n'.join(out)
 
 
-PASSINGS = """-- The free names of a shape's tree pass a test exactly where those of its parts do.
-use Rattle.std.proofs.Common.{◌≡◌, refl, sym, ap, ◌∙◌, ℕ, ◌+◌, ◌<◌, zero, suc, Bool, true, false, ◌&&◌, List, [], ◌∷◌, ◌++◌, length, slice_get, Option, Some, None, is_some, ℤ, arith}
-use Rattle.std.proofs.Math.Bool.{and-true}
+PASSINGS = """-- The free names of a shape's tree pass a test: at a part that is no leaf exactly where those of its parts do, and at a leaf
+-- where its own does.
+use Rattle.std.proofs.Common.{◌≡◌, refl, sym, ap, ◌∙◌, ℕ, ◌<◌, Bool, true, false, ◌&&◌, List, length, slice_get, Option, Some, None, is_some}
 use Rattle.std.proofs.lemmas.Bool.{true≢false}
 use Rattle.std.proofs.lemmas.Option.{slice_get_within}
 use Rattle.jh_name.specs.declared.naming.Name.{Name}
 use Rattle.jh_name.specs.declared.place.Sort as place
 use Rattle.jh_name.specs.declared.place.Sort.TheVariants as Sort
-use Rattle.jh_tree.specs.Tree.{ValueTree, of_object, of_number, of_truth, of_set, of_field}
-use Rattle.jh_tree.specs.Tree as t
-use Rattle.jh_tree.specs.Passing.{term_passes, int_passes, set_passes, field_passes, value_passes, formula_passes, fields_passes}
-use Rattle.jh_tree.proofs.ClosedLemmas.{both-left, both-right}
-use Rattle.jh_table.specs.Entries.{Pools, the_name, the_list, is_object, is_number, is_truth, is_set, is_field, the_object, the_number, the_truth, the_set, the_field, the_value, are_fields, fields_at}
+use Rattle.jh_tree.specs.Tree.{ValueTree}
+use Rattle.jh_tree.specs.Passing.{term_passes, int_passes, set_passes, field_passes, value_passes, formula_passes}
+use Rattle.jh_table.specs.Entries.{Pools, the_name}
+use Rattle.jh_table.specs.Facing.{own_passes, all_pass}
 use Rattle.jh_table.specs.Nodes.{fits, shape_tree}
-use Rattle.jh_table.specs.Parts.{parts, own_parts, list_parts}
+use Rattle.jh_table.specs.Parts.{parts}
 use Rattle.jh_table.specs.declared.shapes.Shape.{Shape}
 use Rattle.jh_table.specs.declared.shapes.Shape.TheVariants as s
+use Rattle.jh_table.proofs.ShapePasses.{passes-shape}
 use Rattle.jh_rewrite.specs.Leaf.{is_leaf}
-use Rattle.jh_rewrite.specs.Passed.{all_pass}
 
-one-pass : (a va : Bool) → a ≡ va → a ≡ (va && true)
-one-pass a va e = e ∙ sym (and-true va)
+some-name : (xs : List Name) (n : ℕ) (o : Option Name) → slice_get xs n ≡ o → is_some o ≡ true → n < length xs
+some-name xs n (Some v) e h = slice_get_within xs n v e
+some-name xs n None e h = absurd (true≢false (sym h))
 
-two-pass : (a b va vb : Bool) → a ≡ va → b ≡ vb → (a && b) ≡ (va && (vb && true))
-two-pass a b va vb e f = (λ i. e i && f i) ∙ ap (λ z. va && z) (sym (and-true vb))
+name-within : (xs : List Name) (n : ℕ) → is_some (slice_get xs n) ≡ true → n < length xs
+name-within xs n h = some-name xs n (slice_get xs n) refl h
 
-regroup : (a b c : Bool) → ((a && b) && c) ≡ (a && (b && (c && true)))
-regroup true b c = ap (λ z. b && z) (sym (and-true c))
-regroup false b c = refl
+own-passes : (p : Pools) (q : Name → place.Sort → Bool) (x : Shape) → is_leaf x ≡ false → own_passes p x q ≡ true
+unfolding is_leaf own_passes
+own-passes p q (s.FreeObject n) leaf = absurd (true≢false leaf)
+own-passes p q (s.FreeNumber n) leaf = absurd (true≢false leaf)
+own-passes p q (s.FreeTruth n) leaf = absurd (true≢false leaf)
+own-passes p q (s.FreeSet n) leaf = absurd (true≢false leaf)
+own-passes p q (s.FreeField n) leaf = absurd (true≢false leaf)
+own-passes p q _ leaf = refl
 
-three-pass : (a b c va vb vc : Bool) → a ≡ va → b ≡ vb → c ≡ vc → ((a && b) && c) ≡ (va && (vb && (vc && true)))
-three-pass a b c va vb vc e f g = (λ i. (e i && f i) && g i) ∙ regroup va vb vc
+module _ (p : Pools) (ts : List ValueTree) (q : Name → place.Sort → Bool) where
+  pub passes-parts : (x : Shape) → is_leaf x ≡ false → fits p ts x ≡ true → value_passes (shape_tree p ts x) q ≡ all_pass q ts (parts p.lists x)
+  passes-parts x leaf h = passes-shape p ts q x h ∙ ap (λ b. b && all_pass q ts (parts p.lists x)) (own-passes p q x leaf)
 
-and_assoc : (a b c : Bool) → (a && (b && c)) ≡ ((a && b) && c)
-and_assoc true b c = refl
-and_assoc false b c = refl
-
-pub all_pass-append : (q : Name → place.Sort → Bool) (ts : List ValueTree) (xs ys : List ℕ) → all_pass q ts (xs ++ ys) ≡ (all_pass q ts xs && all_pass q ts ys)
-all_pass-append q ts [] ys = refl
-all_pass-append q ts (x ∷ xs) ys =
-    ap (λ z. value_passes (the_value (slice_get ts x)) q && z) (all_pass-append q ts xs ys)
-    ∙ and_assoc (value_passes (the_value (slice_get ts x)) q) (all_pass q ts xs) (all_pass q ts ys)
 """
 
 
 def passings():
     out = [PASSINGS]
-    for code in 'TIPSF':
-        sort, fn = SORT[code], MAPPED[code]
-        out.append(f"""{'pub ' if sort == 'truth' else ''}{sort}-passes : (q : Name → place.Sort → Bool) (o : Option ValueTree) → is_{sort} o ≡ true → {fn}_passes (the_{sort} o) q ≡ value_passes (the_value o) q
-unfolding is_{sort} the_{sort} the_value value_passes
-{sort}-passes q (Some (of_{sort} a)) h = refl
-{sort}-passes q _ h = absurd (true≢false (sym h))
-""")
-    out.append("""fields-pass : (q : Name → place.Sort → Bool) (ts : List ValueTree) (ns : List ℕ) → are_fields ts ns ≡ true → fields_passes (fields_at ts ns) q ≡ all_pass q ts ns
-unfolding are_fields fields_at fields_passes
-fields-pass q ts [] h = refl
-fields-pass q ts (n ∷ ns) h = λ i.
-    field-passes q (slice_get ts n) (both-left (is_field (slice_get ts n)) (are_fields ts ns) h) i
-    && fields-pass q ts ns (both-right (is_field (slice_get ts n)) (are_fields ts ns) h) i
-
-module _ (p : Pools) (ts : List ValueTree) (q : Name → place.Sort → Bool) where
-  pub passes-parts : (x : Shape) → is_leaf x ≡ false → fits p ts x ≡ true → value_passes (shape_tree p ts x) q ≡ all_pass q ts (parts p.lists x)
-  unfolding is_leaf fits shape_tree list_parts own_parts term_passes int_passes set_passes field_passes value_passes formula_passes""")
-    for name, sort, ctor, args in shapes():
-        variables = [var for _, var, _ in args]
-        pattern = applied('s.' + name, variables)
-        if is_leaf(ctor):
-            out.append(f"  passes-parts {pattern} leaf h = absurd (true≢false leaf)")
-            continue
-        tests = conjuncts(args)
-        position = 0
-        left, right, facts = [], [], []
-        for kind, var, _ in args:
-            if kind == 'L':
-                left.append("(fields_passes (fields_at ts (the_list (slice_get p.lists f))) q)")
-                right.append("(all_pass q ts (the_list (slice_get p.lists f)))")
-                facts.append(f"(fields-pass q ts (the_list (slice_get p.lists f)) {fact(tests, position + 1)})")
-                position += 2
-            elif kind == 'k':
-                position += 1
-            elif kind == 'V':
-                left.append(f"(value_passes (the_value (slice_get ts {var})) q)")
-                right.append(f"(value_passes (the_value (slice_get ts {var})) q)")
-                facts.append("refl")
-                position += 1
-            elif kind.isupper():
-                left.append(f"({MAPPED[kind]}_passes (the_{SORT[kind]} (slice_get ts {var})) q)")
-                right.append(f"(value_passes (the_value (slice_get ts {var})) q)")
-                facts.append(f"({SORT[kind]}-passes q (slice_get ts {var}) {fact(tests, position)})")
-                position += 1
-        words = ' '.join(left + right + facts)
-        proof = ['refl', 'one-pass', 'two-pass', 'three-pass'][len(left)]
-        proof = proof if not left else f"{proof} {words}"
-        if any(kind == 'L' for kind, _, _ in args):
-            own = ' ∷ '.join([var for kind, var, _ in args if kind.isupper() and kind != 'L'] + ['[]'])
-            proof += f" ∙ sym (all_pass-append q ts (the_list (slice_get p.lists f)) ({own}))"
-        out.append(f"  passes-parts {pattern} leaf h = {proof}")
-    out.append('')
     for code, word in (('T', 'Obj'), ('I', 'Int'), ('P', 'Bool'), ('S', 'Set'), ('F', 'Field')):
         sort = SORT[code]
         shape = 'Free' + sort.capitalize()
@@ -429,15 +374,7 @@ module _ (p : Pools) (ts : List ValueTree) (q : Name → place.Sort → Bool) wh
     for shape, letter in zip(frees, 'abcde'):
         out.append(f"  bound-asked (s.{shape} n) leaf a b c d e = absurd ({letter} n refl)")
     out.append("  bound-asked _ leaf a b c d e = absurd (true≢false (sym leaf))")
-    text = '\n'.join(out) + '\n'
-    return text.replace('module _ (p : Pools)', """some-name : (xs : List Name) (n : ℕ) (o : Option Name) → slice_get xs n ≡ o → is_some o ≡ true → n < length xs
-some-name xs n (Some v) e h = slice_get_within xs n v e
-some-name xs n None e h = absurd (true≢false (sym h))
-
-name-within : (xs : List Name) (n : ℕ) → is_some (slice_get xs n) ≡ true → n < length xs
-name-within xs n h = some-name xs n (slice_get xs n) refl h
-
-module _ (p : Pools)""", 1)
+    return ''.join(out[:1]) + '\n'.join(out[1:]) + '\n'
 
 
 LEAF = {'free_object': 'object_at', 'free_number': 'number_at', 'free_set': 'set_at', 'free_field': 'field_at', 'free_truth': 'truth_at'}

@@ -7,7 +7,7 @@ use Rattle.jh_name.specs.declared.place.Sort.{Sort}
 use Rattle.jh_tree.specs.Tree.{ValueTree}
 use Rattle.jh_tree.specs.Passing.{value_passes}
 use Rattle.jh_table.specs.Entries.{the_value}
-use Rattle.jh_rewrite.specs.Passed.{all_pass}
+use Rattle.jh_table.specs.Facing.{all_pass}
 
 next_of : (q : Name → Sort → Bool) (ts : List ValueTree) (ns : List ℕ) (i n : ℕ) → slice_get ns i ≡ Some n →
     all_pass q ts (drop i ns) ≡ (value_passes (the_value (slice_get ts n)) q && all_pass q ts (drop (suc i) ns))

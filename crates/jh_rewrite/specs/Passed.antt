@@ -1,5 +1,5 @@
 -- Nodes whose free names pass a test.
-use Rattle.std.specs.Prelude.{◌≡◌, ℕ, Bool, true, not, ◌&&◌, List, [], ◌∷◌, Some, slice_get}
+use Rattle.std.specs.Prelude.{◌≡◌, ℕ, Bool, true, not, List, Some, slice_get}
 use Rattle.jh_name.specs.declared.naming.Name.{Name}
 use Rattle.jh_name.specs.declared.place.Sort.{Sort}
 use Rattle.jh_tree.specs.Tree.{ValueTree}
@@ -9,11 +9,6 @@ use Rattle.jh_table.specs.Entries.{the_value}
 -- the free names of each node of the set pass the test
 pub record Passed (test : Name → Sort → Bool) (ts : List ValueTree) (has : ℕ → Bool) : Type 0 where
   pub passes : (n : ℕ) → has n ≡ true → value_passes (the_value (slice_get ts n)) test ≡ true
-
--- whether the free names of each of these nodes pass the test
-abbrev pub all_pass : (Name → Sort → Bool) → List ValueTree → List ℕ → Bool
-all_pass test ts [] = true
-all_pass test ts (n ∷ ns) = value_passes (the_value (slice_get ts n)) test && all_pass test ts ns
 
 -- The test passes each name but the one of this number.
 pub record PassesBut (test : Name → Sort → Bool) (names : List Name) (number : ℕ) : Type 0 where

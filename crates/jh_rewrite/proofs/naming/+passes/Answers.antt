@@ -3,7 +3,7 @@ use Rattle.jh_tree.specs.Passing.{value_passes}
 use Rattle.jh_table.specs.Entries.{the_value}
 use Rattle.jh_table.specs.Nodes.{nodes, tree_in}
 use Rattle.jh_table.specs.Parts.{parts}
-use Rattle.jh_rewrite.specs.Passed.{all_pass}
+use Rattle.jh_table.specs.Facing.{all_pass}
 use Rattle.jh_rewrite.proofs.Passings.{passes-parts}
 use Rattle.jh_rewrite.proofs.Passes.{all_pass-next, all_pass-end}
 use Rattle.jh_rewrite.proofs.Sorted.{listed-value}

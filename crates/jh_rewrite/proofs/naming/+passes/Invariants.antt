@@ -1,7 +1,8 @@
 use Rattle.std.proofs.Common.{◌≡◌, ◌+◌, ◌*◌, drop}
 use Rattle.jh_table.specs.Nodes.{nodes}
 use Rattle.jh_table.specs.Parts.{parts}
-use Rattle.jh_rewrite.specs.Passed.{Passed, all_pass}
+use Rattle.jh_table.specs.Facing.{all_pass}
+use Rattle.jh_rewrite.specs.Passed.{Passed}
 use Rattle.jh_rewrite.specs.Seen.{has}
 use Rattle.jh_rewrite.proofs.naming.+passes.Given as goal
 

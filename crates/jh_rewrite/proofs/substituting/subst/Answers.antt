@@ -12,7 +12,7 @@ use Rattle.jh_table.specs.Entries.{the_truth, the_value}
 use Rattle.jh_table.specs.Nodes.{nodes}
 use Rattle.jh_table.proofs.Weaker.{value-weaker}
 use Rattle.jh_rewrite.proofs.Alone.{nowhere-substituted}
-use Rattle.jh_rewrite.proofs.Passings.{truth-passes}
+use Rattle.jh_table.proofs.ShapePasses.{truth-passes}
 use Rattle.jh_rewrite.proofs.Sorted.{truth-within, listed-truth}
 use Rattle.jh_rewrite.proofs.substituting.subst.Goals as goal
 

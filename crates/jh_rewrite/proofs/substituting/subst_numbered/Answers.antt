@@ -5,7 +5,7 @@ use Rattle.jh_tree.specs.Sorts.{tree_sort}
 use Rattle.jh_subst.specs.Substituted.{stands_only_at}
 use Rattle.jh_table.specs.Entries.{the_truth, the_value}
 use Rattle.jh_table.specs.Nodes.{nodes}
-use Rattle.jh_rewrite.proofs.Passings.{truth-passes}
+use Rattle.jh_table.proofs.ShapePasses.{truth-passes}
 use Rattle.jh_rewrite.proofs.Sorted.{truth-within}
 use Rattle.jh_rewrite.proofs.substituting.subst_numbered.Goals as goal
 
