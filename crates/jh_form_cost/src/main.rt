@@ -1,0 +1,76 @@
+//! Goes over formulas that are nodes of a table, and says how many nodes there are and what deep ones are answered; on
+//! the error stream how long it took: many substitutions into one formula, many conjunctions, many openings of a formula
+//! without loose variables, each with the making of the formula.
+#![tactic(auto)]
+
+mod building;
+mod calls;
+mod deep;
+mod tables;
+
+use deep::CALLS;
+use std::alloc::Global;
+use std::io::{Eprint, Print};
+use std::process::ExitCode;
+use std::time::{Clock, Instant};
+use tables::{count_conjunctions, count_deep, count_openings, count_substitutions};
+
+/// How often equations are joined two by two: 4,096 of them have 12,288 nodes.
+const LEVELS: u32 = 12;
+
+/// How often a formula is substituted into, or opened.
+const TIMES: u32 = 2_000;
+
+/// How many conjunctions are made.
+const CONJUNCTIONS: u32 = 100_000;
+
+/// How deep the negations nest over which no walk goes.
+const DEEP: u32 = 60_002;
+
+/// Substitutes into a formula of many equations, as often as is said.
+fn time_substitutions(
+    rt: &(impl Print + Eprint + Clock),
+    alloc: Global,
+    times: u32,
+) -> anyhow::Result<()> {
+    let start = Instant::now(rt)?;
+    let nodes = count_substitutions(alloc, LEVELS, times)?;
+    let took = start.elapsed(rt)?;
+    println!(rt; "{times} substitutions: {nodes} nodes")?;
+    eprintln!(rt; "{times} substitutions: {} microseconds", took.as_micros())?;
+    Ok(())
+}
+
+/// Opens a formula without loose variables.
+fn time_openings(rt: &(impl Print + Eprint + Clock), alloc: Global) -> anyhow::Result<()> {
+    let start = Instant::now(rt)?;
+    let nodes = count_openings(alloc, LEVELS, TIMES)?;
+    let took = start.elapsed(rt)?;
+    println!(rt; "{TIMES} openings: {nodes} nodes")?;
+    eprintln!(rt; "{TIMES} openings: {} microseconds", took.as_micros())?;
+    Ok(())
+}
+
+/// Makes conjunctions, each over the one before.
+fn time_conjunctions(rt: &(impl Print + Eprint + Clock), alloc: Global) -> anyhow::Result<()> {
+    let start = Instant::now(rt)?;
+    let nodes = count_conjunctions(alloc, CONJUNCTIONS)?;
+    let took = start.elapsed(rt)?;
+    println!(rt; "{CONJUNCTIONS} conjunctions: {nodes} nodes")?;
+    eprintln!(rt;
+        "{CONJUNCTIONS} conjunctions: {} microseconds",
+        took.as_micros()
+    )?;
+    Ok(())
+}
+
+fn main(rt: HostRuntime) -> anyhow::Result<ExitCode> {
+    let alloc = rt.alloc();
+    time_substitutions(&rt, alloc, 0)?;
+    time_substitutions(&rt, alloc, TIMES)?;
+    time_openings(&rt, alloc)?;
+    time_conjunctions(&rt, alloc)?;
+    let count = count_deep(alloc, DEEP)?;
+    println!(rt; "{DEEP} levels: {count} of {CALLS} calls answer want of memory")?;
+    Ok(ExitCode::from(if count == CALLS { 0 } else { 1 }))
+}
