@@ -2,7 +2,7 @@ use Rattle.std.proofs.Common.{◌∙◌, sym, slice_get}
 use Rattle.jh_table.specs.Entries.{the_value}
 use Rattle.jh_table.specs.Nodes.{nodes}
 use Rattle.jh_parts.proofs.Askings.{object-asked, other-asked}
-use Rattle.jh_parts.proofs.tests.ClosedObjectsPartTest.asks.Goals as goal
+use Rattle.jh_parts.proofs.asking.ClosedObjectsPartTest.asks.Goals as goal
 
 pub returns-in-Obj : goal.returns-in-Obj
 returns-in-Obj c =

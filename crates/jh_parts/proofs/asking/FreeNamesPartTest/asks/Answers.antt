@@ -2,7 +2,7 @@ use Rattle.std.proofs.Common.{◌∙◌, slice_get}
 use Rattle.jh_table.specs.Nodes.{nodes, tree_in}
 use Rattle.jh_parts.specs.Asked.{is_free_name}
 use Rattle.jh_parts.proofs.Askings.{free_name-shape, asked-there}
-use Rattle.jh_parts.proofs.tests.FreeNamesPartTest.asks.Goals as goal
+use Rattle.jh_parts.proofs.asking.FreeNamesPartTest.asks.Goals as goal
 
 pub returns : goal.returns
 returns c =
