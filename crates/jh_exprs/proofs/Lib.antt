@@ -1,6 +1,6 @@
 pub mod Lists
 mod Arguments
 mod Results
-mod Changes
+pub mod Changes
 mod Undoing
 mod Behind

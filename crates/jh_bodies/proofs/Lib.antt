@@ -1,0 +1,3 @@
+mod Leasts
+mod Scopings
+mod Wholes
