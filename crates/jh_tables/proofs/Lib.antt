@@ -1,0 +1,5 @@
+mod Reversals
+mod Naming
+mod Stating
+mod Labelling
+mod Declaring

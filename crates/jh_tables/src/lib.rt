@@ -1,0 +1,12 @@
+//! The tables of what a program declares.
+#![tactic(auto)]
+
+mod entries;
+mod labels;
+mod members;
+mod numbers;
+mod putting;
+mod states;
+mod tables;
+
+pub use tables::lookups_of;
