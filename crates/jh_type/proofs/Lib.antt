@@ -1,0 +1,5 @@
+mod Following
+mod Values
+mod Leasts
+mod Joining
+mod Minima

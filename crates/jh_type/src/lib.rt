@@ -1,0 +1,10 @@
+//! Programs that break none of the type rules.
+#![tactic(auto)]
+
+mod classes;
+mod defaults;
+mod faults;
+mod typed;
+mod words;
+
+pub use typed::{TypeError, TypeRefused, Typed, check};
