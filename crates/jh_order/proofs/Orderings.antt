@@ -21,6 +21,13 @@ any-step : (x y : ℕ) (ys : List ℕ) (t : Bool) → nat_eq x y ≡ t → (list
 any-step x y ys true e rest h = (0, ap Some (sym (same-test x y true e refl)))
 any-step x y ys false e rest h = let k = rest (sym (ap (λ t. t || list_any (nat_eq x) ys) e) ∙ h) in (suc k.0, k.1)
 
+pub same-or-not : (a b : ℕ) → (a ≡ b) ⊎ (a ≡ b → ⊥)
+same-or-not a b = by (nat_eq a b) refl
+  where
+    by : (t : Bool) → nat_eq a b ≡ t → (a ≡ b) ⊎ (a ≡ b → ⊥)
+    by true e = inl (same-test a b true e refl)
+    by false e = inr (other-test a b false e refl)
+
 -- a test over a list
 pub any-in : (x : ℕ) (xs : List ℕ) → list_any (nat_eq x) xs ≡ true → IsIn xs x
 any-in x [] h = absurd (true≢false (sym h))
@@ -108,13 +115,6 @@ module _ (reads : List (List ℕ)) where
   pub waits-end : (list : List ℕ) (at r : ℕ) → length list ≤ at → Waits list at r → IsTried reads list list r
   waits-end list at r le (inl h) = inl h
   waits-end list at r le (inr w) = inr (w.0, w.1, λ h. let inside : h.0 < length list = slice_get_within list h.0 w.0 h.1 in w.2 h.0 (omega arith) h.1)
-
-  same-or-not : (a b : ℕ) → (a ≡ b) ⊎ (a ≡ b → ⊥)
-  same-or-not a b = by (nat_eq a b) refl
-    where
-      by : (t : Bool) → nat_eq a b ≡ t → (a ≡ b) ⊎ (a ≡ b → ⊥)
-      by true e = inl (same-test a b true e refl)
-      by false e = inr (other-test a b false e refl)
 
   -- the thing at a place is done, and those that read it are tried
   pub waits-more : (readers : List (List ℕ)) (old new : List ℕ) (at x : ℕ) → IsReversed reads readers → at < length old → slice_get old at ≡ Some x → Keeps old new →

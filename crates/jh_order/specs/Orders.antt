@@ -1,5 +1,6 @@
 -- An order in which each thing stands behind all that it reads.
 use Rattle.std.specs.Prelude.{◌≡◌, ◌<◌, ◌⊎◌, ℕ, List, Some, length, slice_get}
+use Rattle.jh_spread.specs.declared.facts.Fact.{Fact}
 use Rattle.jh_spread.specs.Spreads.{IsIn, passed_to}
 
 -- what a thing reads, of the rows of all
@@ -13,6 +14,10 @@ IsOrdered reads order = (i r d : ℕ) → slice_get order i ≡ Some r → IsIn 
 -- the things of a list are among those that there are
 abbrev pub AreThings : List (List ℕ) → List ℕ → Type 0
 AreThings reads order = (i r : ℕ) → slice_get order i ≡ Some r → r < length reads
+
+-- all that is read is among the things that there are
+abbrev pub AreThingsRead : List (List ℕ) → Type 0
+AreThingsRead reads = (r d : ℕ) → IsIn (reads_of reads r) d → d < length reads
 
 -- a thing is in the list, or reads something that isn't in another
 abbrev pub IsTried : List (List ℕ) → List ℕ → List ℕ → ℕ → Type 0
@@ -30,3 +35,7 @@ IsReversed reads readers = (r d : ℕ) → IsIn (reads_of reads r) d → IsIn (r
 pub data Reaches (reads : List (List ℕ)) : ℕ → ℕ → Type 0 where
   itself : (x y : ℕ) → IsIn (reads_of reads x) y → Reaches reads x y
   through : (x y z : ℕ) → IsIn (reads_of reads x) y → Reaches reads y z → Reaches reads x z
+
+-- that a thing is reached, as a fact to be passed on
+abbrev pub start_of : ℕ → Fact
+start_of x = record { of = x; what = 0 }

@@ -1,13 +1,13 @@
 ghost use Rattle.std.specs.Prelude.{◌≡◌, ◌<◌, ◌≤◌, ℕ, Some, length, slice_get, IfOk, OnOk};
 ghost use Rattle.jh_spread.specs.Spreads.{IsIn};
-ghost use Rattle.jh_order.specs.Orders.{reads_of, IsOrdered, AreThings, IsTried, IsAll, IsReversed, Reaches};
+ghost use Rattle.jh_order.specs.Orders.{reads_of, IsOrdered, AreThings, IsTried, IsAll, IsReversed, Reaches, AreThingsRead};
 
 use crate::done::Done;
 use jh_name::{NoMemory, Row};
 use std::alloc::Global;
 
 /// What a thing reads.
-fn reads_of(reads: &[Row<usize>], of: usize) -> &[usize]
+pub(crate) fn reads_of(reads: &[Row<usize>], of: usize) -> &[usize]
     ensures { result.now ≡ reads_of reads.now of }
 {
     match reads.get(of) {
@@ -83,13 +83,15 @@ fn attempt_first(done: &mut Done, reads: &[Row<usize>]) -> Result<(), NoMemory>
 
 /// Things in an order in which each stands behind all that it reads. `reads` has a row for each thing, and
 /// `readers` one of those that read it. What is left out reads something that is left out; what is in the order
-/// reads itself neither directly nor through others.
+/// reads itself neither directly nor through others. Where
+/// something is left out, something does.
 pub fn order(alloc: Global, reads: &[Row<usize>], readers: &[Row<usize>]) -> Result<Done, NoMemory>
     requires reversed { IsReversed reads.now readers.now }
     ensures ordered { IfOk result (λ made. IsOrdered reads.now made) }
     ensures things { IfOk result (λ made. AreThings reads.now made) }
     ensures all { IfOk result (λ made. IsAll reads.now made) }
     ensures sound { IfOk result (λ made. (x : ℕ) → IsIn made x → Reaches reads.now x x → ⊥) }
+    ensures cycle { IfOk result (λ made. AreThingsRead reads.now → (r : ℕ) → r < length reads.now → (IsIn made r → ⊥) → (x : ℕ) × Reaches reads.now x x) }
 {
     let mut done = Done::new(alloc);
     attempt_first(&mut done, reads)?;

@@ -2,6 +2,7 @@ use Rattle.std.proofs.Common.{subst, ◌<◌, ℕ, List, length, arith}
 use Rattle.jh_spread.specs.Spreads.{IsIn}
 use Rattle.jh_order.specs.Orders.{IsTried}
 use Rattle.jh_order.proofs.Orderings.{no-cycle, waits-none, waits-more, waits-end}
+use Rattle.jh_order.proofs.Walks.{cycle-among}
 use Rattle.jh_order.proofs.ordering.order.Goals as goal
 
 pub loop-turn-init : goal.loop-turn-init
@@ -16,6 +17,9 @@ returns-then-at-len-clause-all c = λ r lt. waits-end c.args.reads.now c.loop-tu
 
 pub returns-then-at-len-clause-sound : goal.returns-then-at-len-clause-sound
 returns-then-at-len-clause-sound c = λ x k. no-cycle c.args.reads.now c.loop-turn.done c.loop-turn.invariant.ordered k.0 x k.1
+
+pub returns-then-at-len-clause-cycle : goal.returns-then-at-len-clause-cycle
+returns-then-at-len-clause-cycle c = λ inside r lt out. cycle-among c.args.reads.now c.loop-turn.done (λ q l. waits-end c.args.reads.now c.loop-turn.done c.loop-turn.at q (omega arith) (c.loop-turn.invariant.waits q l)) inside r lt out
 
 pub loop-turn-preserved : goal.loop-turn-preserved
 loop-turn-preserved c =
