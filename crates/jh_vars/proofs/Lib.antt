@@ -1,2 +1,3 @@
+pub mod Agreeing
 mod Cases
 mod Values
