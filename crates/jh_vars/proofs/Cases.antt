@@ -26,7 +26,7 @@ use Rattle.jh_rules.specs.Formulas.{equations}
 use Rattle.jh_vars.specs.States.{State}
 use Rattle.jh_vars.specs.Reading.{reads, all_read, definition_reads, variables_from, variables, Reads, IsCyclic, IsFirstCyclic}
 use Rattle.jh_vars.specs.Reading as reading
-use Rattle.jh_vars.specs.Written.{Written, Callee, assigns, all_assign, calls, all_call, put_in, in_order, members_in_order, class_sets, own_writes, own_calls, all_state, state_names, MayWrite, Names, named_by}
+use Rattle.jh_vars.specs.Written.{Written, Callee, assigns, all_assign, calls, all_call, front_before, rest_behind, merged, members_in_order, class_sets, own_writes, own_calls, all_state, state_names, MayWrite, Names, named_by}
 use Rattle.jh_vars.specs.Written as w
 
 abbrev at : ℕ → ℕ → Place
@@ -73,31 +73,31 @@ abbrev callee : List ℕ → Callee
 callee x = record { class = 0; name = x }
 
 names-of : state_names methods ≡ own (codes "alloc") ∷ own (codes "A") ∷ own (codes "B") ∷ own (codes "Object") ∷ own (codes "A.n") ∷ own (codes "A.top") ∷ own (codes "A.g") ∷ own (codes "A.next") ∷ own (codes "B.s") ∷ []
-unfolding halves first_named class_from def_in states_from declared all_declared labels_in all_labels_in with_all_declared declare_all equations expr_type reads all_read assigns all_assign calls all_call put_in in_order members_in_order class_sets variables_from
+unfolding halves first_named class_from def_in states_from declared all_declared labels_in all_labels_in with_all_declared declare_all equations expr_type reads all_read assigns all_assign calls all_call front_before rest_behind merged members_in_order class_sets variables_from
 names-of = refl
 
 writes-m : own_writes methods (callee (codes "m")) ≡ w.state 0 (codes "n") ∷ w.state 0 (codes "next") ∷ w.allocated ∷ w.objects 0 ∷ w.state 0 (codes "g") ∷ []
-unfolding halves first_named class_from def_in states_from declared all_declared labels_in all_labels_in with_all_declared declare_all equations expr_type reads all_read assigns all_assign calls all_call put_in in_order members_in_order class_sets variables_from
+unfolding halves first_named class_from def_in states_from declared all_declared labels_in all_labels_in with_all_declared declare_all equations expr_type reads all_read assigns all_assign calls all_call front_before rest_behind merged members_in_order class_sets variables_from
 writes-m = refl
 
 calls-m : own_calls methods (callee (codes "m")) ≡ callee (codes "k") ∷ []
-unfolding halves first_named class_from def_in states_from declared all_declared labels_in all_labels_in with_all_declared declare_all equations expr_type reads all_read assigns all_assign calls all_call put_in in_order members_in_order class_sets variables_from
+unfolding halves first_named class_from def_in states_from declared all_declared labels_in all_labels_in with_all_declared declare_all equations expr_type reads all_read assigns all_assign calls all_call front_before rest_behind merged members_in_order class_sets variables_from
 calls-m = refl
 
 writes-k : own_writes methods (callee (codes "k")) ≡ w.state 0 (codes "top") ∷ w.allocated ∷ w.plain_objects ∷ []
-unfolding halves first_named class_from def_in states_from declared all_declared labels_in all_labels_in with_all_declared declare_all equations expr_type reads all_read assigns all_assign calls all_call put_in in_order members_in_order class_sets variables_from
+unfolding halves first_named class_from def_in states_from declared all_declared labels_in all_labels_in with_all_declared declare_all equations expr_type reads all_read assigns all_assign calls all_call front_before rest_behind merged members_in_order class_sets variables_from
 writes-k = refl
 
 calls-k : own_calls methods (callee (codes "k")) ≡ []
-unfolding halves first_named class_from def_in states_from declared all_declared labels_in all_labels_in with_all_declared declare_all equations expr_type reads all_read assigns all_assign calls all_call put_in in_order members_in_order class_sets variables_from
+unfolding halves first_named class_from def_in states_from declared all_declared labels_in all_labels_in with_all_declared declare_all equations expr_type reads all_read assigns all_assign calls all_call front_before rest_behind merged members_in_order class_sets variables_from
 calls-k = refl
 
 writes-z : own_writes methods (callee (codes "z")) ≡ []
-unfolding halves first_named class_from def_in states_from declared all_declared labels_in all_labels_in with_all_declared declare_all equations expr_type reads all_read assigns all_assign calls all_call put_in in_order members_in_order class_sets variables_from
+unfolding halves first_named class_from def_in states_from declared all_declared labels_in all_labels_in with_all_declared declare_all equations expr_type reads all_read assigns all_assign calls all_call front_before rest_behind merged members_in_order class_sets variables_from
 writes-z = refl
 
 calls-z : own_calls methods (callee (codes "z")) ≡ callee (codes "m") ∷ []
-unfolding halves first_named class_from def_in states_from declared all_declared labels_in all_labels_in with_all_declared declare_all equations expr_type reads all_read assigns all_assign calls all_call put_in in_order members_in_order class_sets variables_from
+unfolding halves first_named class_from def_in states_from declared all_declared labels_in all_labels_in with_all_declared declare_all equations expr_type reads all_read assigns all_assign calls all_call front_before rest_behind merged members_in_order class_sets variables_from
 calls-z = refl
 
 first-of : {X : Type 0} (xs : List X) (x : X) (rest : List X) → xs ≡ x ∷ rest → Contains xs x
@@ -155,15 +155,15 @@ abbrev of-next : State
 of-next = state-of (codes "next") (Some k.Obj) false false false false
 
 variables-of : variables methods ≡ of-g ∷ of-d ∷ of-e ∷ []
-unfolding halves first_named class_from def_in states_from declared all_declared labels_in all_labels_in with_all_declared declare_all equations expr_type reads all_read assigns all_assign calls all_call put_in in_order members_in_order class_sets variables_from
+unfolding halves first_named class_from def_in states_from declared all_declared labels_in all_labels_in with_all_declared declare_all equations expr_type reads all_read assigns all_assign calls all_call front_before rest_behind merged members_in_order class_sets variables_from
 variables-of = refl
 
 reads-d : definition_reads methods of-d ≡ of-n ∷ of-e ∷ []
-unfolding halves first_named class_from def_in states_from declared all_declared labels_in all_labels_in with_all_declared declare_all equations expr_type reads all_read assigns all_assign calls all_call put_in in_order members_in_order class_sets variables_from
+unfolding halves first_named class_from def_in states_from declared all_declared labels_in all_labels_in with_all_declared declare_all equations expr_type reads all_read assigns all_assign calls all_call front_before rest_behind merged members_in_order class_sets variables_from
 reads-d = refl
 
 reads-e : definition_reads methods of-e ≡ of-next ∷ []
-unfolding halves first_named class_from def_in states_from declared all_declared labels_in all_labels_in with_all_declared declare_all equations expr_type reads all_read assigns all_assign calls all_call put_in in_order members_in_order class_sets variables_from
+unfolding halves first_named class_from def_in states_from declared all_declared labels_in all_labels_in with_all_declared declare_all equations expr_type reads all_read assigns all_assign calls all_call front_before rest_behind merged members_in_order class_sets variables_from
 reads-e = refl
 
 second-of : {X : Type 0} (xs : List X) (x y : X) (rest : List X) → xs ≡ y ∷ x ∷ rest → Contains xs x
@@ -174,7 +174,7 @@ reads-through : Reads methods of-d of-next
 reads-through = reading.through of-d of-e of-next (second-of _ _ _ _ reads-d) (reading.itself of-e of-next (first-of _ _ _ reads-e))
 
 modifies-m : named_by methods 0 (record { name = word (codes "m") 6 15; is_public = true; fixed = false; result = j.Void; params = []; pre = None; modifies = word (codes "d") 6 35 ∷ word (codes "g") 6 38 ∷ []; post = None; body = s.none; end = at 7 10 }) ≡ of-d ∷ of-g ∷ []
-unfolding halves first_named class_from def_in states_from declared all_declared labels_in all_labels_in with_all_declared declare_all equations expr_type reads all_read assigns all_assign calls all_call put_in in_order members_in_order class_sets variables_from
+unfolding halves first_named class_from def_in states_from declared all_declared labels_in all_labels_in with_all_declared declare_all equations expr_type reads all_read assigns all_assign calls all_call front_before rest_behind merged members_in_order class_sets variables_from
 modifies-m = refl
 
 -- `modifies d, g` names a field that d reads through e, and g
@@ -198,15 +198,15 @@ abbrev of-w : State
 of-w = state-of (codes "w") (Some k.Int) true true false true
 
 cyclic-variables : variables cyclic ≡ of-u ∷ of-v ∷ of-w ∷ []
-unfolding halves first_named class_from def_in states_from declared all_declared labels_in all_labels_in with_all_declared declare_all equations expr_type reads all_read assigns all_assign calls all_call put_in in_order members_in_order class_sets variables_from
+unfolding halves first_named class_from def_in states_from declared all_declared labels_in all_labels_in with_all_declared declare_all equations expr_type reads all_read assigns all_assign calls all_call front_before rest_behind merged members_in_order class_sets variables_from
 cyclic-variables = refl
 
 reads-v : definition_reads cyclic of-v ≡ of-w ∷ []
-unfolding halves first_named class_from def_in states_from declared all_declared labels_in all_labels_in with_all_declared declare_all equations expr_type reads all_read assigns all_assign calls all_call put_in in_order members_in_order class_sets variables_from
+unfolding halves first_named class_from def_in states_from declared all_declared labels_in all_labels_in with_all_declared declare_all equations expr_type reads all_read assigns all_assign calls all_call front_before rest_behind merged members_in_order class_sets variables_from
 reads-v = refl
 
 reads-w : definition_reads cyclic of-w ≡ of-v ∷ []
-unfolding halves first_named class_from def_in states_from declared all_declared labels_in all_labels_in with_all_declared declare_all equations expr_type reads all_read assigns all_assign calls all_call put_in in_order members_in_order class_sets variables_from
+unfolding halves first_named class_from def_in states_from declared all_declared labels_in all_labels_in with_all_declared declare_all equations expr_type reads all_read assigns all_assign calls all_call front_before rest_behind merged members_in_order class_sets variables_from
 reads-w = refl
 
 v-is-cyclic : IsCyclic cyclic of-v

@@ -1,2 +1,4 @@
+pub mod Agreeing
 mod Cases
+pub mod Steady
 mod Values

@@ -33,12 +33,12 @@ module _ (p : ProgramTree) where
     reads (f.card q a) n bound = reads a n bound
     reads (f.binary q o a b) n bound = reads a n bound ++ reads b n bound
     reads (f.dvd q z a) n bound = reads a n bound
-    reads (f.all q ws a) n bound = reads a n (map text_of ws ++ bound)
-    reads (f.ex q ws a) n bound = reads a n (map text_of ws ++ bound)
+    reads (f.all q ws a) n bound = reads a n (bound ++ map text_of ws)
+    reads (f.ex q ws a) n bound = reads a n (bound ++ map text_of ws)
     reads (f.tree q ws) n bound = fields_read n ws
     reads (f.rtrancl q x y body a b) n bound = option_map_or (fields_read n) (equations (text_of x) (text_of y) body) [] ++ reads a n bound ++ reads b n bound
     reads (f.braces q fs) n bound = all_read fs n bound
-    reads (f.compr q w a) n bound = reads a n (text_of w ∷ bound)
+    reads (f.compr q w a) n bound = reads a n (bound ++ text_of w ∷ [])
     reads _ n bound = []
 
     pub all_read : FormTrees → ℕ → List (List ℕ) → List State

@@ -1,8 +1,9 @@
 -- The state that a method may write, and the state that it names.
-use Rattle.std.specs.Prelude.{◌≡◌, ◌↔◌, IsTrue, filter, ℕ, ◌+◌, Bool, false, List, [], ◌∷◌, ◌++◌, map, Option, Some, None, is_some, codes, if◌then◌else◌}
+use Rattle.std.specs.Prelude.{◌≡◌, ◌↔◌, IsTrue, filter, ℕ, ◌+◌, Bool, true, false, List, [], ◌∷◌, ◌++◌, map, Option, Some, None, is_some, codes, if◌then◌else◌}
 use Rattle.std.specs.List.{flat_map, Contains}
 use Rattle.std.specs.Option.{option_map_or}
 use Rattle.jh_name.specs.declared.naming.Name.{Name}
+use Rattle.jh_name.specs.declared.place.Kind.{Kind}
 use Rattle.jh_ast.specs.declared.word.Word.{Word}
 use Rattle.jh_ast.specs.Exprs.{ExprTree}
 use Rattle.jh_ast.specs.Exprs as e
@@ -14,7 +15,7 @@ use Rattle.jh_ast.specs.Programs.{ProgramTree, ClassPart, FieldPart, VarPart, Me
 use Rattle.jh_rules.specs.declared.types.Ty.{Ty}
 use Rattle.jh_rules.specs.Words.{text_of, is_before}
 use Rattle.jh_rules.specs.Kinds.{class_of}
-use Rattle.jh_rules.specs.Names.{MemberPart, method, declared_in, number_of, member_of}
+use Rattle.jh_rules.specs.Names.{MemberPart, method, kind_of_word, declared_in, number_of, member_of}
 use Rattle.jh_vars.specs.States.{State, class_text, state_spelled, state_named}
 use Rattle.jh_rules.specs.Scopes.{Scope, behind, text_behind, declare_all, outermost}
 use Rattle.jh_vars.specs.Reading.{Reads}
@@ -32,6 +33,40 @@ pub data Written : Type 0 where
 pub record Callee : Type 0 where
   pub class : ℕ
   pub name : List ℕ
+
+-- a static, field or ghost variable where it stands
+pub record Piece : Type 0 where
+  pub word : Word
+  pub kind : Kind
+  pub fixed : Bool
+  pub is_ghost : Bool
+
+abbrev pub field_piece : FieldPart → Piece
+field_piece x = record { word = x.name; kind = kind_of_word x.jtype; fixed = x.fixed; is_ghost = false }
+
+abbrev pub ghost_pieces : VarPart → List Piece
+ghost_pieces v = if v.is_ghost then record { word = v.name; kind = v.kind; fixed = v.fixed; is_ghost = true } ∷ [] else []
+
+abbrev pub stands_before : Piece → Piece → Bool
+stands_before y x = is_before y.word.place x.word.place
+
+-- the pieces of a list before one, and the others
+unfoldable pub front_before : Piece → List Piece → List Piece
+front_before x [] = []
+front_before x (y ∷ ys) = if stands_before y x then y ∷ front_before x ys else []
+
+unfoldable pub rest_behind : Piece → List Piece → List Piece
+rest_behind x [] = []
+rest_behind x (y ∷ ys) = if stands_before y x then rest_behind x ys else y ∷ ys
+
+-- two lists in the order of the text as one
+unfoldable pub merged : List Piece → List Piece → List Piece
+merged [] ys = ys
+merged (x ∷ xs) ys = front_before x ys ++ x ∷ merged xs (rest_behind x ys)
+
+-- the statics, fields and ghost variables of a class in the order of the text
+abbrev pub pieces_of : ClassPart → List Piece
+pieces_of c = merged (map field_piece c.fields) (flat_map ghost_pieces c.vars)
 
 module _ (p : ProgramTree) where
   abbrev pub some_state : Option State → List Written
@@ -119,27 +154,16 @@ module _ (p : ProgramTree) where
     itself : (m : Callee) (x : Written) → Contains (own_writes m) x → MayWrite m x
     called : (m n : Callee) (x : Written) → Contains (own_calls m) n → MayWrite n x → MayWrite m x
 
-  -- The state names in order: the sets of objects, then, class by class, statics, fields and ghost variables by
-  -- their places.
-  abbrev pub placed_of : ClassPart → List Word
-  placed_of c = map (λ (x : FieldPart). x.name) c.fields ++ flat_map (λ (v : VarPart). if v.is_ghost then v.name ∷ [] else []) c.vars
-
-  unfoldable pub put_in : Word → List Word → List Word
-  put_in w [] = w ∷ []
-  put_in w (v ∷ vs) = if is_before v.place w.place then v ∷ put_in w vs else w ∷ v ∷ vs
-
-  unfoldable pub in_order : List Word → List Word
-  in_order [] = []
-  in_order (w ∷ ws) = put_in w (in_order ws)
-
   unfoldable pub members_in_order : ℕ → List ClassPart → List Written
   members_in_order n [] = []
-  members_in_order n (c ∷ cs) = map (λ w. state n (text_of w)) (in_order (placed_of c)) ++ members_in_order (n + 1) cs
+  members_in_order n (c ∷ cs) = map (λ x. state n (text_of x.word)) (pieces_of c) ++ members_in_order (n + 1) cs
 
+  -- the sets of the objects of the classes, and that of the plain objects
   unfoldable pub class_sets : ℕ → List ClassPart → List Written
   class_sets n [] = plain_objects ∷ []
   class_sets n (c ∷ cs) = objects n ∷ class_sets (n + 1) cs
 
+  -- the state names in order
   abbrev pub all_state : List Written
   all_state = allocated ∷ class_sets 0 p.classes ++ members_in_order 0 p.classes
 

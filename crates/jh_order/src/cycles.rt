@@ -1,0 +1,84 @@
+ghost use Rattle.std.specs.Prelude.{◌≡◌, ◌<◌, ℕ, true, false, map, Some, None, length, slice_get, IfOk};
+ghost use Rattle.jh_spread.specs.declared.facts.Fact.{Fact};
+ghost use Rattle.jh_spread.specs.Spreads.{IsIn};
+ghost use Rattle.jh_order.specs.Orders.{reads_of, Reaches, start_of};
+
+use crate::done::Done;
+use crate::ordering::reads_of;
+use jh_name::{NoMemory, Row};
+use jh_spread::{Fact, FactList, spread};
+use std::alloc::Global;
+
+/// That each of some things is reached.
+fn starts(alloc: Global, things: &[usize]) -> Result<Vec<Fact>, NoMemory>
+    ensures { IfOk result (λ made. made.items ≡ map start_of things.now) }
+{
+    let mut made = Vec::new(alloc);
+    for thing in things {
+        made.push(Fact {
+            of: *thing,
+            what: 0,
+        })?;
+    }
+    Ok(made)
+}
+
+/// Whether something is so of a thing.
+fn is_of(facts: &FactList, thing: usize) -> bool
+    ensures yes { result ≡ true → (f : Fact) × IsIn facts.now f × (f.of ≡ thing) }
+    ensures no { result ≡ false → (f : Fact) → IsIn facts.now f → f.of ≡ thing → ⊥ }
+{
+    for index in 0..facts.len() {
+        if facts.at(index).of == thing {
+            return true;
+        }
+    }
+    false
+}
+
+/// Whether a thing reads itself, directly or through others.
+fn reads_itself(alloc: Global, reads: &[Row<usize>], thing: usize) -> Result<bool, NoMemory>
+    ensures yes { IfOk result (λ itself. itself ≡ true → Reaches reads.now thing thing) }
+    ensures no { IfOk result (λ itself. itself ≡ false → Reaches reads.now thing thing → ⊥) }
+{
+    let started = starts(alloc, reads_of(reads, thing))?;
+    let reached = spread(alloc, started.as_slice(), reads)?;
+    Ok(is_of(&reached, thing))
+}
+
+/// Whether a thing reads itself, where those of an order do not.
+fn is_cyclic(
+    alloc: Global,
+    reads: &[Row<usize>],
+    order: &Done,
+    thing: usize,
+) -> Result<bool, NoMemory>
+    requires sound { (x : ℕ) → IsIn order.now x → Reaches reads.now x x → ⊥ }
+    ensures yes { IfOk result (λ cyclic. cyclic ≡ true → Reaches reads.now thing thing) }
+    ensures no { IfOk result (λ cyclic. cyclic ≡ false → Reaches reads.now thing thing → ⊥) }
+{
+    if order.has(thing) {
+        return Ok(false);
+    }
+    reads_itself(alloc, reads, thing)
+}
+
+/// The first thing that reads itself, directly or through others. Things of an order, which do not, are passed
+/// over.
+pub fn first_cyclic(
+    alloc: Global,
+    reads: &[Row<usize>],
+    order: &Done,
+) -> Result<Option<usize>, NoMemory>
+    requires sound { (x : ℕ) → IsIn order.now x → Reaches reads.now x x → ⊥ }
+    ensures cyclic { IfOk result (λ found. (x : ℕ) → found ≡ Some x → Reaches reads.now x x) }
+    ensures first { IfOk result (λ found. (x y : ℕ) → found ≡ Some x → y < x → Reaches reads.now y y → ⊥) }
+    ensures none { IfOk result (λ found. found ≡ None → (y : ℕ) → y < length reads.now → Reaches reads.now y y → ⊥) }
+{
+    for thing in 0..reads.len() {
+        if is_cyclic(alloc, reads, order, thing)? {
+            return Ok(Some(thing));
+        }
+    }
+    Ok(None)
+}

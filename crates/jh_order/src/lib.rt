@@ -1,0 +1,10 @@
+//! Things in an order in which each stands behind all that it reads.
+#![tactic(auto)]
+
+mod cycles;
+mod done;
+mod ordering;
+
+pub use cycles::first_cyclic;
+pub use done::Done;
+pub use ordering::order;

@@ -1,0 +1,12 @@
+pub mod Coercions
+pub mod NoLiteral
+pub mod Meant
+pub mod NameSteps
+pub mod OperatorSteps
+pub mod Parted
+pub mod CycleSteps
+pub mod Arms
+pub mod Loops
+pub mod ResolveSteps
+pub mod Members
+pub mod ValueSteps
