@@ -1,10 +1,12 @@
-//! Goes through specifications with what is to be read of them. Prints each that differs and, in the last line, how many there
+//! Goes through specifications and bodies of methods with what is to be read of them. Prints each that differs and, in the last line, how many there
 //! were; ends with status 1 where one differs, and with 6 where a file of cases can't be read.
 #![tactic(auto)]
 
+mod exprs;
 mod forms;
 mod parts;
 mod reading;
+mod stmts;
 
 use reading::shown;
 use std::alloc::Global;
@@ -13,7 +15,7 @@ use std::process::ExitCode;
 use std::{fs, io};
 
 /// The files of cases, by what they are about.
-const FILES: [&str; 2] = ["formulas.cases", "parts.cases"];
+const FILES: [&str; 3] = ["formulas.cases", "parts.cases", "statements.cases"];
 
 /// How many cases there were, and how many of them differed.
 #[derive(Clone, Copy)]

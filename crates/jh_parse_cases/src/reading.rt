@@ -1,9 +1,13 @@
-//! What is read of a source: the tree of a formula, where the source begins with a quote, else that of a specification.
+//! What is read of a source: the statements of a body, where the source begins with a brace; the tree of a formula, where it
+//! begins with a quote; else that of a specification.
 
 use crate::forms::write_form;
 use crate::parts::write_part;
+use crate::stmts::write_stmts;
 use jh_lex::{LexError, Token, tokens};
+use jh_peek::{ReadError, is_end};
 use jh_spec::{ParseError, formula, spec};
+use jh_stmt::body;
 use std::alloc::{AllocError, Global};
 
 /// Writes why nothing is read.
@@ -47,22 +51,42 @@ fn write_spec(
     Ok(())
 }
 
+/// Writes the statements of a body, which are all of the tokens. Which token a refusal names isn't written, as no contract says it.
+fn write_body(alloc: Global, out: &mut String, tokens: &[Token]) -> Result<(), AllocError> {
+    match body(alloc, tokens, 0, 0) {
+        Ok((statements, close, _number)) => {
+            if is_end(tokens, close + 1) {
+                write_stmts(out, statements.as_slice())
+            } else {
+                out.push_str("refused")
+            }
+        }
+        Err(ReadError::Refused(_)) => out.push_str("refused"),
+        Err(ReadError::Memory) => out.push_str("no memory"),
+    }
+}
+
 /// The tokens of a specification with this text.
-fn tokens_of(alloc: Global, source: &str) -> Result<Vec<Token>, LexError> {
+fn tokens_of_spec(alloc: Global, source: &str) -> Result<Vec<Token>, LexError> {
     let mut text = String::new(alloc);
     text.push_str("/*:")?;
     text.push_str(source)?;
     text.push_str("*/")?;
-    if text.len() >= 1 << 20 {
-        return Err(LexError::Memory);
-    }
-    tokens(alloc, text.as_bytes())
+    tokens_of(alloc, text.as_str())
 }
 
-/// What is read of a source, in one line.
-pub fn shown(alloc: Global, source: &str) -> Result<String, AllocError> {
+/// The tokens of a short source.
+fn tokens_of(alloc: Global, source: &str) -> Result<Vec<Token>, LexError> {
+    if source.len() >= 1 << 20 {
+        return Err(LexError::Memory);
+    }
+    tokens(alloc, source.as_bytes())
+}
+
+/// What is read of a specification, or of a formula.
+fn shown_spec(alloc: Global, source: &str) -> Result<String, AllocError> {
     let mut out = String::new(alloc);
-    match tokens_of(alloc, source) {
+    match tokens_of_spec(alloc, source) {
         Ok(tokens) => {
             if source.starts_with('"') {
                 write_formula(alloc, &mut out, tokens.as_slice(), 2)?;
@@ -73,4 +97,23 @@ pub fn shown(alloc: Global, source: &str) -> Result<String, AllocError> {
         Err(error) => write!(out, "{error}")?,
     }
     Ok(out)
+}
+
+/// What is read of a body.
+fn shown_body(alloc: Global, source: &str) -> Result<String, AllocError> {
+    let mut out = String::new(alloc);
+    match tokens_of(alloc, source) {
+        Ok(tokens) => write_body(alloc, &mut out, tokens.as_slice())?,
+        Err(error) => write!(out, "{error}")?,
+    }
+    Ok(out)
+}
+
+/// What is read of a source, in one line.
+pub fn shown(alloc: Global, source: &str) -> Result<String, AllocError> {
+    if source.starts_with('{') {
+        shown_body(alloc, source)
+    } else {
+        shown_spec(alloc, source)
+    }
 }

@@ -36,7 +36,7 @@ fn write_label(out: &mut String, label: &Option<Word>) -> Result<(), AllocError>
 }
 
 /// Writes a formula with its label and the facts it follows from.
-fn write_labelled(out: &mut String, word: &str, labelled: &Labelled) -> Result<(), AllocError> {
+pub fn write_labelled(out: &mut String, word: &str, labelled: &Labelled) -> Result<(), AllocError> {
     out.push_str(word)?;
     write_label(out, &labelled.name)?;
     write_spec(out, &labelled.body)?;
@@ -88,10 +88,9 @@ fn write_item(out: &mut String, item: &SpecItem) -> Result<(), AllocError> {
     }
 }
 
-/// Writes a statement of a specification.
-fn write_statement(out: &mut String, statement: &Stmt) -> Result<(), AllocError> {
-    write!(out, "{}:{} ", statement.place.line, statement.place.column)?;
-    match &statement.body {
+/// Writes what a specification says as a statement.
+pub fn write_spoken(out: &mut String, body: &StmtBody) -> Result<(), AllocError> {
+    match body {
         StmtBody::Assert(labelled) => write_labelled(out, "assert", labelled),
         StmtBody::Note(labelled) => write_labelled(out, "note", labelled),
         StmtBody::Ghost(variable, value) => {
@@ -103,6 +102,12 @@ fn write_statement(out: &mut String, statement: &Stmt) -> Result<(), AllocError>
         }
         _ => out.push_str("no statement of a specification;"),
     }
+}
+
+/// Writes a statement of a specification.
+fn write_statement(out: &mut String, statement: &Stmt) -> Result<(), AllocError> {
+    write!(out, "{}:{} ", statement.place.line, statement.place.column)?;
+    write_spoken(out, &statement.body)
 }
 
 /// Writes a contract.
