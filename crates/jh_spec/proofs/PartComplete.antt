@@ -30,17 +30,17 @@ use Rattle.jh_spec.proofs.Facts.{quote-rank}
 
 module _ (ts : List Token) where
   -- ---- where the parts end, and with what they begin
-  quoted-end : {n i j : ℕ} {q : SpecPart} → Quoted ts n i q j → i < j
+  pub quoted-end : {n i j : ℕ} {q : SpecPart} → Quoted ts n i q j → i < j
   quoted-end (part.quoted o p) = omega (arith, operand-end ts p.formula)
 
   quoted-opens : {n i j : ℕ} {q : SpecPart} → Quoted ts n i q j → is_quote_open_at ts i ≡ true
   quoted-opens (part.quoted o p) = o
 
-  label-end : {i j : ℕ} {l : Option Word} → Label ts i l j → i ≤ j
+  pub label-end : {i j : ℕ} {l : Option Word} → Label ts i l j → i ≤ j
   label-end part.unlabelled = omega arith
   label-end (part.labelled w c) = omega arith
 
-  semicolon-end : {i j : ℕ} → MaybeSemicolon ts i j → i ≤ j
+  pub semicolon-end : {i j : ℕ} → MaybeSemicolon ts i j → i ≤ j
   semicolon-end part.without = omega arith
   semicolon-end (part.with s) = omega arith
 
@@ -68,7 +68,7 @@ module _ (ts : List Token) where
   modifies-not u d part.modifies_nothing e = e
   modifies-not {i = i} u d (part.modifies s p) e = kinds-apart ts i _ u s d
 
-  from_words-end : {i j : ℕ} {ws : List Word} → FromWords ts i ws j → i < j
+  pub from_words-end : {i j : ℕ} {ws : List Word} → FromWords ts i ws j → i < j
   from_words-end (part.last_word e) = omega arith
   from_words-end (part.more_words e c p) = omega (arith, from_words-end p)
 
@@ -76,11 +76,11 @@ module _ (ts : List Token) where
   from-not u d part.from_all e = e
   from-not {i = i} u d (part.from_words s p) e = kinds-apart ts i _ u s d
 
-  from-end : {i j : ℕ} {ws : List Word} → From ts i ws j → i ≤ j
+  pub from-end : {i j : ℕ} {ws : List Word} → From ts i ws j → i ≤ j
   from-end part.from_all = omega arith
   from-end (part.from_words s p) = omega (arith, from_words-end p)
 
-  spoken-end : {n i j : ℕ} {l : LabelledPart} → Spoken ts n i l j → i < j
+  pub spoken-end : {n i j : ℕ} {l : LabelledPart} → Spoken ts n i l j → i < j
   spoken-end (part.spoken l q w) = omega (arith, label-end l, quoted-end q, from-end w)
 
   -- ---- what is read
@@ -176,7 +176,7 @@ module _ (ts : List Token) where
   unfolding defined_at
   defined-complete {i = i} (part.defined {j = k} {t = t} o e q p) = choose_on _ o (then_is _ e (then_is _ (behind_on ts (i + 2) symbol.EqualEqual q) (then_is _ (formula-complete ts (i + 3) k t p) refl)))
 
-  labelled-end : {n i j : ℕ} {l : LabelledPart} → Labelled ts n i l j → i < j
+  pub labelled-end : {n i j : ℕ} {l : LabelledPart} → Labelled ts n i l j → i < j
   labelled-end (part.labelled_formula p q) = omega (arith, label-end p, quoted-end q)
 
   labelled-complete : {n i j : ℕ} {l : LabelledPart} → Labelled ts n i l j → labelled_at ts n i ≡ Some (l, j)
@@ -245,7 +245,7 @@ module _ (ts : List Token) where
   target-complete {i = i} (part.a_name {w = w} e) = choose_off _ (name-other ts i 80 w e refl refl) (then_is _ e refl)
   target-complete {i = i} (part.a_read {j = j} o p c) = choose_on _ o (then_is _ (postfix-complete ts p (omega (arith, quote-rank ts j c)) (length ts) (omega arith) (omega (arith, kind-within ts j 81 refl c))) (choose_on _ c refl))
 
-  target-end : {n i j : ℕ} {v : SpecPart} → Target ts n i v j → i < j
+  pub target-end : {n i j : ℕ} {v : SpecPart} → Target ts n i v j → i < j
   target-end (part.a_name e) = omega arith
   target-end (part.a_read o p c) = omega (arith, postfix-end ts p)
 

@@ -2,56 +2,26 @@
 use Rattle.std.proofs.Common.{ℕ, ◌<◌, ◌≤◌, List, arith}
 use Rattle.jh_lex.specs.declared.token.Token.{Token}
 use Rattle.jh_ast.specs.declared.word.JType.{JType}
-use Rattle.jh_ast.specs.declared.word.Word.{Word}
 use Rattle.jh_ast.specs.Exprs.{ExprTree}
-use Rattle.jh_ast.specs.Forms.{SpecPart, LabelledPart}
+use Rattle.jh_ast.specs.Forms.{LabelledPart}
 use Rattle.jh_ast.specs.Stmts.{StmtTree, StmtTrees, RhsTree}
 use Rattle.std.specs.Prelude.{Option}
 use Rattle.jh_peek.specs.Lists.{Many, none, more}
-use Rattle.jh_spec.specs.Parts.{Quoted, Label, MaybeSemicolon, Labelled, LoopItem, FromWords, From, Spoken, Target, Loop, Statements}
+use Rattle.jh_spec.specs.Parts.{LoopItem, Loop, Statements}
 use Rattle.jh_spec.specs.Parts as part
-use Rattle.jh_spec.proofs.Ends.{operand-end, postfix-end}
+use Rattle.jh_spec.proofs.PartComplete.{quoted-end, semicolon-end, spoken-end, labelled-end, target-end as target_spec-end}
 use Rattle.jh_code.proofs.Ends.{level-end, call-end, target-end, rhs-end}
 use Rattle.jh_stmt.specs.Statements.{Typed, Initial, Condition, Invariants, Body, Several, Piece, Part, Statement}
 use Rattle.jh_stmt.specs.Statements as grammar
 
 module _ (ts : List Token) where
-  quoted-end : {n i j : ℕ} {q : SpecPart} → Quoted ts n i q j → i < j
-  quoted-end (part.quoted o p) = omega (arith, operand-end ts p.formula)
-
-  label-end : {i j : ℕ} {l : Option Word} → Label ts i l j → i ≤ j
-  label-end part.unlabelled = omega arith
-  label-end (part.labelled w c) = omega arith
-
-  semicolon-end : {i j : ℕ} → MaybeSemicolon ts i j → i ≤ j
-  semicolon-end part.without = omega arith
-  semicolon-end (part.with s) = omega arith
-
-  from_words-end : {i j : ℕ} {ws : List Word} → FromWords ts i ws j → i < j
-  from_words-end (part.last_word e) = omega arith
-  from_words-end (part.more_words e c p) = omega (arith, from_words-end p)
-
-  from-end : {i j : ℕ} {ws : List Word} → From ts i ws j → i ≤ j
-  from-end part.from_all = omega arith
-  from-end (part.from_words s p) = omega (arith, from_words-end p)
-
-  spoken-end : {n i j : ℕ} {l : LabelledPart} → Spoken ts n i l j → i < j
-  spoken-end (part.spoken l q w) = omega (arith, label-end l, quoted-end q, from-end w)
-
-  labelled-end : {n i j : ℕ} {l : LabelledPart} → Labelled ts n i l j → i < j
-  labelled-end (part.labelled_formula p q) = omega (arith, label-end p, quoted-end q)
-
-  ghost-end : {n i j : ℕ} {v : SpecPart} → Target ts n i v j → i < j
-  ghost-end (part.a_name e) = omega arith
-  ghost-end (part.a_read o p c) = omega (arith, postfix-end ts p)
-
   spoken_part-end : {n i j m : ℕ} {s : StmtTree} → part.Statement ts n i s j m → i < j
-  spoken_part-end (part.an_assert s p d) = omega (arith, spoken-end p, semicolon-end d)
-  spoken_part-end (part.a_note s p d) = omega (arith, spoken-end p, semicolon-end d)
-  spoken_part-end (part.a_ghost p s q d) = omega (arith, ghost-end p, quoted-end q, semicolon-end d)
+  spoken_part-end (part.an_assert s p d) = omega (arith, spoken-end ts p, semicolon-end ts d)
+  spoken_part-end (part.a_note s p d) = omega (arith, spoken-end ts p, semicolon-end ts d)
+  spoken_part-end (part.a_ghost p s q d) = omega (arith, target_spec-end ts p, quoted-end ts q, semicolon-end ts d)
 
   loop_item-end : {n i j m : ℕ} {l : LabelledPart} → LoopItem ts n i l j m → i < j
-  loop_item-end (part.loop_item s p d) = omega (arith, labelled-end p, semicolon-end d)
+  loop_item-end (part.loop_item s p d) = omega (arith, labelled-end ts p, semicolon-end ts d)
 
   spoken_parts-end : {n i j m : ℕ} {ss : List StmtTree} → Many (part.Statement ts) n i ss j m → i ≤ j
   spoken_parts-end none = omega arith
