@@ -1,13 +1,14 @@
 -- From what was due and delivered to the clauses of the top call.
 use Rattle.std.proofs.Common.{◌≡◌, ◌≤◌, ◌<◌, ℕ, List, length, ap, sym, ◌∙◌, Bool, true, false, refl, arith, inl, inr}
-use Rattle.std.specs.Prelude.{Option, None, Some, IfSome, ◌⊎◌, if◌then◌else◌, codes}
+use Rattle.std.specs.Prelude.{◌≢◌, Option, None, Some, IfSome, ◌⊎◌, if◌then◌else◌, codes}
+use Rattle.jahob.specs.declared.prove.Answer.{Answer}
 use Rattle.jahob.specs.declared.tree.Program.{Program}
 use Rattle.jahob.specs.declared.top.Reply.{Reply}
 use Rattle.jahob.specs.declared.top.Reply.TheVariants as reply
-use Rattle.jahob.specs.Causes.{FilesSeen, SinkSeen, Finding, reported, no_job, refused, unbuilt, file_failed, file_too_long, no_memory, Comes, Due, due, reply_due, Takes, IsTaken, Delivered, Answered, IsExcused, Exact, FitsBytes, FitsFile, Fits, IsFault, fault_text}
+use Rattle.jahob.specs.Causes.{FilesSeen, SinkSeen, Finding, reported, no_job, refused, unbuilt, file_failed, file_too_long, no_memory, Comes, Due, due, reply_due, Takes, IsTaken, Delivered, HaveNoFault, Answered, IsExcused, Exact, FitsBytes, FitsFile, Fits, IsFault, fault_text}
 use Rattle.jahob.specs.Verify.{Spells, Tells, Reports, Verifies, all_proved, source_limit}
 use Rattle.jahob.specs.Words.{verify_file}
-use Rattle.jahob.proofs.Verifying.{spells-one, refused-parses, unbuilt-spells, reports-verifies}
+use Rattle.jahob.proofs.Verifying.{spells-one, refused-parses, unbuilt-spells, reports-verifies, right-sound}
 
 -- a status is the one that is due, or 5
 takes-status : (sink : SinkSeen) (text : List ℕ) (d status : ℕ) → Takes sink text d status → (status ≡ d) ⊎ (status ≡ 5)
@@ -25,7 +26,7 @@ not-low d status high is low =
 reports-of : (words : List (List ℕ)) (files : FilesSeen) (out err : SinkSeen) (status : ℕ) (o : Finding) → Comes words files o → Delivered (due o) out err status → (status ≡ 0) ⊎ (status ≡ 1) → Reports words files.holds out.before out.after status
 reports-of words files out err status (reported p answers) comes delivered low =
     elim delivered.0 [
-      | inl whole ↦ record { program = p; read = comes.0; answers = answers; right = comes.1; written = whole.1; status_is = whole.0 }
+      | inl whole ↦ record { program = p; read = comes.0; answers = answers; right = comes.1; written = whole.1; status_is = whole.0; sound = right-sound p answers status comes.1 whole.0 }
       | inr front ↦ not-low 5 status (omega arith) (inr front.0) low
     ]
 reports-of words files out err status no_job comes delivered low = not-low 2 status (omega arith) (takes-status err _ 2 status delivered.0) low
@@ -70,6 +71,17 @@ memory-of words files out err status no_memory delivered six = delivered.1.writt
 
 pub answered-memory : (words : List (List ℕ)) (files : FilesSeen) (out err : SinkSeen) (status : ℕ) → Answered words files out err status → status ≡ 6 → out.after ≡ out.before
 answered-memory words files out err status a six = memory-of words files out err status a.finding a.delivered six
+
+-- with any status but 5 the sink that took its text counts no fault
+takes-no-fault : (sink : SinkSeen) (text : List ℕ) (d status : ℕ) → status ≢ 5 → Takes sink text d status → sink.faults_after ≡ sink.faults_before
+takes-no-fault sink text d status not takes = elim takes [ inl whole ↦ whole.2 | inr front ↦ absurd (not front.0) ]
+
+taken-no-fault : (on_out : Bool) (text : List ℕ) (d status : ℕ) (out err : SinkSeen) → status ≢ 5 → IsTaken on_out text d out err status → HaveNoFault out err
+taken-no-fault true text d status out err not taken = record { out_stays = takes-no-fault out text d status not taken.0; err_stays = taken.1.faults }
+taken-no-fault false text d status out err not taken = record { out_stays = taken.1.faults; err_stays = takes-no-fault err text d status not taken.0 }
+
+pub answered-no-fault : (words : List (List ℕ)) (files : FilesSeen) (out err : SinkSeen) (status : ℕ) → Answered words files out err status → status ≢ 5 → HaveNoFault out err
+answered-no-fault words files out err status a not = let d : Due = due a.finding in taken-no-fault d.on_out d.text d.status status out err not a.delivered
 
 none-some : {P : Type 0} (o : Option (List ℕ)) (file : List ℕ) → o ≡ None → o ≡ Some file → P
 none-some o file none some = let both : None ≡ Some file = sym none ∙ some in cc

@@ -14,10 +14,13 @@ use Rattle.jh_parse.specs.Parsed.{ParsedProgram}
 use Rattle.jh_spec.specs.declared.error.ParseError.{ParseError}
 use Rattle.jh_spec.specs.declared.error.ParseError.TheVariants as parse
 use Rattle.jh_parse.proofs.MemberComplete.{at_most_one_program}
+use Rattle.jahob.specs.declared.prove.Answer.{Answer}
 use Rattle.jahob.specs.declared.tree.Program.{Program}
 use Rattle.jahob.specs.Obligations.{sequents_of}
 use Rattle.jahob.specs.Refusals.{Parses, RefusedAt, not_utf8, bad_char, open_comment, open_quote, too_wide, syntax, too_deep, IsUnbuilt}
 use Rattle.jahob.specs.Subset.{program_of}
+use Rattle.jahob.specs.Sequents.{AllRight}
+use Rattle.jahob.specs.Sound.{Sound}
 use Rattle.jahob.specs.Verify.{Spells, Reports, Verifies, all_proved}
 use Rattle.jahob.proofs.Rights.{proved-valid}
 use Rattle.jahob.proofs.Soundness.{valid_sound}
@@ -72,10 +75,10 @@ accepted-by : (b : Bool) → ◌≡◌ {A = ℕ} (if b then 0 else 1) 0 → b �
 accepted-by true h = refl
 accepted-by false h = absurd (omega arith)
 
+-- a program whose report has status 0 is sound
+pub right-sound : (p : Program) (answers : List Answer) (status : ℕ) → AllRight (sequents_of p) answers → status ≡ (if all_proved answers then 0 else 1) → status ≡ 0 → Sound p
+right-sound p answers status right is zero = valid_sound p (proved-valid (sequents_of p) answers right (accepted-by (all_proved answers) (sym is ∙ zero)))
+
 -- the headline, where a report with status 0 was made
 pub reports-verifies : (words : List (List ℕ)) (holds : List ℕ → Option (List ℕ)) (before after : Option (List ℕ)) (status : ℕ) → Reports words holds before after status → status ≡ 0 → Verifies words holds
-reports-verifies words holds before after status report zero = record {
-  program = report.program;
-  read = report.read;
-  sound = valid_sound report.program (proved-valid (sequents_of report.program) report.answers report.right (accepted-by (all_proved report.answers) (sym report.status_is ∙ zero)));
-}
+reports-verifies words holds before after status report zero = record { program = report.program; read = report.read; sound = report.sound zero }

@@ -83,11 +83,11 @@ due (file_failed file) = record { status = 4; on_out = false; text = fault_text 
 due (file_too_long file) = record { status = 4; on_out = false; text = fault_text (codes "too long") file }
 due no_memory = record { status = 6; on_out = false; text = no_memory_text }
 
--- A sink took a whole text, and the status is the one that is due; or the sink failed, has a front of the
--- text, and the status is 5.
+-- A sink took a whole text, no put of it failed, and the status is the one that is due; or the sink failed,
+-- has a front of the text, and the status is 5.
 abbrev pub Takes : SinkSeen → List ℕ → ℕ → ℕ → Type 0
 Takes sink text due_status status =
-    ((status ≡ due_status) × Appends sink.before text sink.after)
+    ((status ≡ due_status) × Appends sink.before text sink.after × (sink.faults_after ≡ sink.faults_before))
     ⊎ ((status ≡ 5) × AppendsFront sink.before text sink.after × Rose sink.faults_before sink.faults_after)
 
 -- nothing was done to a sink
@@ -103,6 +103,11 @@ IsTaken false text due_status out err status = Takes err text due_status status 
 -- what is due was delivered
 abbrev pub Delivered : Due → SinkSeen → SinkSeen → ℕ → Type 0
 Delivered d out err status = IsTaken d.on_out d.text d.status out err status
+
+-- no put failed, also none that was tried again with success
+pub record HaveNoFault (out err : SinkSeen) : Type 0 where
+  pub out_stays : out.faults_after ≡ out.faults_before
+  pub err_stays : err.faults_after ≡ err.faults_before
 
 -- Each answer has its cause: a finding that may come was delivered.
 pub record Answered (words : List (List ℕ)) (files : FilesSeen) (out err : SinkSeen) (status : ℕ) : Type 0 where

@@ -76,7 +76,7 @@ pub record Verifies (words : List (List ℕ)) (holds : List ℕ → Option (List
   pub sound : Sound program
 
 -- The words ask for a file whose bytes spell one program, and the report on it was written, with right
--- answers for its sequents; the status is 0 where none is Unproved, and else 1.
+-- answers for its sequents; the status is 0 where none is Unproved, and else 1. With 0 that program is sound.
 pub record Reports (words : List (List ℕ)) (holds : List ℕ → Option (List ℕ)) (before after : Option (List ℕ)) (status : ℕ) : Type 0 where
   pub program : Program
   pub read : IsRead words holds program
@@ -84,3 +84,4 @@ pub record Reports (words : List (List ℕ)) (holds : List ℕ → Option (List 
   pub right : AllRight (sequents_of program) answers
   pub written : Appends before (report_of program (sequents_of program) answers) after
   pub status_is : status ≡ (if all_proved answers then 0 else 1)
+  pub sound : status ≡ 0 → Sound program

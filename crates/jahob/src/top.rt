@@ -1,7 +1,7 @@
 //! The top call: from the words of a command line to a report.
 #![tactic(auto)]
 
-ghost use Rattle.std.specs.Prelude.{◌≡◌, ◌+◌, ◌<◌, ◌^◌, ◌-◌, ◌⊎◌, ◌++◌, ℕ, List, codes, map, length, string_bytes, IfOk, IfErr, OnOk, Some, Err, true};
+ghost use Rattle.std.specs.Prelude.{◌≡◌, ◌≢◌, ◌+◌, ◌<◌, ◌^◌, ◌-◌, ◌⊎◌, ◌++◌, ℕ, List, codes, map, length, string_bytes, IfOk, IfErr, OnOk, Some, Err, true};
 ghost use Rattle.jh_tree.specs.Bare.{formula_tree};
 ghost use Rattle.jahob.specs.declared.tree.Program.{Program as ProgramTree};
 ghost use Rattle.jahob.specs.Obligations.{obligation_of, member_sequents, method_id, number_after, sequents_of};
@@ -12,7 +12,7 @@ ghost use Rattle.jh_lex.specs.Lexes.{Lexes};
 ghost use Rattle.jahob.specs.Checked.{is_well_named};
 ghost use Rattle.jahob.specs.Refusals.{Parses, IsWhy};
 ghost use Rattle.jahob.specs.Subset.{program_of};
-ghost use Rattle.jahob.specs.Causes.{fault_text, refused_text, IsRefusal, IsReply, IsFault, FitsBytes, FitsFile, Fits, Takes, Delivered, reply_due, Answered, Exact};
+ghost use Rattle.jahob.specs.Causes.{fault_text, refused_text, IsRefusal, IsReply, IsFault, FitsBytes, FitsFile, Fits, Takes, Delivered, HaveNoFault, reply_due, Answered, Exact};
 
 use crate::check::is_well_named;
 use crate::command::of_method;
@@ -377,7 +377,7 @@ pub fn jahob<F: Files, O: Sink, E: Sink>(
     // The headline: where the status is 0, the bytes read spell one program, and it is sound.
     ensures headline { result ≡ 0 → Verifies (map (λ word. string_bytes word) words.now) (F.holds files.old) }
 
-    // Where the status is 0 or 1, the whole report was written, and no answer is Unproved just where it is 0.
+    // Where the status is 0 or 1, the whole report was written, and no answer is Unproved just where it is 0; then the program that it reports on is sound.
     ensures report { (result ≡ 0) ⊎ (result ≡ 1) → Reports (map (λ word. string_bytes word) words.now) (F.holds files.old) (O.written out.old) (O.written out.new) result }
 
     // Each answer has its cause, and the text that is due with it was written whole, or a front of it by a sink that failed.
@@ -389,6 +389,11 @@ pub fn jahob<F: Files, O: Sink, E: Sink>(
 
     // The same from the conditions to the answers.
     ensures exact { Exact (map (λ word. string_bytes word) words.now) (record { holds = F.holds files.old; before = F.faults files.old; after = F.faults files.new }) result }
+
+    // With any status but 5 no put failed, also none that was tried again with success.
+    ensures faults { result ≢ 5 → HaveNoFault
+        (record { before = O.written out.old; after = O.written out.new; faults_before = O.faults out.old; faults_after = O.faults out.new })
+        (record { before = E.written err.old; after = E.written err.new; faults_before = E.faults err.old; faults_after = E.faults err.new }) }
 
     // Want of memory never follows a byte on the first sink, and what the files hold stays.
     ensures memory { result ≡ 6 → O.written out.new ≡ O.written out.old }

@@ -1,4 +1,4 @@
-use Rattle.jahob.proofs.Findings.{answered-by, answered-exact, answered-memory, answered-reports, answered-verifies}
+use Rattle.jahob.proofs.Findings.{answered-by, answered-exact, answered-memory, answered-no-fault, answered-reports, answered-verifies}
 use Rattle.jahob.proofs.top.jahob.Goals as goal
 
 pub returns-clause-cause : goal.returns-clause-cause
@@ -15,3 +15,6 @@ returns-clause-exact g c = answered-exact _ _ _ _ _ (answered-by _ _ _ _ _ c.rep
 
 pub returns-clause-memory : goal.returns-clause-memory
 returns-clause-memory g c = λ six. answered-memory _ _ _ _ _ (answered-by _ _ _ _ _ c.reply_to-reply.result c.reply_to-reply.ensures.fits c.deliver.ensures) six
+
+pub returns-clause-faults : goal.returns-clause-faults
+returns-clause-faults g c = λ not. answered-no-fault _ _ _ _ _ (answered-by _ _ _ _ _ c.reply_to-reply.result c.reply_to-reply.ensures.fits c.deliver.ensures) not
