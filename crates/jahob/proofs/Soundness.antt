@@ -18,7 +18,7 @@ use Rattle.jahob.specs.declared.tree.Method.{Method}
 use Rattle.jahob.specs.declared.tree.Member.{Member}
 use Rattle.jahob.specs.declared.tree.Member.TheVariants as member
 use Rattle.jahob.specs.declared.tree.Program.{Program}
-use Rattle.jahob.specs.Command.{CommandTree, assign, leave, state_name, opened, value_of, assignment_steps, assumed_pre, entry_copies, body_of, is_among, is_assigned, is_framed, conjunction, frame_fact, frame_facts, post_of, returned_of}
+use Rattle.jahob.specs.Command.{CommandTree, assign, leave, state_name, spec_formula, value_of, assignment_steps, assumed_pre, entry_copies, body_of, is_among, is_assigned, is_framed, conjunction, frame_fact, frame_facts, post_of, returned_of}
 use Rattle.jahob.specs.Wp.{wp}
 use Rattle.jahob.specs.Sequents.{IsTautology, AllValid, SequentTree, split_of}
 use Rattle.jahob.specs.State.{State, HasStatic, interp_of}
@@ -73,7 +73,7 @@ module _ (normal returns : FormulaTree) where
   pre-true : (p : Program) (pre : Option Spec) (cs : List CommandTree) (m : Interp) → truth (wp (assumed_pre p.name pre ++ cs) normal returns) m [] ≡ true
       → truth (condition p pre) m [] ≡ true → truth (wp cs normal returns) m [] ≡ true
   pre-true p None cs m h pre = h
-  pre-true p (Some spec) cs m h pre = applied (truth (opened p.name spec) m []) (truth (wp cs normal returns) m []) h pre
+  pre-true p (Some spec) cs m h pre = applied (truth (spec_formula p.name spec) m []) (truth (wp cs normal returns) m []) h pre
 
 -- all formulas of a list are true
 abbrev AllFormulas : List FormulaTree → Interp → Type 0

@@ -42,16 +42,16 @@ abbrev pub state_name : Word → Word → ℕ → Name
 state_name class field turn = record { text = (class.name.text ++ codes ".") ++ field.name.text; turn = turn }
 
 -- the values of names in code and formulas: a static is its state name, `old` is the name at turn 1
-abbrev pub opened_operand : Word → Operand → TermTree
-opened_operand class operand.Null = t.null
-opened_operand class (operand.Now word) = t.free_object (state_name class word 0)
-opened_operand class (operand.Old word) = t.free_object (state_name class word 1)
+abbrev pub operand_term : Word → Operand → TermTree
+operand_term class operand.Null = t.null
+operand_term class (operand.Now word) = t.free_object (state_name class word 0)
+operand_term class (operand.Old word) = t.free_object (state_name class word 1)
 
 abbrev pub equation_of : Word → Comparison → FormulaTree
-equation_of class part = t.eq_object (opened_operand class part.left) (opened_operand class part.right)
+equation_of class part = t.eq_object (operand_term class part.left) (operand_term class part.right)
 
-abbrev pub opened_comparison : Word → Comparison → FormulaTree
-opened_comparison class part = if part.equal then equation_of class part else t.negation (equation_of class part)
+abbrev pub comparison_formula : Word → Comparison → FormulaTree
+comparison_formula class part = if part.equal then equation_of class part else t.negation (equation_of class part)
 
 -- a conjunction, grouped to the right; of nothing it is True
 abbrev pub conjunction : List FormulaTree → FormulaTree
@@ -59,12 +59,12 @@ conjunction [] = t.true_formula
 conjunction (a ∷ []) = a
 conjunction (a ∷ b ∷ rest) = t.and a (conjunction (b ∷ rest))
 
-abbrev pub opened_parts : Word → List Comparison → FormulaTree
-opened_parts class parts = conjunction (map (opened_comparison class) parts)
+abbrev pub parts_formula : Word → List Comparison → FormulaTree
+parts_formula class parts = conjunction (map (comparison_formula class) parts)
 
 -- the formula of a specification
-abbrev pub opened : Word → Spec → FormulaTree
-opened class spec = opened_parts class spec.parts
+abbrev pub spec_formula : Word → Spec → FormulaTree
+spec_formula class spec = parts_formula class spec.parts
 
 abbrev pub label : MarkKind → Place → Option Name → Mark
 label kind place name = record { kind = kind; place = place; name = name; from = [] }
@@ -75,7 +75,7 @@ pre_name = record { text = codes "pre"; turn = 0 }
 -- what is assumed at entry, under the name `pre`
 abbrev pub assumed_pre : Word → Option Spec → List CommandTree
 assumed_pre class None = []
-assumed_pre class (Some spec) = assume (t.mark (label mark.Fact spec.place (Some pre_name)) (opened class spec)) ∷ []
+assumed_pre class (Some spec) = assume (t.mark (label mark.Fact spec.place (Some pre_name)) (spec_formula class spec)) ∷ []
 
 -- the value of a static at entry is kept under its name at turn 1
 abbrev pub entry_copy : Word → Word → CommandTree
@@ -119,7 +119,7 @@ frame_fact class place field = t.mark (label mark.Frame place None) (t.eq_object
 -- the postcondition, True where there is none
 abbrev pub post_of : Word → Place → Option Spec → FormulaTree
 post_of class place None = t.mark (label mark.Post place None) t.true_formula
-post_of class place (Some spec) = t.mark (label mark.Post spec.place None) (opened class spec)
+post_of class place (Some spec) = t.mark (label mark.Post spec.place None) (spec_formula class spec)
 
 abbrev pub frame_facts : Program → Method → Member → List FormulaTree
 frame_facts p m (member.Static field) = if is_framed m field then frame_fact p.name m.name.place field ∷ [] else []

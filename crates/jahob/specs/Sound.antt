@@ -10,7 +10,7 @@ use Rattle.jahob.specs.declared.tree.Method.{Method}
 use Rattle.jahob.specs.declared.tree.Member.{Member}
 use Rattle.jahob.specs.declared.tree.Member.TheVariants as member
 use Rattle.jahob.specs.declared.tree.Program.{Program}
-use Rattle.jahob.specs.Command.{state_name, opened, is_among}
+use Rattle.jahob.specs.Command.{state_name, spec_formula, is_among}
 use Rattle.jahob.specs.State.{State, IsWellFormed, HasStatic, interp_of}
 use Rattle.jahob.specs.Execution.{Outcome, returned, null_at, assert_failed, no_object, steps_out, run}
 
@@ -23,7 +23,7 @@ HasMethod (member.Method other ∷ ms) method = (method ≡ other) ⊎ HasMethod
 -- the formula of `requires` or `ensures`, True where it is absent
 abbrev pub condition : Program → Option Spec → FormulaTree
 condition p None = t.true_formula
-condition p (Some spec) = opened p.name spec
+condition p (Some spec) = spec_formula p.name spec
 
 -- A method may be entered in a state: the state is well formed, and the precondition is true.
 pub record Entry (p : Program) (m : Method) (s : State) : Type 0 where

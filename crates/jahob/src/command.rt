@@ -60,7 +60,7 @@ fn state_term(alloc: Global, class: &Word, field: &Word, turn: u32) -> Result<Te
 }
 
 fn operand(alloc: Global, class: &Word, operand: &Operand) -> Result<Term, NoMemory>
-    ensures { IfOk result (λ made. term_tree made ≡ commands.opened_operand class.now operand.now) }
+    ensures { IfOk result (λ made. term_tree made ≡ commands.operand_term class.now operand.now) }
 {
     match operand {
         Operand::Null => Ok(Term::Null),
@@ -78,7 +78,7 @@ fn equation(alloc: Global, class: &Word, part: &Comparison) -> Result<Formula, N
 }
 
 fn comparison(alloc: Global, class: &Word, part: &Comparison) -> Result<Formula, NoMemory>
-    ensures { IfOk result (λ made. formula_tree made ≡ commands.opened_comparison class.now part.now) }
+    ensures { IfOk result (λ made. formula_tree made ≡ commands.comparison_formula class.now part.now) }
 {
     let equation = equation(alloc, class, part)?;
     if part.equal {
@@ -88,7 +88,7 @@ fn comparison(alloc: Global, class: &Word, part: &Comparison) -> Result<Formula,
 }
 
 fn comparisons(alloc: Global, class: &Word, parts: &[Comparison]) -> Result<Vec<Formula>, NoMemory>
-    ensures { IfOk result (λ made. map formula_tree made.items ≡ map (commands.opened_comparison class.now) parts.now) }
+    ensures { IfOk result (λ made. map formula_tree made.items ≡ map (commands.comparison_formula class.now) parts.now) }
 {
     let mut made = Vec::new(alloc);
     for part in parts {
@@ -113,8 +113,8 @@ fn joined(alloc: Global, formulas: Vec<Formula>) -> Result<Formula, NoMemory>
 }
 
 /// The formula of a specification.
-fn opened(alloc: Global, class: &Word, spec: &Spec) -> Result<Formula, NoMemory>
-    ensures { IfOk result (λ made. formula_tree made ≡ commands.opened class.now spec.now) }
+fn spec_formula(alloc: Global, class: &Word, spec: &Spec) -> Result<Formula, NoMemory>
+    ensures { IfOk result (λ made. formula_tree made ≡ commands.spec_formula class.now spec.now) }
 {
     let parts = comparisons(alloc, class, spec.parts.items())?;
     joined(alloc, parts)
@@ -151,7 +151,7 @@ fn add_pre(
     let Some(spec) = pre else {
         return Ok(());
     };
-    let inside = opened(alloc, class, spec)?;
+    let inside = spec_formula(alloc, class, spec)?;
     let pre = name(alloc, "pre", 0)?;
     let fact = marked(alloc, MarkKind::Fact, spec.place, Some(pre), inside)?;
     steps.push(Command::Assume(fact))?;
@@ -319,7 +319,7 @@ fn postcondition(
 {
     match post {
         Some(spec) => {
-            let inside = opened(alloc, class, spec)?;
+            let inside = spec_formula(alloc, class, spec)?;
             marked(alloc, MarkKind::Post, spec.place, None, inside)
         }
         None => marked(alloc, MarkKind::Post, place, None, Formula::True),

@@ -6,4 +6,4 @@ use Rattle.jahob.proofs.command.comparisons.Given as goal
 
 -- the comparisons so far are made
 abbrev pub invariant-loop-part : goal.invariant-loop-part
-invariant-loop-part l = map formula_tree l.made.items ≡ map (commands.opened_comparison l.class) (take l.part-index l.parts)
+invariant-loop-part l = map formula_tree l.made.items ≡ map (commands.comparison_formula l.class) (take l.part-index l.parts)
