@@ -17,7 +17,11 @@ use Rattle.jh_parse.proofs.MemberComplete.{at_most_one_program}
 use Rattle.jahob.specs.declared.prove.Answer.{Answer}
 use Rattle.jahob.specs.declared.tree.Program.{Program}
 use Rattle.jahob.specs.Obligations.{sequents_of}
-use Rattle.jahob.specs.Refusals.{Parses, RefusedAt, not_utf8, bad_char, open_comment, open_quote, too_wide, syntax, too_deep, IsUnbuilt}
+use Rattle.jahob.specs.Refusals.{Parses, RefusedAt, not_utf8, bad_char, open_comment, open_quote, too_wide, syntax, too_deep, IsMistyped, IsUnbuilt, IsWhy, refusal_of}
+use Rattle.jh_rules.specs.Breaks.{Breaks}
+use Rattle.jh_type.specs.Refused.{IsRefused}
+use Rattle.jh_type.specs.declared.typed.TypeError.{TypeError}
+use Rattle.jh_type.specs.declared.typed.TypeError.TheVariants as type
 use Rattle.jahob.specs.Subset.{program_of}
 use Rattle.jahob.specs.Sequents.{AllRight}
 use Rattle.jahob.specs.Sound.{Sound}
@@ -39,6 +43,15 @@ spells-one bytes p q first second =
     let left : program_of second.tree ≡ Some p = tree-is bytes first.tree second.tree p first.parsed second.parsed first.is in
     let both : Some p ≡ Some q = sym left ∙ second.is in
     cc
+
+-- bytes that break a type rule spell none
+pub ill-spells : (bytes : List ℕ) (rule : ℕ) (place : Place) (p : Program) → IsMistyped bytes rule place → Spells bytes p → ⊥
+ill-spells bytes rule place p ill spells = spells.typed rule place (subst (λ t. Breaks t rule place) (parses-one bytes ill.tree spells.tree ill.parsed spells.parsed) ill.least.breaks)
+
+-- why a source that breaks a type rule is refused
+pub ill-why : (bytes : List ℕ) (tree : ProgramTree) (fault : TypeError) → Parses bytes tree → IsRefused tree fault → IsWhy bytes (refusal_of fault)
+ill-why bytes tree (type.TypeFault rule place) parsed least = record { tree = tree; parsed = parsed; least = least }
+ill-why bytes tree type.Memory parsed least = tt
 
 -- bytes that spell a tree that is no program spell none
 pub unbuilt-spells : (bytes : List ℕ) (p : Program) → IsUnbuilt bytes → Spells bytes p → ⊥

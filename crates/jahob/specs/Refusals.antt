@@ -7,7 +7,12 @@ use Rattle.jh_lex.specs.Lexes.{Lexes, IsFirstFault}
 use Rattle.jh_ast.specs.Programs.{ProgramTree}
 use Rattle.jh_nest.specs.Nesting.{AllShallow, IsFirstDeep}
 use Rattle.jh_parse.specs.Members as grammar
+use Rattle.jh_rules.specs.Breaks.{Breaks}
+use Rattle.jh_rules.specs.Faults.{fault}
 use Rattle.jh_spec.specs.Parsed.{IsStart}
+use Rattle.jh_type.specs.Refused.{IsLeastFault}
+use Rattle.jh_type.specs.declared.typed.TypeError.{TypeError}
+use Rattle.jh_type.specs.declared.typed.TypeError.TheVariants as type
 use Rattle.jahob.specs.declared.error.Refusal.{Refusal}
 use Rattle.jahob.specs.declared.error.Refusal.TheVariants as refusal
 use Rattle.jahob.specs.declared.tree.Program.{Program}
@@ -32,14 +37,31 @@ pub data RefusedAt (bytes : List ℕ) : ℕ → Place → Type 0 where
   syntax : {ts : List Token} {p : Place} → Lexes bytes ts → AllShallow ts → ((t : ProgramTree) → grammar.Spells ts t → ⊥) → IsStart ts p → RefusedAt bytes 6 p
   too_deep : {ts : List Token} {p : Place} → Lexes bytes ts → IsFirstDeep ts p → RefusedAt bytes 7 p
 
--- The bytes spell a tree that is no program of those that are verified so far.
+-- The bytes spell a tree that breaks a type rule at a place, the least place at which one is broken, and the least rule there.
+pub record IsMistyped (bytes : List ℕ) (rule : ℕ) (place : Place) : Type 0 where
+  pub tree : ProgramTree
+  pub parsed : Parses bytes tree
+  pub least : IsLeastFault tree (fault rule place)
+
+-- the tree breaks no type rule
+abbrev pub IsTyped : ProgramTree → Type 0
+IsTyped tree = (rule : ℕ) (place : Place) → Breaks tree rule place → ⊥
+
+-- The bytes spell a tree that breaks no type rule and is no program of those that are verified so far.
 pub record IsUnbuilt (bytes : List ℕ) : Type 0 where
   pub tree : ProgramTree
   pub parsed : Parses bytes tree
+  pub typed : IsTyped tree
   pub none : (p : Program) → program_of tree ≡ Some p → is_well_named p ≡ true → ⊥
 
 -- a refusal is right
 abbrev pub IsWhy : List ℕ → Refusal → Type 0
 IsWhy bytes (refusal.At n p) = RefusedAt bytes n p
+IsWhy bytes (refusal.Mistyped rule p) = IsMistyped bytes rule p
 IsWhy bytes refusal.Unbuilt = IsUnbuilt bytes
 IsWhy bytes refusal.Memory = Unit {0}
+
+-- why a source that breaks a type rule isn't verified
+abbrev pub refusal_of : TypeError → Refusal
+refusal_of (type.TypeFault rule place) = refusal.Mistyped rule place
+refusal_of type.Memory = refusal.Memory

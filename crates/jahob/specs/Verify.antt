@@ -7,7 +7,7 @@ use Rattle.jahob.specs.declared.tree.Program.{Program}
 use Rattle.jh_ast.specs.Programs.{ProgramTree}
 use Rattle.jh_name.specs.declared.place.Place.{Place}
 use Rattle.jahob.specs.Checked.{is_well_named}
-use Rattle.jahob.specs.Refusals.{Parses, RefusedAt, IsUnbuilt}
+use Rattle.jahob.specs.Refusals.{Parses, IsTyped, RefusedAt, IsMistyped, IsUnbuilt}
 use Rattle.jahob.specs.Subset.{program_of}
 use Rattle.jahob.specs.Words.{verify_file}
 use Rattle.jahob.specs.Sequents.{AllRight}
@@ -15,10 +15,12 @@ use Rattle.jahob.specs.Obligations.{sequents_of}
 use Rattle.jahob.specs.Report.{report_of, is_unproved}
 use Rattle.jahob.specs.Sound.{Sound}
 
--- Bytes spell a program: they spell a tree, which is a program of those that are verified so far, and it is well named.
+-- Bytes spell a program: they spell a tree that breaks no type rule and is a program of those that are verified so far, and it is
+-- well named.
 pub record Spells (bytes : List ℕ) (p : Program) : Type 0 where
   pub tree : ProgramTree
   pub parsed : Parses bytes tree
+  pub typed : IsTyped tree
   pub is : program_of tree ≡ Some p
   pub named : is_well_named p ≡ true
 
@@ -59,6 +61,15 @@ pub record IsRefused (words : List (List ℕ)) (holds : List ℕ → Option (Lis
   pub told : Tells (holds file) bytes
   pub within : length bytes ≤ source_limit
   pub why : RefusedAt bytes number place
+
+-- The words ask for a file, whose bytes spell a tree that breaks a type rule at a place.
+pub record IsIll (words : List (List ℕ)) (holds : List ℕ → Option (List ℕ)) (rule : ℕ) (place : Place) : Type 0 where
+  pub file : List ℕ
+  pub bytes : List ℕ
+  pub asked : verify_file words ≡ Some file
+  pub told : Tells (holds file) bytes
+  pub within : length bytes ≤ source_limit
+  pub why : IsMistyped bytes rule place
 
 -- The words ask for a file, whose bytes spell a tree that is no program of those that are verified so far.
 pub record IsLeft (words : List (List ℕ)) (holds : List ℕ → Option (List ℕ)) : Type 0 where

@@ -48,6 +48,8 @@ impl<T: Drop> From<AllocFailed<T>> for ReadError {
 pub enum Refusal {
     /// The source is refused with this number, from 1 to 7, at this place.
     At(u8, Place),
+    /// It breaks this type rule, at this place.
+    Mistyped(u8, Place),
     /// It spells no program of those that are verified so far.
     Unbuilt,
     /// Memory ran out.

@@ -10,9 +10,9 @@ ghost use Rattle.jahob.specs.Verify.{Spells, IsReport, Verifies, Reports};
 ghost use Rattle.jh_ast.specs.Bare.{program_tree};
 ghost use Rattle.jh_lex.specs.Lexes.{Lexes};
 ghost use Rattle.jahob.specs.Checked.{is_well_named};
-ghost use Rattle.jahob.specs.Refusals.{Parses, IsWhy};
+ghost use Rattle.jahob.specs.Refusals.{Parses, IsTyped, IsWhy, refusal_of};
 ghost use Rattle.jahob.specs.Subset.{program_of};
-ghost use Rattle.jahob.specs.Causes.{fault_text, refused_text, IsRefusal, IsReply, IsFault, FitsBytes, FitsFile, Fits, Takes, Delivered, HaveNoFault, reply_due, Answered, Exact};
+ghost use Rattle.jahob.specs.Causes.{fault_text, refused_text, mistyped_text, IsRefusal, IsIllness, IsReply, IsFault, FitsBytes, FitsFile, Fits, Takes, Delivered, HaveNoFault, reply_due, Answered, Exact};
 
 use crate::check::is_well_named;
 use crate::command::of_method;
@@ -32,6 +32,7 @@ use jh_lex::{LexError, Token, tokens};
 use jh_name::{MethodId, NoMemory, Place};
 use jh_parse::program;
 use jh_spec::ParseError;
+use jh_type::{TypeError, Typed, check};
 use std::alloc::Global;
 
 /// The most bytes that a source may have.
@@ -52,6 +53,8 @@ pub enum Reply {
     Usage,
     /// The source is refused; the line says with which number, and where.
     Refused(String),
+    /// The source breaks a type rule; the line says which, and where.
+    Mistyped(String),
     /// The source spells no program of those that are verified so far.
     Unbuilt,
     /// The file can't be read; the line says why.
@@ -68,6 +71,7 @@ impl Reply {
             Reply::Report(_, accepted) => { if *accepted { 0 } else { 1 } }
             Reply::Usage => 2,
             Reply::Refused(_) => 3,
+            Reply::Mistyped(_) => 3,
             Reply::Unbuilt => 3,
             Reply::Fault(_) => 4,
             Reply::NoMemory => 6,
@@ -82,6 +86,7 @@ impl Reply {
             Reply::Report(text, _) => text.as_str(),
             Reply::Usage => "usage: jahob verify FILE\n",
             Reply::Refused(text) => text.as_str(),
+            Reply::Mistyped(text) => text.as_str(),
             Reply::Unbuilt => "refused 13\n",
             Reply::Fault(text) => text.as_str(),
             Reply::NoMemory => "no memory\n",
@@ -96,6 +101,7 @@ impl Reply {
             Reply::Report(_, _) => true,
             Reply::Usage => false,
             Reply::Refused(_) => false,
+            Reply::Mistyped(_) => false,
             Reply::Unbuilt => false,
             Reply::Fault(_) => false,
             Reply::NoMemory => false,
@@ -149,14 +155,38 @@ fn built(alloc: Global, source: &Source) -> Result<Program, ReadError>
     }
 }
 
+/// Why a source that breaks a type rule isn't verified.
+fn refusal_of(fault: TypeError) -> Refusal
+    ensures { result ≡ refusal_of fault }
+{
+    match fault {
+        TypeError::TypeFault { rule, place } => Refusal::Mistyped(rule, place),
+        TypeError::Memory => Refusal::Memory,
+    }
+}
+
+/// The syntax tree of a source, which breaks no type rule.
+fn typed(alloc: Global, bytes: &[u8]) -> Result<Typed, Refusal>
+    requires { length bytes.now < 2 ^ 32 - 1 }
+    ensures parsed { IfOk result (λ source. Parses bytes.now (program_tree source)) }
+    ensures typed { IfOk result (λ source. IsTyped (program_tree source)) }
+    ensures why { IfErr result (IsWhy bytes.now) }
+{
+    let source = parsed(alloc, bytes)?;
+    match check(alloc, source) {
+        Ok(typed) => Ok(typed),
+        Err(refused) => Err(refusal_of(refused.fault)),
+    }
+}
+
 /// The program that a source spells.
 fn read(alloc: Global, bytes: &[u8]) -> Result<Program, Refusal>
     requires { length bytes.now < 2 ^ 32 - 1 }
     ensures spelled { IfOk result (Spells bytes.now) }
     ensures why { IfErr result (IsWhy bytes.now) }
 {
-    let source = parsed(alloc, bytes)?;
-    match built(alloc, &source) {
+    let source = typed(alloc, bytes)?;
+    match built(alloc, source.program()) {
         Ok(program) => Ok(program),
         Err(ReadError::Refused) => Err(Refusal::Unbuilt),
         Err(ReadError::Memory) => Err(Refusal::Memory),
@@ -248,6 +278,26 @@ fn verify(alloc: Global, program: &Program) -> Result<Verified, NoMemory>
     Ok(Verified { text, accepted })
 }
 
+/// The line for a source that breaks a type rule, at a place.
+fn mistyped_line(alloc: Global, rule: u8, place: Place) -> Result<String, NoMemory>
+    ensures { IfOk result (λ text. string_bytes text ≡ mistyped_text rule place) }
+{
+    let mut text = String::new(alloc);
+    let line = place.line;
+    let column = place.column;
+    writeln!(text, "refused 11 rule {rule} at {line}:{column}")?;
+    Ok(text)
+}
+
+fn reply_to_illness(alloc: Global, rule: u8, place: Place) -> Reply
+    ensures { IsIllness rule place result }
+{
+    match mistyped_line(alloc, rule, place) {
+        Ok(text) => Reply::Mistyped(text),
+        Err(NoMemory) => Reply::NoMemory,
+    }
+}
+
 /// The line for a source that is refused with a number, at a place.
 fn refused_line(alloc: Global, number: u8, place: Place) -> Result<String, NoMemory>
     ensures { IfOk result (λ text. string_bytes text ≡ refused_text number place) }
@@ -284,6 +334,7 @@ fn reply_to_bytes(alloc: Global, bytes: &[u8]) -> Reply
     match read(alloc, bytes) {
         Ok(program) => reply_to_program(alloc, &program),
         Err(Refusal::At(number, place)) => reply_to_refusal(alloc, number, place),
+        Err(Refusal::Mistyped(rule, place)) => reply_to_illness(alloc, rule, place),
         Err(Refusal::Unbuilt) => Reply::Unbuilt,
         Err(Refusal::Memory) => Reply::NoMemory,
     }
