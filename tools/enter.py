@@ -3,12 +3,36 @@
 import os
 import sys
 sys.path.insert(0, __file__.rsplit('/', 1)[0])
-from forms import TYPES, ORDER, core, is_part, boxed
+from forms import TYPES, ORDER, any_formula, core, is_part, boxed
 from table import WRAP, camel, names as shape_names
 
 PARAM = {'T': 'term', 'I': 'term', 'S': 'term', 'F': 'field', 'V': 'value', 'P': 'formula'}
 STEPS = {'T': 'object_steps', 'I': 'number_steps', 'S': 'set_steps', 'F': 'field_steps', 'V': 'value_steps', 'P': 'truth_steps'}
 WORD = {'T': 'term', 'I': 'int', 'S': 'set', 'F': 'field', 'V': 'value', 'P': 'formula'}
+
+# the formulas that a function of their own enters, so that a level of the others takes less of the stack
+CONNECTIVES = ('True', 'False', 'Not', 'And', 'Or', 'Implies', 'Iff', 'All', 'Ex', 'Mark')
+
+
+def is_atom(code, variant):
+    return code == 'P' and variant not in CONNECTIVES
+
+
+def any_of(variant, kinds):
+    """The pattern in the code of a formula of this variant."""
+    return f"Formula::{variant}" + (f"({', '.join('_' for _ in kinds)})" if kinds else '')
+
+
+def atoms_file():
+    """Which formulas are atoms."""
+    out = ["""-- Which formulas are atoms: no constants, connectives, quantifiers or labels.
+use Rattle.std.specs.Prelude.{Bool, true, false}
+use Rattle.jh_tree.specs.declared.form.Formula.{Formula}
+use Rattle.jh_tree.specs.declared.form.Formula.TheVariants as formula
+
+abbrev pub is_atom : Formula → Bool"""]
+    out += [f"is_atom {any_formula(v, kinds)} = false" for v, _, kinds in TYPES['P'][3] if v in CONNECTIVES]
+    return '\n'.join(out) + '\nis_atom _ = true\n'
 
 
 def arm(code, variant, ctor, kinds):
@@ -39,11 +63,12 @@ def arm(code, variant, ctor, kinds):
 
 
 def code():
-    out = ["""ghost use Rattle.std.specs.Prelude.{◌≡◌, IfOk, Some, slice_get};
+    out = ["""ghost use Rattle.std.specs.Prelude.{◌≡◌, true, IfOk, Some, slice_get};
 ghost use Rattle.jh_tree.specs.Tree.{of_object, of_number, of_truth, of_set, of_field};
 ghost use Rattle.jh_tree.specs.Bare.{term_tree, int_tree, set_tree, field_tree, value_tree, formula_tree, list_tree};
 ghost use Rattle.jh_table.specs.Growth.{Extends};
 ghost use Rattle.jh_table.specs.Nodes.{nodes};
+ghost use Rattle.jh_enter.specs.Atoms.{is_atom};
 ghost use Rattle.jh_enter.specs.Entered.{IsList, IsKept, AreKept};
 
 use jh_name::NoMemory;
@@ -67,7 +92,21 @@ pub fn enter_{WORD[c]}(table: &mut Table, {p}: &{rust}) -> Result<usize, NoMemor
 {{
     table.parts_come_first();
     match {p} {{
-""" + ''.join(arm(c, v, ctor, kinds) for v, ctor, kinds in variants) + "    }\n}\n")
+""" + ''.join(arm(c, v, ctor, kinds) for v, ctor, kinds in variants if not is_atom(c, v)) + (f"        {' | '.join(any_of(v, kinds) for v, _, kinds in variants if is_atom(c, v))} => enter_atom(table, formula),\n" if c == 'P' else '') + "    }\n}\n")
+    atoms = [(v, ctor, kinds) for v, ctor, kinds in TYPES['P'][3] if is_atom('P', v)]
+    out.append("""/// The node of a formula that is an atom.
+#[cycle(entered)]
+#[inline(never)]
+#[tactic(auto, using(crate::proofs::EnterSteps::truth_steps))]
+fn enter_atom(table: &mut Table, formula: &Formula) -> Result<usize, NoMemory>
+    requires { is_atom formula.now ≡ true }
+    ensures node { IfOk result (λ node. slice_get (nodes table.new) node ≡ Some (of_truth (formula_tree formula.now))) }
+    ensures grows { Extends table.old table.new }
+    ensures kept { IsKept table.old table.new (of_truth (formula_tree formula.now)) }
+{
+    table.parts_come_first();
+    match formula {
+""" + ''.join(arm('P', *atom) for atom in atoms) + ''.join(f"        {any_of(v, kinds)} => unreachable!(),\n" for v, _, kinds in TYPES['P'][3] if v in CONNECTIVES) + "    }\n}\n")
     out.append("""#[cycle(entered)]
 #[tactic(auto, using(crate::proofs::EnterSteps::list_steps))]
 fn enter_fields(table: &mut Table, fields: &[FieldTerm]) -> Result<usize, NoMemory>
@@ -236,9 +275,9 @@ pub enter_fields-returns-clause-grows : goal.enter_fields-returns-clause-grows
 enter_fields-returns-clause-grows t c =
     extends-trans c.args.table.now c.loop-field.table c.list.new.self c.loop-field.invariant.grows c.list.ensures.grows
 
-pub enter_formula-returns-in_ok-fields-in-Reach-clause-node :
-    goal.enter_formula-returns-in_ok-fields-in-Reach-clause-node
-enter_formula-returns-in_ok-fields-in-Reach-clause-node t c =
+pub enter_atom-returns-in_ok-fields-in-Reach-clause-node :
+    goal.enter_atom-returns-in_ok-fields-in-Reach-clause-node
+enter_atom-returns-in_ok-fields-in-Reach-clause-node t c =
     let last = c.enter_fields.new.table in
     let fs = list_tree c.items.result.now in
     let x = term_tree c.in-Reach.a in
@@ -265,9 +304,9 @@ enter_formula-returns-in_ok-mark-in-Mark-clause-node t c =
     made-as (nodes c.make-in-Mark.new.self) c.make-in-Mark.result (tree_in last (s.Mark m i)) (of_truth (formula_tree c.args.formula.now))
     (tree-Mark last.pools (nodes last) m i c.in-Mark.mark x c.in_ok-mark-in-Mark.ensures.number at ∙ ap (λ f. of_truth f) (sym whole)) c.make-in-Mark.ensures.node
 
-pub enter_formula-make-requires-in-Reach :
-    goal.enter_formula-make-requires-in-Reach
-enter_formula-make-requires-in-Reach t c =
+pub enter_atom-make-requires-in-Reach :
+    goal.enter_atom-make-requires-in-Reach
+enter_atom-make-requires-in-Reach t c =
     let last = c.enter_fields.new.table in
     let x = term_tree c.in-Reach.a in
     let y = term_tree c.in-Reach.b in
@@ -299,7 +338,7 @@ def wrapped(code, tree):
     return tree if code == 'V' else f"({WRAP[code]} {tree})"
 
 
-def kept(code, variant, ctor, kinds, calls):
+def kept(code, variant, ctor, kinds, calls, function):
     """The answers for the clause `kept` in one arm: where each call fails, and where the node is made."""
     fn, param = TYPES[code][2], PARAM[code]
     letters, trees, steps = iter('abc'), iter('xyz'), []
@@ -363,7 +402,7 @@ def kept(code, variant, ctor, kinds, calls):
 
     out = []
     for i, (word, *_) in enumerate(entered):
-        out.append((f"enter_{WORD[code]}-returns-in_err-{word}-in-{variant}-clause-kept", arm_of(i)))
+        out.append((f"{function}-returns-in_err-{word}-in-{variant}-clause-kept", arm_of(i)))
     lines, last, chain = arm_of(len(entered))
     lines.append(f"let last = {last} in")
     places, trees, proofs, numbers, again = {}, [], [], [], ''
@@ -399,7 +438,7 @@ def kept(code, variant, ctor, kinds, calls):
     shape = f"(s.{camel(ctor)} {' '.join(numbers)})"
     lines.append(f"let made : tree_in last {shape} ≡ v = {' '.join([lemma] + numbers + trees + proofs)}{again} ∙ sym same in")
     lines.append(f"kept-made start last {made}.new.self v {shape} {made}.result made {chain} {made}.ensures.kept")
-    out.append((f"enter_{WORD[code]}-returns-in_ok-{entered[-1][0]}-in-{variant}-clause-kept", lines))
+    out.append((f"{function}-returns-in_ok-{entered[-1][0]}-in-{variant}-clause-kept", lines))
     return out
 
 
@@ -408,13 +447,15 @@ def answers():
     steps = ', '.join(f"{TYPES[code][2]}_tree-{v}" for code, v, _, _ in arms)
     shapes = ', '.join(f"tree-{camel(ctor)}" for _, _, ctor, kinds in arms if not any(core(k) == 'L' for k in kinds))
     out = [ANSWERS.replace('STEPS', steps).replace('SHAPES', shapes)]
-    for code in 'TISFP':
+    groups = [(code, f"enter_{WORD[code]}", [x for x in TYPES[code][3] if not is_atom(code, x[0])]) for code in 'TISFP']
+    groups.append(('P', 'enter_atom', [x for x in TYPES['P'][3] if is_atom('P', x[0])]))
+    for code, function, variants in groups:
         calls = Calls()
-        for variant, ctor, kinds in TYPES[code][3]:
+        for variant, ctor, kinds in variants:
             if not any(is_part(k) for k in kinds):
                 calls.name('make', variant)
                 continue
-            for goal, lines in kept(code, variant, ctor, kinds, calls):
+            for goal, lines in kept(code, variant, ctor, kinds, calls, function):
                 out.append(f"pub {goal} :\n    goal.{goal}\n{goal} t c =\n" + ''.join(f"    {line}\n" for line in lines))
     return '\n'.join(out)
 
@@ -426,6 +467,7 @@ if __name__ == '__main__':
         path = f'{root}/crates/jh_enter/{path}'
         os.makedirs(os.path.dirname(path), exist_ok=True)
         open(path, 'w').write(text)
+    write('specs/Atoms.antt', atoms_file())
     write('src/entering.rt', code())
     write('src/guarded.rt', guards())
     write('proofs/EnterSteps.antt', steps())

@@ -1,8 +1,9 @@
-ghost use Rattle.std.specs.Prelude.{◌≡◌, IfOk, Some, slice_get};
+ghost use Rattle.std.specs.Prelude.{◌≡◌, true, IfOk, Some, slice_get};
 ghost use Rattle.jh_tree.specs.Tree.{of_object, of_number, of_truth, of_set, of_field};
 ghost use Rattle.jh_tree.specs.Bare.{term_tree, int_tree, set_tree, field_tree, value_tree, formula_tree, list_tree};
 ghost use Rattle.jh_table.specs.Growth.{Extends};
 ghost use Rattle.jh_table.specs.Nodes.{nodes};
+ghost use Rattle.jh_enter.specs.Atoms.{is_atom};
 ghost use Rattle.jh_enter.specs.Entered.{IsList, IsKept, AreKept};
 
 use jh_name::NoMemory;
@@ -169,15 +170,6 @@ pub fn enter_formula(table: &mut Table, formula: &Formula) -> Result<usize, NoMe
     match formula {
         Formula::True => table.make(Shape::True),
         Formula::False => table.make(Shape::False),
-        Formula::Free(name) => {
-            let name = table.name(name)?;
-            table.make(Shape::FreeTruth(name))
-        }
-        Formula::Read(a, b) => {
-            let a = enter_field(table, a)?;
-            let b = enter_term(table, b)?;
-            table.make(Shape::ReadTruth(a, b))
-        }
         Formula::Not(a) => {
             let a = enter_formula(table, a)?;
             table.make(Shape::Negation(a))
@@ -209,6 +201,66 @@ pub fn enter_formula(table: &mut Table, formula: &Formula) -> Result<usize, NoMe
         Formula::Ex(a) => {
             let a = enter_formula(table, a)?;
             table.make(Shape::Ex(a))
+        }
+        Formula::Mark(mark, a) => {
+            let a = enter_formula(table, a)?;
+            let mark = table.mark(mark)?;
+            table.make(Shape::Mark(mark, a))
+        }
+        Formula::Free(_)
+        | Formula::Read(_, _)
+        | Formula::EqObj(_, _)
+        | Formula::EqInt(_, _)
+        | Formula::EqSet(_, _)
+        | Formula::Less(_, _)
+        | Formula::LessEq(_, _)
+        | Formula::Divides(_, _)
+        | Formula::Member(_, _)
+        | Formula::Subset(_, _)
+        | Formula::Reach(_, _, _)
+        | Formula::Tree(_) => enter_atom(table, formula),
+    }
+}
+
+/// The node of a value of any sort. Nodes that are new are made, those before stay. Where the tree is listed
+/// already, no node is made.
+#[cycle(entered)]
+#[tactic(auto, using(crate::proofs::EnterSteps::value_steps))]
+pub fn enter_value(table: &mut Table, value: &Value) -> Result<usize, NoMemory>
+    ensures node { IfOk result (λ node. slice_get (nodes table.new) node ≡ Some (value_tree value.now)) }
+    ensures grows { Extends table.old table.new }
+    ensures kept { IsKept table.old table.new (value_tree value.now) }
+{
+    table.parts_come_first();
+    match value {
+        Value::Obj(a) => enter_term(table, a),
+        Value::Int(a) => enter_int(table, a),
+        Value::Bool(a) => enter_formula(table, a),
+        Value::Set(a) => enter_set(table, a),
+        Value::Field(a) => enter_field(table, a),
+    }
+}
+
+/// The node of a formula that is an atom.
+#[cycle(entered)]
+#[inline(never)]
+#[tactic(auto, using(crate::proofs::EnterSteps::truth_steps))]
+fn enter_atom(table: &mut Table, formula: &Formula) -> Result<usize, NoMemory>
+    requires { is_atom formula.now ≡ true }
+    ensures node { IfOk result (λ node. slice_get (nodes table.new) node ≡ Some (of_truth (formula_tree formula.now))) }
+    ensures grows { Extends table.old table.new }
+    ensures kept { IsKept table.old table.new (of_truth (formula_tree formula.now)) }
+{
+    table.parts_come_first();
+    match formula {
+        Formula::Free(name) => {
+            let name = table.name(name)?;
+            table.make(Shape::FreeTruth(name))
+        }
+        Formula::Read(a, b) => {
+            let a = enter_field(table, a)?;
+            let b = enter_term(table, b)?;
+            table.make(Shape::ReadTruth(a, b))
         }
         Formula::EqObj(a, b) => {
             let a = enter_term(table, a)?;
@@ -259,30 +311,16 @@ pub fn enter_formula(table: &mut Table, formula: &Formula) -> Result<usize, NoMe
             let fields = enter_fields(table, fields.items())?;
             table.make(Shape::Tree(fields))
         }
-        Formula::Mark(mark, a) => {
-            let a = enter_formula(table, a)?;
-            let mark = table.mark(mark)?;
-            table.make(Shape::Mark(mark, a))
-        }
-    }
-}
-
-/// The node of a value of any sort. Nodes that are new are made, those before stay. Where the tree is listed
-/// already, no node is made.
-#[cycle(entered)]
-#[tactic(auto, using(crate::proofs::EnterSteps::value_steps))]
-pub fn enter_value(table: &mut Table, value: &Value) -> Result<usize, NoMemory>
-    ensures node { IfOk result (λ node. slice_get (nodes table.new) node ≡ Some (value_tree value.now)) }
-    ensures grows { Extends table.old table.new }
-    ensures kept { IsKept table.old table.new (value_tree value.now) }
-{
-    table.parts_come_first();
-    match value {
-        Value::Obj(a) => enter_term(table, a),
-        Value::Int(a) => enter_int(table, a),
-        Value::Bool(a) => enter_formula(table, a),
-        Value::Set(a) => enter_set(table, a),
-        Value::Field(a) => enter_field(table, a),
+        Formula::True => unreachable!(),
+        Formula::False => unreachable!(),
+        Formula::Not(_) => unreachable!(),
+        Formula::And(_, _) => unreachable!(),
+        Formula::Or(_, _) => unreachable!(),
+        Formula::Implies(_, _) => unreachable!(),
+        Formula::Iff(_, _) => unreachable!(),
+        Formula::All(_) => unreachable!(),
+        Formula::Ex(_) => unreachable!(),
+        Formula::Mark(_, _) => unreachable!(),
     }
 }
 

@@ -83,9 +83,9 @@ pub enter_fields-returns-clause-grows : goal.enter_fields-returns-clause-grows
 enter_fields-returns-clause-grows t c =
     extends-trans c.args.table.now c.loop-field.table c.list.new.self c.loop-field.invariant.grows c.list.ensures.grows
 
-pub enter_formula-returns-in_ok-fields-in-Reach-clause-node :
-    goal.enter_formula-returns-in_ok-fields-in-Reach-clause-node
-enter_formula-returns-in_ok-fields-in-Reach-clause-node t c =
+pub enter_atom-returns-in_ok-fields-in-Reach-clause-node :
+    goal.enter_atom-returns-in_ok-fields-in-Reach-clause-node
+enter_atom-returns-in_ok-fields-in-Reach-clause-node t c =
     let last = c.enter_fields.new.table in
     let fs = list_tree c.items.result.now in
     let x = term_tree c.in-Reach.a in
@@ -112,9 +112,9 @@ enter_formula-returns-in_ok-mark-in-Mark-clause-node t c =
     made-as (nodes c.make-in-Mark.new.self) c.make-in-Mark.result (tree_in last (s.Mark m i)) (of_truth (formula_tree c.args.formula.now))
     (tree-Mark last.pools (nodes last) m i c.in-Mark.mark x c.in_ok-mark-in-Mark.ensures.number at ∙ ap (λ f. of_truth f) (sym whole)) c.make-in-Mark.ensures.node
 
-pub enter_formula-make-requires-in-Reach :
-    goal.enter_formula-make-requires-in-Reach
-enter_formula-make-requires-in-Reach t c =
+pub enter_atom-make-requires-in-Reach :
+    goal.enter_atom-make-requires-in-Reach
+enter_atom-make-requires-in-Reach t c =
     let last = c.enter_fields.new.table in
     let x = term_tree c.in-Reach.a in
     let y = term_tree c.in-Reach.b in
@@ -706,56 +706,12 @@ enter_field-returns-in_ok-c-in-Update-clause-kept t c =
     let made : tree_in last (s.Update c.in_ok-a-in-Update.a c.in_ok-b-in-Update.b c.in_ok-c-in-Update.c) ≡ v = tree-Update last.pools (nodes last) c.in_ok-a-in-Update.a c.in_ok-b-in-Update.b c.in_ok-c-in-Update.c x y z (node-stays c.enter_term.new.table c.enter_value.new.table c.in_ok-a-in-Update.a (of_field x) c.in_ok-c-in-Update.ensures.grows (node-stays c.enter_field.new.table c.enter_term.new.table c.in_ok-a-in-Update.a (of_field x) c.in_ok-b-in-Update.ensures.grows c.in_ok-a-in-Update.ensures.node)) (node-stays c.enter_term.new.table c.enter_value.new.table c.in_ok-b-in-Update.b (of_object y) c.in_ok-c-in-Update.ensures.grows c.in_ok-b-in-Update.ensures.node) c.in_ok-c-in-Update.ensures.node ∙ sym same in
     kept-made start last c.make-in-Update.new.self v (s.Update c.in_ok-a-in-Update.a c.in_ok-b-in-Update.b c.in_ok-c-in-Update.c) c.make-in-Update.result made after_c c.make-in-Update.ensures.kept
 
-pub enter_formula-returns-in_err-a-in-Read-clause-kept :
-    goal.enter_formula-returns-in_err-a-in-Read-clause-kept
-enter_formula-returns-in_err-a-in-Read-clause-kept t c =
-    let start = c.args.table.now in
-    let law = c.parts_come_first.ensures in
-    let x = field_tree c.deref.result.now in
-    let y = term_tree c.in-Read.b.value in
-    let v = of_truth (formula_tree c.args.formula.now) in
-    let w = of_truth (tree.read_truth x y) in
-    let whole : formula_tree c.args.formula.now ≡ tree.read_truth x y = search (rules, formula_tree-Read) in
-    let same : v ≡ w = ap (λ d. of_truth d) whole in
-    kept-part start start c.enter_field.new.table v w (of_field x) law same (part.read_truth-a x y) (kept-self start v) c.in_err-a-in-Read.ensures.kept
-
-pub enter_formula-returns-in_err-b-in-Read-clause-kept :
-    goal.enter_formula-returns-in_err-b-in-Read-clause-kept
-enter_formula-returns-in_err-b-in-Read-clause-kept t c =
-    let start = c.args.table.now in
-    let law = c.parts_come_first.ensures in
-    let x = field_tree c.deref.result.now in
-    let y = term_tree c.deref-in-Read.result.now in
-    let v = of_truth (formula_tree c.args.formula.now) in
-    let w = of_truth (tree.read_truth x y) in
-    let whole : formula_tree c.args.formula.now ≡ tree.read_truth x y = search (rules, formula_tree-Read) in
-    let same : v ≡ w = ap (λ d. of_truth d) whole in
-    let after_a = kept-part start start c.enter_field.new.table v w (of_field x) law same (part.read_truth-a x y) (kept-self start v) c.in_ok-a-in-Read.ensures.kept in
-    kept-part start c.enter_field.new.table c.enter_term.new.table v w (of_object y) law same (part.read_truth-b x y) after_a c.in_err-b-in-Read.ensures.kept
-
-pub enter_formula-returns-in_ok-b-in-Read-clause-kept :
-    goal.enter_formula-returns-in_ok-b-in-Read-clause-kept
-enter_formula-returns-in_ok-b-in-Read-clause-kept t c =
-    let start = c.args.table.now in
-    let law = c.parts_come_first.ensures in
-    let x = field_tree c.deref.result.now in
-    let y = term_tree c.deref-in-Read.result.now in
-    let v = of_truth (formula_tree c.args.formula.now) in
-    let w = of_truth (tree.read_truth x y) in
-    let whole : formula_tree c.args.formula.now ≡ tree.read_truth x y = search (rules, formula_tree-Read) in
-    let same : v ≡ w = ap (λ d. of_truth d) whole in
-    let after_a = kept-part start start c.enter_field.new.table v w (of_field x) law same (part.read_truth-a x y) (kept-self start v) c.in_ok-a-in-Read.ensures.kept in
-    let after_b = kept-part start c.enter_field.new.table c.enter_term.new.table v w (of_object y) law same (part.read_truth-b x y) after_a c.in_ok-b-in-Read.ensures.kept in
-    let last = c.enter_term.new.table in
-    let made : tree_in last (s.ReadTruth c.in_ok-a-in-Read.a c.in_ok-b-in-Read.b) ≡ v = tree-ReadTruth last.pools (nodes last) c.in_ok-a-in-Read.a c.in_ok-b-in-Read.b x y (node-stays c.enter_field.new.table c.enter_term.new.table c.in_ok-a-in-Read.a (of_field x) c.in_ok-b-in-Read.ensures.grows c.in_ok-a-in-Read.ensures.node) c.in_ok-b-in-Read.ensures.node ∙ sym same in
-    kept-made start last c.make-in-Read.new.self v (s.ReadTruth c.in_ok-a-in-Read.a c.in_ok-b-in-Read.b) c.make-in-Read.result made after_b c.make-in-Read.ensures.kept
-
 pub enter_formula-returns-in_err-a-in-Not-clause-kept :
     goal.enter_formula-returns-in_err-a-in-Not-clause-kept
 enter_formula-returns-in_err-a-in-Not-clause-kept t c =
     let start = c.args.table.now in
     let law = c.parts_come_first.ensures in
-    let x = formula_tree c.deref-in-Not.result.now in
+    let x = formula_tree c.deref.result.now in
     let v = of_truth (formula_tree c.args.formula.now) in
     let w = of_truth (tree.negation x) in
     let whole : formula_tree c.args.formula.now ≡ tree.negation x = search (rules, formula_tree-Not) in
@@ -767,7 +723,7 @@ pub enter_formula-returns-in_ok-a-in-Not-clause-kept :
 enter_formula-returns-in_ok-a-in-Not-clause-kept t c =
     let start = c.args.table.now in
     let law = c.parts_come_first.ensures in
-    let x = formula_tree c.deref-in-Not.result.now in
+    let x = formula_tree c.deref.result.now in
     let v = of_truth (formula_tree c.args.formula.now) in
     let w = of_truth (tree.negation x) in
     let whole : formula_tree c.args.formula.now ≡ tree.negation x = search (rules, formula_tree-Not) in
@@ -1007,435 +963,6 @@ enter_formula-returns-in_ok-a-in-Ex-clause-kept t c =
     let made : tree_in last (s.Ex c.in_ok-a-in-Ex.a) ≡ v = tree-Ex last.pools (nodes last) c.in_ok-a-in-Ex.a x c.in_ok-a-in-Ex.ensures.node ∙ sym same in
     kept-made start last c.make-in-Ex.new.self v (s.Ex c.in_ok-a-in-Ex.a) c.make-in-Ex.result made after_a c.make-in-Ex.ensures.kept
 
-pub enter_formula-returns-in_err-a-in-EqObj-clause-kept :
-    goal.enter_formula-returns-in_err-a-in-EqObj-clause-kept
-enter_formula-returns-in_err-a-in-EqObj-clause-kept t c =
-    let start = c.args.table.now in
-    let law = c.parts_come_first.ensures in
-    let x = term_tree c.in-EqObj.a in
-    let y = term_tree c.in-EqObj.b in
-    let v = of_truth (formula_tree c.args.formula.now) in
-    let w = of_truth (tree.eq_object x y) in
-    let whole : formula_tree c.args.formula.now ≡ tree.eq_object x y = search (rules, formula_tree-EqObj) in
-    let same : v ≡ w = ap (λ d. of_truth d) whole in
-    kept-part start start c.enter_term-in-EqObj.new.table v w (of_object x) law same (part.eq_object-a x y) (kept-self start v) c.in_err-a-in-EqObj.ensures.kept
-
-pub enter_formula-returns-in_err-b-in-EqObj-clause-kept :
-    goal.enter_formula-returns-in_err-b-in-EqObj-clause-kept
-enter_formula-returns-in_err-b-in-EqObj-clause-kept t c =
-    let start = c.args.table.now in
-    let law = c.parts_come_first.ensures in
-    let x = term_tree c.in-EqObj.a in
-    let y = term_tree c.in-EqObj.b in
-    let v = of_truth (formula_tree c.args.formula.now) in
-    let w = of_truth (tree.eq_object x y) in
-    let whole : formula_tree c.args.formula.now ≡ tree.eq_object x y = search (rules, formula_tree-EqObj) in
-    let same : v ≡ w = ap (λ d. of_truth d) whole in
-    let after_a = kept-part start start c.enter_term-in-EqObj.new.table v w (of_object x) law same (part.eq_object-a x y) (kept-self start v) c.in_ok-a-in-EqObj.ensures.kept in
-    kept-part start c.enter_term-in-EqObj.new.table c.enter_term-in-EqObj-2.new.table v w (of_object y) law same (part.eq_object-b x y) after_a c.in_err-b-in-EqObj.ensures.kept
-
-pub enter_formula-returns-in_ok-b-in-EqObj-clause-kept :
-    goal.enter_formula-returns-in_ok-b-in-EqObj-clause-kept
-enter_formula-returns-in_ok-b-in-EqObj-clause-kept t c =
-    let start = c.args.table.now in
-    let law = c.parts_come_first.ensures in
-    let x = term_tree c.in-EqObj.a in
-    let y = term_tree c.in-EqObj.b in
-    let v = of_truth (formula_tree c.args.formula.now) in
-    let w = of_truth (tree.eq_object x y) in
-    let whole : formula_tree c.args.formula.now ≡ tree.eq_object x y = search (rules, formula_tree-EqObj) in
-    let same : v ≡ w = ap (λ d. of_truth d) whole in
-    let after_a = kept-part start start c.enter_term-in-EqObj.new.table v w (of_object x) law same (part.eq_object-a x y) (kept-self start v) c.in_ok-a-in-EqObj.ensures.kept in
-    let after_b = kept-part start c.enter_term-in-EqObj.new.table c.enter_term-in-EqObj-2.new.table v w (of_object y) law same (part.eq_object-b x y) after_a c.in_ok-b-in-EqObj.ensures.kept in
-    let last = c.enter_term-in-EqObj-2.new.table in
-    let made : tree_in last (s.EqObject c.in_ok-a-in-EqObj.a c.in_ok-b-in-EqObj.b) ≡ v = tree-EqObject last.pools (nodes last) c.in_ok-a-in-EqObj.a c.in_ok-b-in-EqObj.b x y (node-stays c.enter_term-in-EqObj.new.table c.enter_term-in-EqObj-2.new.table c.in_ok-a-in-EqObj.a (of_object x) c.in_ok-b-in-EqObj.ensures.grows c.in_ok-a-in-EqObj.ensures.node) c.in_ok-b-in-EqObj.ensures.node ∙ sym same in
-    kept-made start last c.make-in-EqObj.new.self v (s.EqObject c.in_ok-a-in-EqObj.a c.in_ok-b-in-EqObj.b) c.make-in-EqObj.result made after_b c.make-in-EqObj.ensures.kept
-
-pub enter_formula-returns-in_err-a-in-EqInt-clause-kept :
-    goal.enter_formula-returns-in_err-a-in-EqInt-clause-kept
-enter_formula-returns-in_err-a-in-EqInt-clause-kept t c =
-    let start = c.args.table.now in
-    let law = c.parts_come_first.ensures in
-    let x = int_tree c.in-EqInt.a in
-    let y = int_tree c.in-EqInt.b in
-    let v = of_truth (formula_tree c.args.formula.now) in
-    let w = of_truth (tree.eq_number x y) in
-    let whole : formula_tree c.args.formula.now ≡ tree.eq_number x y = search (rules, formula_tree-EqInt) in
-    let same : v ≡ w = ap (λ d. of_truth d) whole in
-    kept-part start start c.enter_int.new.table v w (of_number x) law same (part.eq_number-a x y) (kept-self start v) c.in_err-a-in-EqInt.ensures.kept
-
-pub enter_formula-returns-in_err-b-in-EqInt-clause-kept :
-    goal.enter_formula-returns-in_err-b-in-EqInt-clause-kept
-enter_formula-returns-in_err-b-in-EqInt-clause-kept t c =
-    let start = c.args.table.now in
-    let law = c.parts_come_first.ensures in
-    let x = int_tree c.in-EqInt.a in
-    let y = int_tree c.in-EqInt.b in
-    let v = of_truth (formula_tree c.args.formula.now) in
-    let w = of_truth (tree.eq_number x y) in
-    let whole : formula_tree c.args.formula.now ≡ tree.eq_number x y = search (rules, formula_tree-EqInt) in
-    let same : v ≡ w = ap (λ d. of_truth d) whole in
-    let after_a = kept-part start start c.enter_int.new.table v w (of_number x) law same (part.eq_number-a x y) (kept-self start v) c.in_ok-a-in-EqInt.ensures.kept in
-    kept-part start c.enter_int.new.table c.enter_int-in-EqInt.new.table v w (of_number y) law same (part.eq_number-b x y) after_a c.in_err-b-in-EqInt.ensures.kept
-
-pub enter_formula-returns-in_ok-b-in-EqInt-clause-kept :
-    goal.enter_formula-returns-in_ok-b-in-EqInt-clause-kept
-enter_formula-returns-in_ok-b-in-EqInt-clause-kept t c =
-    let start = c.args.table.now in
-    let law = c.parts_come_first.ensures in
-    let x = int_tree c.in-EqInt.a in
-    let y = int_tree c.in-EqInt.b in
-    let v = of_truth (formula_tree c.args.formula.now) in
-    let w = of_truth (tree.eq_number x y) in
-    let whole : formula_tree c.args.formula.now ≡ tree.eq_number x y = search (rules, formula_tree-EqInt) in
-    let same : v ≡ w = ap (λ d. of_truth d) whole in
-    let after_a = kept-part start start c.enter_int.new.table v w (of_number x) law same (part.eq_number-a x y) (kept-self start v) c.in_ok-a-in-EqInt.ensures.kept in
-    let after_b = kept-part start c.enter_int.new.table c.enter_int-in-EqInt.new.table v w (of_number y) law same (part.eq_number-b x y) after_a c.in_ok-b-in-EqInt.ensures.kept in
-    let last = c.enter_int-in-EqInt.new.table in
-    let made : tree_in last (s.EqNumber c.in_ok-a-in-EqInt.a c.in_ok-b-in-EqInt.b) ≡ v = tree-EqNumber last.pools (nodes last) c.in_ok-a-in-EqInt.a c.in_ok-b-in-EqInt.b x y (node-stays c.enter_int.new.table c.enter_int-in-EqInt.new.table c.in_ok-a-in-EqInt.a (of_number x) c.in_ok-b-in-EqInt.ensures.grows c.in_ok-a-in-EqInt.ensures.node) c.in_ok-b-in-EqInt.ensures.node ∙ sym same in
-    kept-made start last c.make-in-EqInt.new.self v (s.EqNumber c.in_ok-a-in-EqInt.a c.in_ok-b-in-EqInt.b) c.make-in-EqInt.result made after_b c.make-in-EqInt.ensures.kept
-
-pub enter_formula-returns-in_err-a-in-EqSet-clause-kept :
-    goal.enter_formula-returns-in_err-a-in-EqSet-clause-kept
-enter_formula-returns-in_err-a-in-EqSet-clause-kept t c =
-    let start = c.args.table.now in
-    let law = c.parts_come_first.ensures in
-    let x = set_tree c.in-EqSet.a in
-    let y = set_tree c.in-EqSet.b in
-    let v = of_truth (formula_tree c.args.formula.now) in
-    let w = of_truth (tree.eq_set x y) in
-    let whole : formula_tree c.args.formula.now ≡ tree.eq_set x y = search (rules, formula_tree-EqSet) in
-    let same : v ≡ w = ap (λ d. of_truth d) whole in
-    kept-part start start c.enter_set.new.table v w (of_set x) law same (part.eq_set-a x y) (kept-self start v) c.in_err-a-in-EqSet.ensures.kept
-
-pub enter_formula-returns-in_err-b-in-EqSet-clause-kept :
-    goal.enter_formula-returns-in_err-b-in-EqSet-clause-kept
-enter_formula-returns-in_err-b-in-EqSet-clause-kept t c =
-    let start = c.args.table.now in
-    let law = c.parts_come_first.ensures in
-    let x = set_tree c.in-EqSet.a in
-    let y = set_tree c.in-EqSet.b in
-    let v = of_truth (formula_tree c.args.formula.now) in
-    let w = of_truth (tree.eq_set x y) in
-    let whole : formula_tree c.args.formula.now ≡ tree.eq_set x y = search (rules, formula_tree-EqSet) in
-    let same : v ≡ w = ap (λ d. of_truth d) whole in
-    let after_a = kept-part start start c.enter_set.new.table v w (of_set x) law same (part.eq_set-a x y) (kept-self start v) c.in_ok-a-in-EqSet.ensures.kept in
-    kept-part start c.enter_set.new.table c.enter_set-in-EqSet.new.table v w (of_set y) law same (part.eq_set-b x y) after_a c.in_err-b-in-EqSet.ensures.kept
-
-pub enter_formula-returns-in_ok-b-in-EqSet-clause-kept :
-    goal.enter_formula-returns-in_ok-b-in-EqSet-clause-kept
-enter_formula-returns-in_ok-b-in-EqSet-clause-kept t c =
-    let start = c.args.table.now in
-    let law = c.parts_come_first.ensures in
-    let x = set_tree c.in-EqSet.a in
-    let y = set_tree c.in-EqSet.b in
-    let v = of_truth (formula_tree c.args.formula.now) in
-    let w = of_truth (tree.eq_set x y) in
-    let whole : formula_tree c.args.formula.now ≡ tree.eq_set x y = search (rules, formula_tree-EqSet) in
-    let same : v ≡ w = ap (λ d. of_truth d) whole in
-    let after_a = kept-part start start c.enter_set.new.table v w (of_set x) law same (part.eq_set-a x y) (kept-self start v) c.in_ok-a-in-EqSet.ensures.kept in
-    let after_b = kept-part start c.enter_set.new.table c.enter_set-in-EqSet.new.table v w (of_set y) law same (part.eq_set-b x y) after_a c.in_ok-b-in-EqSet.ensures.kept in
-    let last = c.enter_set-in-EqSet.new.table in
-    let made : tree_in last (s.EqSet c.in_ok-a-in-EqSet.a c.in_ok-b-in-EqSet.b) ≡ v = tree-EqSet last.pools (nodes last) c.in_ok-a-in-EqSet.a c.in_ok-b-in-EqSet.b x y (node-stays c.enter_set.new.table c.enter_set-in-EqSet.new.table c.in_ok-a-in-EqSet.a (of_set x) c.in_ok-b-in-EqSet.ensures.grows c.in_ok-a-in-EqSet.ensures.node) c.in_ok-b-in-EqSet.ensures.node ∙ sym same in
-    kept-made start last c.make-in-EqSet.new.self v (s.EqSet c.in_ok-a-in-EqSet.a c.in_ok-b-in-EqSet.b) c.make-in-EqSet.result made after_b c.make-in-EqSet.ensures.kept
-
-pub enter_formula-returns-in_err-a-in-Less-clause-kept :
-    goal.enter_formula-returns-in_err-a-in-Less-clause-kept
-enter_formula-returns-in_err-a-in-Less-clause-kept t c =
-    let start = c.args.table.now in
-    let law = c.parts_come_first.ensures in
-    let x = int_tree c.in-Less.a in
-    let y = int_tree c.in-Less.b in
-    let v = of_truth (formula_tree c.args.formula.now) in
-    let w = of_truth (tree.less x y) in
-    let whole : formula_tree c.args.formula.now ≡ tree.less x y = search (rules, formula_tree-Less) in
-    let same : v ≡ w = ap (λ d. of_truth d) whole in
-    kept-part start start c.enter_int-in-Less.new.table v w (of_number x) law same (part.less-a x y) (kept-self start v) c.in_err-a-in-Less.ensures.kept
-
-pub enter_formula-returns-in_err-b-in-Less-clause-kept :
-    goal.enter_formula-returns-in_err-b-in-Less-clause-kept
-enter_formula-returns-in_err-b-in-Less-clause-kept t c =
-    let start = c.args.table.now in
-    let law = c.parts_come_first.ensures in
-    let x = int_tree c.in-Less.a in
-    let y = int_tree c.in-Less.b in
-    let v = of_truth (formula_tree c.args.formula.now) in
-    let w = of_truth (tree.less x y) in
-    let whole : formula_tree c.args.formula.now ≡ tree.less x y = search (rules, formula_tree-Less) in
-    let same : v ≡ w = ap (λ d. of_truth d) whole in
-    let after_a = kept-part start start c.enter_int-in-Less.new.table v w (of_number x) law same (part.less-a x y) (kept-self start v) c.in_ok-a-in-Less.ensures.kept in
-    kept-part start c.enter_int-in-Less.new.table c.enter_int-in-Less-2.new.table v w (of_number y) law same (part.less-b x y) after_a c.in_err-b-in-Less.ensures.kept
-
-pub enter_formula-returns-in_ok-b-in-Less-clause-kept :
-    goal.enter_formula-returns-in_ok-b-in-Less-clause-kept
-enter_formula-returns-in_ok-b-in-Less-clause-kept t c =
-    let start = c.args.table.now in
-    let law = c.parts_come_first.ensures in
-    let x = int_tree c.in-Less.a in
-    let y = int_tree c.in-Less.b in
-    let v = of_truth (formula_tree c.args.formula.now) in
-    let w = of_truth (tree.less x y) in
-    let whole : formula_tree c.args.formula.now ≡ tree.less x y = search (rules, formula_tree-Less) in
-    let same : v ≡ w = ap (λ d. of_truth d) whole in
-    let after_a = kept-part start start c.enter_int-in-Less.new.table v w (of_number x) law same (part.less-a x y) (kept-self start v) c.in_ok-a-in-Less.ensures.kept in
-    let after_b = kept-part start c.enter_int-in-Less.new.table c.enter_int-in-Less-2.new.table v w (of_number y) law same (part.less-b x y) after_a c.in_ok-b-in-Less.ensures.kept in
-    let last = c.enter_int-in-Less-2.new.table in
-    let made : tree_in last (s.Less c.in_ok-a-in-Less.a c.in_ok-b-in-Less.b) ≡ v = tree-Less last.pools (nodes last) c.in_ok-a-in-Less.a c.in_ok-b-in-Less.b x y (node-stays c.enter_int-in-Less.new.table c.enter_int-in-Less-2.new.table c.in_ok-a-in-Less.a (of_number x) c.in_ok-b-in-Less.ensures.grows c.in_ok-a-in-Less.ensures.node) c.in_ok-b-in-Less.ensures.node ∙ sym same in
-    kept-made start last c.make-in-Less.new.self v (s.Less c.in_ok-a-in-Less.a c.in_ok-b-in-Less.b) c.make-in-Less.result made after_b c.make-in-Less.ensures.kept
-
-pub enter_formula-returns-in_err-a-in-LessEq-clause-kept :
-    goal.enter_formula-returns-in_err-a-in-LessEq-clause-kept
-enter_formula-returns-in_err-a-in-LessEq-clause-kept t c =
-    let start = c.args.table.now in
-    let law = c.parts_come_first.ensures in
-    let x = int_tree c.in-LessEq.a in
-    let y = int_tree c.in-LessEq.b in
-    let v = of_truth (formula_tree c.args.formula.now) in
-    let w = of_truth (tree.less_equal x y) in
-    let whole : formula_tree c.args.formula.now ≡ tree.less_equal x y = search (rules, formula_tree-LessEq) in
-    let same : v ≡ w = ap (λ d. of_truth d) whole in
-    kept-part start start c.enter_int-in-LessEq.new.table v w (of_number x) law same (part.less_equal-a x y) (kept-self start v) c.in_err-a-in-LessEq.ensures.kept
-
-pub enter_formula-returns-in_err-b-in-LessEq-clause-kept :
-    goal.enter_formula-returns-in_err-b-in-LessEq-clause-kept
-enter_formula-returns-in_err-b-in-LessEq-clause-kept t c =
-    let start = c.args.table.now in
-    let law = c.parts_come_first.ensures in
-    let x = int_tree c.in-LessEq.a in
-    let y = int_tree c.in-LessEq.b in
-    let v = of_truth (formula_tree c.args.formula.now) in
-    let w = of_truth (tree.less_equal x y) in
-    let whole : formula_tree c.args.formula.now ≡ tree.less_equal x y = search (rules, formula_tree-LessEq) in
-    let same : v ≡ w = ap (λ d. of_truth d) whole in
-    let after_a = kept-part start start c.enter_int-in-LessEq.new.table v w (of_number x) law same (part.less_equal-a x y) (kept-self start v) c.in_ok-a-in-LessEq.ensures.kept in
-    kept-part start c.enter_int-in-LessEq.new.table c.enter_int-in-LessEq-2.new.table v w (of_number y) law same (part.less_equal-b x y) after_a c.in_err-b-in-LessEq.ensures.kept
-
-pub enter_formula-returns-in_ok-b-in-LessEq-clause-kept :
-    goal.enter_formula-returns-in_ok-b-in-LessEq-clause-kept
-enter_formula-returns-in_ok-b-in-LessEq-clause-kept t c =
-    let start = c.args.table.now in
-    let law = c.parts_come_first.ensures in
-    let x = int_tree c.in-LessEq.a in
-    let y = int_tree c.in-LessEq.b in
-    let v = of_truth (formula_tree c.args.formula.now) in
-    let w = of_truth (tree.less_equal x y) in
-    let whole : formula_tree c.args.formula.now ≡ tree.less_equal x y = search (rules, formula_tree-LessEq) in
-    let same : v ≡ w = ap (λ d. of_truth d) whole in
-    let after_a = kept-part start start c.enter_int-in-LessEq.new.table v w (of_number x) law same (part.less_equal-a x y) (kept-self start v) c.in_ok-a-in-LessEq.ensures.kept in
-    let after_b = kept-part start c.enter_int-in-LessEq.new.table c.enter_int-in-LessEq-2.new.table v w (of_number y) law same (part.less_equal-b x y) after_a c.in_ok-b-in-LessEq.ensures.kept in
-    let last = c.enter_int-in-LessEq-2.new.table in
-    let made : tree_in last (s.LessEqual c.in_ok-a-in-LessEq.a c.in_ok-b-in-LessEq.b) ≡ v = tree-LessEqual last.pools (nodes last) c.in_ok-a-in-LessEq.a c.in_ok-b-in-LessEq.b x y (node-stays c.enter_int-in-LessEq.new.table c.enter_int-in-LessEq-2.new.table c.in_ok-a-in-LessEq.a (of_number x) c.in_ok-b-in-LessEq.ensures.grows c.in_ok-a-in-LessEq.ensures.node) c.in_ok-b-in-LessEq.ensures.node ∙ sym same in
-    kept-made start last c.make-in-LessEq.new.self v (s.LessEqual c.in_ok-a-in-LessEq.a c.in_ok-b-in-LessEq.b) c.make-in-LessEq.result made after_b c.make-in-LessEq.ensures.kept
-
-pub enter_formula-returns-in_err-a-in-Divides-clause-kept :
-    goal.enter_formula-returns-in_err-a-in-Divides-clause-kept
-enter_formula-returns-in_err-a-in-Divides-clause-kept t c =
-    let start = c.args.table.now in
-    let law = c.parts_come_first.ensures in
-    let x = int_tree c.in-Divides.a in
-    let v = of_truth (formula_tree c.args.formula.now) in
-    let w = of_truth (tree.divides c.in-Divides.number x) in
-    let whole : formula_tree c.args.formula.now ≡ tree.divides c.in-Divides.number x = search (rules, formula_tree-Divides) in
-    let same : v ≡ w = ap (λ d. of_truth d) whole in
-    kept-part start start c.enter_int-in-Divides.new.table v w (of_number x) law same (part.divides c.in-Divides.number x) (kept-self start v) c.in_err-a-in-Divides.ensures.kept
-
-pub enter_formula-returns-in_ok-a-in-Divides-clause-kept :
-    goal.enter_formula-returns-in_ok-a-in-Divides-clause-kept
-enter_formula-returns-in_ok-a-in-Divides-clause-kept t c =
-    let start = c.args.table.now in
-    let law = c.parts_come_first.ensures in
-    let x = int_tree c.in-Divides.a in
-    let v = of_truth (formula_tree c.args.formula.now) in
-    let w = of_truth (tree.divides c.in-Divides.number x) in
-    let whole : formula_tree c.args.formula.now ≡ tree.divides c.in-Divides.number x = search (rules, formula_tree-Divides) in
-    let same : v ≡ w = ap (λ d. of_truth d) whole in
-    let after_a = kept-part start start c.enter_int-in-Divides.new.table v w (of_number x) law same (part.divides c.in-Divides.number x) (kept-self start v) c.in_ok-a-in-Divides.ensures.kept in
-    let last = c.enter_int-in-Divides.new.table in
-    let z = c.in-Divides.number in
-    let read = to_z w64 (of_z w64 z) in
-    let fits : SFits w64 z = search rules in
-    let made : tree_in last (s.Divides read c.in_ok-a-in-Divides.a) ≡ v = tree-Divides last.pools (nodes last) read c.in_ok-a-in-Divides.a x c.in_ok-a-in-Divides.ensures.node ∙ ap (λ d. of_truth (tree.divides d x)) (to_z-of_z w64 z fits) ∙ sym same in
-    kept-made start last c.make-in-Divides.new.self v (s.Divides read c.in_ok-a-in-Divides.a) c.make-in-Divides.result made after_a c.make-in-Divides.ensures.kept
-
-pub enter_formula-returns-in_err-a-in-Member-clause-kept :
-    goal.enter_formula-returns-in_err-a-in-Member-clause-kept
-enter_formula-returns-in_err-a-in-Member-clause-kept t c =
-    let start = c.args.table.now in
-    let law = c.parts_come_first.ensures in
-    let x = term_tree c.in-Member.a in
-    let y = set_tree c.in-Member.b in
-    let v = of_truth (formula_tree c.args.formula.now) in
-    let w = of_truth (tree.member x y) in
-    let whole : formula_tree c.args.formula.now ≡ tree.member x y = search (rules, formula_tree-Member) in
-    let same : v ≡ w = ap (λ d. of_truth d) whole in
-    kept-part start start c.enter_term-in-Member.new.table v w (of_object x) law same (part.member-a x y) (kept-self start v) c.in_err-a-in-Member.ensures.kept
-
-pub enter_formula-returns-in_err-b-in-Member-clause-kept :
-    goal.enter_formula-returns-in_err-b-in-Member-clause-kept
-enter_formula-returns-in_err-b-in-Member-clause-kept t c =
-    let start = c.args.table.now in
-    let law = c.parts_come_first.ensures in
-    let x = term_tree c.in-Member.a in
-    let y = set_tree c.in-Member.b in
-    let v = of_truth (formula_tree c.args.formula.now) in
-    let w = of_truth (tree.member x y) in
-    let whole : formula_tree c.args.formula.now ≡ tree.member x y = search (rules, formula_tree-Member) in
-    let same : v ≡ w = ap (λ d. of_truth d) whole in
-    let after_a = kept-part start start c.enter_term-in-Member.new.table v w (of_object x) law same (part.member-a x y) (kept-self start v) c.in_ok-a-in-Member.ensures.kept in
-    kept-part start c.enter_term-in-Member.new.table c.enter_set-in-Member.new.table v w (of_set y) law same (part.member-b x y) after_a c.in_err-b-in-Member.ensures.kept
-
-pub enter_formula-returns-in_ok-b-in-Member-clause-kept :
-    goal.enter_formula-returns-in_ok-b-in-Member-clause-kept
-enter_formula-returns-in_ok-b-in-Member-clause-kept t c =
-    let start = c.args.table.now in
-    let law = c.parts_come_first.ensures in
-    let x = term_tree c.in-Member.a in
-    let y = set_tree c.in-Member.b in
-    let v = of_truth (formula_tree c.args.formula.now) in
-    let w = of_truth (tree.member x y) in
-    let whole : formula_tree c.args.formula.now ≡ tree.member x y = search (rules, formula_tree-Member) in
-    let same : v ≡ w = ap (λ d. of_truth d) whole in
-    let after_a = kept-part start start c.enter_term-in-Member.new.table v w (of_object x) law same (part.member-a x y) (kept-self start v) c.in_ok-a-in-Member.ensures.kept in
-    let after_b = kept-part start c.enter_term-in-Member.new.table c.enter_set-in-Member.new.table v w (of_set y) law same (part.member-b x y) after_a c.in_ok-b-in-Member.ensures.kept in
-    let last = c.enter_set-in-Member.new.table in
-    let made : tree_in last (s.Member c.in_ok-a-in-Member.a c.in_ok-b-in-Member.b) ≡ v = tree-Member last.pools (nodes last) c.in_ok-a-in-Member.a c.in_ok-b-in-Member.b x y (node-stays c.enter_term-in-Member.new.table c.enter_set-in-Member.new.table c.in_ok-a-in-Member.a (of_object x) c.in_ok-b-in-Member.ensures.grows c.in_ok-a-in-Member.ensures.node) c.in_ok-b-in-Member.ensures.node ∙ sym same in
-    kept-made start last c.make-in-Member.new.self v (s.Member c.in_ok-a-in-Member.a c.in_ok-b-in-Member.b) c.make-in-Member.result made after_b c.make-in-Member.ensures.kept
-
-pub enter_formula-returns-in_err-a-in-Subset-clause-kept :
-    goal.enter_formula-returns-in_err-a-in-Subset-clause-kept
-enter_formula-returns-in_err-a-in-Subset-clause-kept t c =
-    let start = c.args.table.now in
-    let law = c.parts_come_first.ensures in
-    let x = set_tree c.in-Subset.a in
-    let y = set_tree c.in-Subset.b in
-    let v = of_truth (formula_tree c.args.formula.now) in
-    let w = of_truth (tree.subset x y) in
-    let whole : formula_tree c.args.formula.now ≡ tree.subset x y = search (rules, formula_tree-Subset) in
-    let same : v ≡ w = ap (λ d. of_truth d) whole in
-    kept-part start start c.enter_set-in-Subset.new.table v w (of_set x) law same (part.subset-a x y) (kept-self start v) c.in_err-a-in-Subset.ensures.kept
-
-pub enter_formula-returns-in_err-b-in-Subset-clause-kept :
-    goal.enter_formula-returns-in_err-b-in-Subset-clause-kept
-enter_formula-returns-in_err-b-in-Subset-clause-kept t c =
-    let start = c.args.table.now in
-    let law = c.parts_come_first.ensures in
-    let x = set_tree c.in-Subset.a in
-    let y = set_tree c.in-Subset.b in
-    let v = of_truth (formula_tree c.args.formula.now) in
-    let w = of_truth (tree.subset x y) in
-    let whole : formula_tree c.args.formula.now ≡ tree.subset x y = search (rules, formula_tree-Subset) in
-    let same : v ≡ w = ap (λ d. of_truth d) whole in
-    let after_a = kept-part start start c.enter_set-in-Subset.new.table v w (of_set x) law same (part.subset-a x y) (kept-self start v) c.in_ok-a-in-Subset.ensures.kept in
-    kept-part start c.enter_set-in-Subset.new.table c.enter_set-in-Subset-2.new.table v w (of_set y) law same (part.subset-b x y) after_a c.in_err-b-in-Subset.ensures.kept
-
-pub enter_formula-returns-in_ok-b-in-Subset-clause-kept :
-    goal.enter_formula-returns-in_ok-b-in-Subset-clause-kept
-enter_formula-returns-in_ok-b-in-Subset-clause-kept t c =
-    let start = c.args.table.now in
-    let law = c.parts_come_first.ensures in
-    let x = set_tree c.in-Subset.a in
-    let y = set_tree c.in-Subset.b in
-    let v = of_truth (formula_tree c.args.formula.now) in
-    let w = of_truth (tree.subset x y) in
-    let whole : formula_tree c.args.formula.now ≡ tree.subset x y = search (rules, formula_tree-Subset) in
-    let same : v ≡ w = ap (λ d. of_truth d) whole in
-    let after_a = kept-part start start c.enter_set-in-Subset.new.table v w (of_set x) law same (part.subset-a x y) (kept-self start v) c.in_ok-a-in-Subset.ensures.kept in
-    let after_b = kept-part start c.enter_set-in-Subset.new.table c.enter_set-in-Subset-2.new.table v w (of_set y) law same (part.subset-b x y) after_a c.in_ok-b-in-Subset.ensures.kept in
-    let last = c.enter_set-in-Subset-2.new.table in
-    let made : tree_in last (s.Subset c.in_ok-a-in-Subset.a c.in_ok-b-in-Subset.b) ≡ v = tree-Subset last.pools (nodes last) c.in_ok-a-in-Subset.a c.in_ok-b-in-Subset.b x y (node-stays c.enter_set-in-Subset.new.table c.enter_set-in-Subset-2.new.table c.in_ok-a-in-Subset.a (of_set x) c.in_ok-b-in-Subset.ensures.grows c.in_ok-a-in-Subset.ensures.node) c.in_ok-b-in-Subset.ensures.node ∙ sym same in
-    kept-made start last c.make-in-Subset.new.self v (s.Subset c.in_ok-a-in-Subset.a c.in_ok-b-in-Subset.b) c.make-in-Subset.result made after_b c.make-in-Subset.ensures.kept
-
-pub enter_formula-returns-in_err-a-in-Reach-clause-kept :
-    goal.enter_formula-returns-in_err-a-in-Reach-clause-kept
-enter_formula-returns-in_err-a-in-Reach-clause-kept t c =
-    let start = c.args.table.now in
-    let law = c.parts_come_first.ensures in
-    let x = term_tree c.in-Reach.a in
-    let y = term_tree c.in-Reach.b in
-    let fs = list_tree c.in-Reach.fields in
-    let v = of_truth (formula_tree c.args.formula.now) in
-    let w = of_truth (tree.reach fs x y) in
-    let whole : formula_tree c.args.formula.now ≡ tree.reach fs x y = search (rules, formula_tree-Reach) in
-    let same : v ≡ w = ap (λ d. of_truth d) whole in
-    kept-part start start c.enter_term-in-Reach.new.table v w (of_object x) law same (part.reach-a fs x y) (kept-self start v) c.in_err-a-in-Reach.ensures.kept
-
-pub enter_formula-returns-in_err-b-in-Reach-clause-kept :
-    goal.enter_formula-returns-in_err-b-in-Reach-clause-kept
-enter_formula-returns-in_err-b-in-Reach-clause-kept t c =
-    let start = c.args.table.now in
-    let law = c.parts_come_first.ensures in
-    let x = term_tree c.in-Reach.a in
-    let y = term_tree c.in-Reach.b in
-    let fs = list_tree c.in-Reach.fields in
-    let v = of_truth (formula_tree c.args.formula.now) in
-    let w = of_truth (tree.reach fs x y) in
-    let whole : formula_tree c.args.formula.now ≡ tree.reach fs x y = search (rules, formula_tree-Reach) in
-    let same : v ≡ w = ap (λ d. of_truth d) whole in
-    let after_a = kept-part start start c.enter_term-in-Reach.new.table v w (of_object x) law same (part.reach-a fs x y) (kept-self start v) c.in_ok-a-in-Reach.ensures.kept in
-    kept-part start c.enter_term-in-Reach.new.table c.enter_term-in-Reach-2.new.table v w (of_object y) law same (part.reach-b fs x y) after_a c.in_err-b-in-Reach.ensures.kept
-
-pub enter_formula-returns-in_err-fields-in-Reach-clause-kept :
-    goal.enter_formula-returns-in_err-fields-in-Reach-clause-kept
-enter_formula-returns-in_err-fields-in-Reach-clause-kept t c =
-    let start = c.args.table.now in
-    let law = c.parts_come_first.ensures in
-    let x = term_tree c.in-Reach.a in
-    let y = term_tree c.in-Reach.b in
-    let fs = list_tree c.items.result.now in
-    let v = of_truth (formula_tree c.args.formula.now) in
-    let w = of_truth (tree.reach fs x y) in
-    let whole : formula_tree c.args.formula.now ≡ tree.reach fs x y = search (rules, formula_tree-Reach) in
-    let same : v ≡ w = ap (λ d. of_truth d) whole in
-    let after_a = kept-part start start c.enter_term-in-Reach.new.table v w (of_object x) law same (part.reach-a fs x y) (kept-self start v) c.in_ok-a-in-Reach.ensures.kept in
-    let after_b = kept-part start c.enter_term-in-Reach.new.table c.enter_term-in-Reach-2.new.table v w (of_object y) law same (part.reach-b fs x y) after_a c.in_ok-b-in-Reach.ensures.kept in
-    kept-fields start c.enter_term-in-Reach-2.new.table c.enter_fields.new.table v w fs law same (λ f m. part.reach-field f fs x y m) after_b c.in_err-fields-in-Reach.ensures.kept
-
-pub enter_formula-returns-in_ok-fields-in-Reach-clause-kept :
-    goal.enter_formula-returns-in_ok-fields-in-Reach-clause-kept
-enter_formula-returns-in_ok-fields-in-Reach-clause-kept t c =
-    let start = c.args.table.now in
-    let law = c.parts_come_first.ensures in
-    let x = term_tree c.in-Reach.a in
-    let y = term_tree c.in-Reach.b in
-    let fs = list_tree c.items.result.now in
-    let v = of_truth (formula_tree c.args.formula.now) in
-    let w = of_truth (tree.reach fs x y) in
-    let whole : formula_tree c.args.formula.now ≡ tree.reach fs x y = search (rules, formula_tree-Reach) in
-    let same : v ≡ w = ap (λ d. of_truth d) whole in
-    let after_a = kept-part start start c.enter_term-in-Reach.new.table v w (of_object x) law same (part.reach-a fs x y) (kept-self start v) c.in_ok-a-in-Reach.ensures.kept in
-    let after_b = kept-part start c.enter_term-in-Reach.new.table c.enter_term-in-Reach-2.new.table v w (of_object y) law same (part.reach-b fs x y) after_a c.in_ok-b-in-Reach.ensures.kept in
-    let after_fields = kept-fields start c.enter_term-in-Reach-2.new.table c.enter_fields.new.table v w fs law same (λ f m. part.reach-field f fs x y m) after_b c.in_ok-fields-in-Reach.ensures.kept in
-    let last = c.enter_fields.new.table in
-    let made : tree_in last (s.Reach c.in_ok-fields-in-Reach.fields c.in_ok-a-in-Reach.a c.in_ok-b-in-Reach.b) ≡ v = tree-listed-Reach last c.in_ok-fields-in-Reach.fields c.in_ok-a-in-Reach.a c.in_ok-b-in-Reach.b fs x y c.in_ok-fields-in-Reach.ensures.list (node-stays c.enter_term-in-Reach-2.new.table c.enter_fields.new.table c.in_ok-a-in-Reach.a (of_object x) c.in_ok-fields-in-Reach.ensures.grows (node-stays c.enter_term-in-Reach.new.table c.enter_term-in-Reach-2.new.table c.in_ok-a-in-Reach.a (of_object x) c.in_ok-b-in-Reach.ensures.grows c.in_ok-a-in-Reach.ensures.node)) (node-stays c.enter_term-in-Reach-2.new.table c.enter_fields.new.table c.in_ok-b-in-Reach.b (of_object y) c.in_ok-fields-in-Reach.ensures.grows c.in_ok-b-in-Reach.ensures.node) ∙ sym same in
-    kept-made start last c.make-in-Reach.new.self v (s.Reach c.in_ok-fields-in-Reach.fields c.in_ok-a-in-Reach.a c.in_ok-b-in-Reach.b) c.make-in-Reach.result made after_fields c.make-in-Reach.ensures.kept
-
-pub enter_formula-returns-in_err-fields-in-Tree-clause-kept :
-    goal.enter_formula-returns-in_err-fields-in-Tree-clause-kept
-enter_formula-returns-in_err-fields-in-Tree-clause-kept t c =
-    let start = c.args.table.now in
-    let law = c.parts_come_first.ensures in
-    let fs = list_tree c.items-in-Tree.result.now in
-    let v = of_truth (formula_tree c.args.formula.now) in
-    let w = of_truth (tree.tree fs) in
-    let whole : formula_tree c.args.formula.now ≡ tree.tree fs = search (rules, formula_tree-Tree) in
-    let same : v ≡ w = ap (λ d. of_truth d) whole in
-    kept-fields start start c.enter_fields-in-Tree.new.table v w fs law same (λ f m. part.tree-field f fs m) (kept-self start v) c.in_err-fields-in-Tree.ensures.kept
-
-pub enter_formula-returns-in_ok-fields-in-Tree-clause-kept :
-    goal.enter_formula-returns-in_ok-fields-in-Tree-clause-kept
-enter_formula-returns-in_ok-fields-in-Tree-clause-kept t c =
-    let start = c.args.table.now in
-    let law = c.parts_come_first.ensures in
-    let fs = list_tree c.items-in-Tree.result.now in
-    let v = of_truth (formula_tree c.args.formula.now) in
-    let w = of_truth (tree.tree fs) in
-    let whole : formula_tree c.args.formula.now ≡ tree.tree fs = search (rules, formula_tree-Tree) in
-    let same : v ≡ w = ap (λ d. of_truth d) whole in
-    let after_fields = kept-fields start start c.enter_fields-in-Tree.new.table v w fs law same (λ f m. part.tree-field f fs m) (kept-self start v) c.in_ok-fields-in-Tree.ensures.kept in
-    let last = c.enter_fields-in-Tree.new.table in
-    let made : tree_in last (s.Tree c.in_ok-fields-in-Tree.fields) ≡ v = tree-listed-Tree last c.in_ok-fields-in-Tree.fields fs c.in_ok-fields-in-Tree.ensures.list ∙ sym same in
-    kept-made start last c.make-in-Tree.new.self v (s.Tree c.in_ok-fields-in-Tree.fields) c.make-in-Tree.result made after_fields c.make-in-Tree.ensures.kept
-
 pub enter_formula-returns-in_err-a-in-Mark-clause-kept :
     goal.enter_formula-returns-in_err-a-in-Mark-clause-kept
 enter_formula-returns-in_err-a-in-Mark-clause-kept t c =
@@ -1476,3 +1003,476 @@ enter_formula-returns-in_ok-mark-in-Mark-clause-kept t c =
     let last = c.mark.new.self in
     let made : tree_in last (s.Mark c.in_ok-mark-in-Mark.mark c.in_ok-a-in-Mark.a) ≡ v = tree-Mark last.pools (nodes last) c.in_ok-mark-in-Mark.mark c.in_ok-a-in-Mark.a c.in-Mark.mark x c.in_ok-mark-in-Mark.ensures.number (node-stays c.enter_formula-in-Mark.new.table c.mark.new.self c.in_ok-a-in-Mark.a (of_truth x) c.in_ok-mark-in-Mark.ensures.grows c.in_ok-a-in-Mark.ensures.node) ∙ sym same in
     kept-made start last c.make-in-Mark.new.self v (s.Mark c.in_ok-mark-in-Mark.mark c.in_ok-a-in-Mark.a) c.make-in-Mark.result made after_mark c.make-in-Mark.ensures.kept
+
+pub enter_atom-returns-in_err-a-in-Read-clause-kept :
+    goal.enter_atom-returns-in_err-a-in-Read-clause-kept
+enter_atom-returns-in_err-a-in-Read-clause-kept t c =
+    let start = c.args.table.now in
+    let law = c.parts_come_first.ensures in
+    let x = field_tree c.deref.result.now in
+    let y = term_tree c.in-Read.b.value in
+    let v = of_truth (formula_tree c.args.formula.now) in
+    let w = of_truth (tree.read_truth x y) in
+    let whole : formula_tree c.args.formula.now ≡ tree.read_truth x y = search (rules, formula_tree-Read) in
+    let same : v ≡ w = ap (λ d. of_truth d) whole in
+    kept-part start start c.enter_field.new.table v w (of_field x) law same (part.read_truth-a x y) (kept-self start v) c.in_err-a-in-Read.ensures.kept
+
+pub enter_atom-returns-in_err-b-in-Read-clause-kept :
+    goal.enter_atom-returns-in_err-b-in-Read-clause-kept
+enter_atom-returns-in_err-b-in-Read-clause-kept t c =
+    let start = c.args.table.now in
+    let law = c.parts_come_first.ensures in
+    let x = field_tree c.deref.result.now in
+    let y = term_tree c.deref-in-Read.result.now in
+    let v = of_truth (formula_tree c.args.formula.now) in
+    let w = of_truth (tree.read_truth x y) in
+    let whole : formula_tree c.args.formula.now ≡ tree.read_truth x y = search (rules, formula_tree-Read) in
+    let same : v ≡ w = ap (λ d. of_truth d) whole in
+    let after_a = kept-part start start c.enter_field.new.table v w (of_field x) law same (part.read_truth-a x y) (kept-self start v) c.in_ok-a-in-Read.ensures.kept in
+    kept-part start c.enter_field.new.table c.enter_term.new.table v w (of_object y) law same (part.read_truth-b x y) after_a c.in_err-b-in-Read.ensures.kept
+
+pub enter_atom-returns-in_ok-b-in-Read-clause-kept :
+    goal.enter_atom-returns-in_ok-b-in-Read-clause-kept
+enter_atom-returns-in_ok-b-in-Read-clause-kept t c =
+    let start = c.args.table.now in
+    let law = c.parts_come_first.ensures in
+    let x = field_tree c.deref.result.now in
+    let y = term_tree c.deref-in-Read.result.now in
+    let v = of_truth (formula_tree c.args.formula.now) in
+    let w = of_truth (tree.read_truth x y) in
+    let whole : formula_tree c.args.formula.now ≡ tree.read_truth x y = search (rules, formula_tree-Read) in
+    let same : v ≡ w = ap (λ d. of_truth d) whole in
+    let after_a = kept-part start start c.enter_field.new.table v w (of_field x) law same (part.read_truth-a x y) (kept-self start v) c.in_ok-a-in-Read.ensures.kept in
+    let after_b = kept-part start c.enter_field.new.table c.enter_term.new.table v w (of_object y) law same (part.read_truth-b x y) after_a c.in_ok-b-in-Read.ensures.kept in
+    let last = c.enter_term.new.table in
+    let made : tree_in last (s.ReadTruth c.in_ok-a-in-Read.a c.in_ok-b-in-Read.b) ≡ v = tree-ReadTruth last.pools (nodes last) c.in_ok-a-in-Read.a c.in_ok-b-in-Read.b x y (node-stays c.enter_field.new.table c.enter_term.new.table c.in_ok-a-in-Read.a (of_field x) c.in_ok-b-in-Read.ensures.grows c.in_ok-a-in-Read.ensures.node) c.in_ok-b-in-Read.ensures.node ∙ sym same in
+    kept-made start last c.make-in-Read.new.self v (s.ReadTruth c.in_ok-a-in-Read.a c.in_ok-b-in-Read.b) c.make-in-Read.result made after_b c.make-in-Read.ensures.kept
+
+pub enter_atom-returns-in_err-a-in-EqObj-clause-kept :
+    goal.enter_atom-returns-in_err-a-in-EqObj-clause-kept
+enter_atom-returns-in_err-a-in-EqObj-clause-kept t c =
+    let start = c.args.table.now in
+    let law = c.parts_come_first.ensures in
+    let x = term_tree c.in-EqObj.a in
+    let y = term_tree c.in-EqObj.b in
+    let v = of_truth (formula_tree c.args.formula.now) in
+    let w = of_truth (tree.eq_object x y) in
+    let whole : formula_tree c.args.formula.now ≡ tree.eq_object x y = search (rules, formula_tree-EqObj) in
+    let same : v ≡ w = ap (λ d. of_truth d) whole in
+    kept-part start start c.enter_term-in-EqObj.new.table v w (of_object x) law same (part.eq_object-a x y) (kept-self start v) c.in_err-a-in-EqObj.ensures.kept
+
+pub enter_atom-returns-in_err-b-in-EqObj-clause-kept :
+    goal.enter_atom-returns-in_err-b-in-EqObj-clause-kept
+enter_atom-returns-in_err-b-in-EqObj-clause-kept t c =
+    let start = c.args.table.now in
+    let law = c.parts_come_first.ensures in
+    let x = term_tree c.in-EqObj.a in
+    let y = term_tree c.in-EqObj.b in
+    let v = of_truth (formula_tree c.args.formula.now) in
+    let w = of_truth (tree.eq_object x y) in
+    let whole : formula_tree c.args.formula.now ≡ tree.eq_object x y = search (rules, formula_tree-EqObj) in
+    let same : v ≡ w = ap (λ d. of_truth d) whole in
+    let after_a = kept-part start start c.enter_term-in-EqObj.new.table v w (of_object x) law same (part.eq_object-a x y) (kept-self start v) c.in_ok-a-in-EqObj.ensures.kept in
+    kept-part start c.enter_term-in-EqObj.new.table c.enter_term-in-EqObj-2.new.table v w (of_object y) law same (part.eq_object-b x y) after_a c.in_err-b-in-EqObj.ensures.kept
+
+pub enter_atom-returns-in_ok-b-in-EqObj-clause-kept :
+    goal.enter_atom-returns-in_ok-b-in-EqObj-clause-kept
+enter_atom-returns-in_ok-b-in-EqObj-clause-kept t c =
+    let start = c.args.table.now in
+    let law = c.parts_come_first.ensures in
+    let x = term_tree c.in-EqObj.a in
+    let y = term_tree c.in-EqObj.b in
+    let v = of_truth (formula_tree c.args.formula.now) in
+    let w = of_truth (tree.eq_object x y) in
+    let whole : formula_tree c.args.formula.now ≡ tree.eq_object x y = search (rules, formula_tree-EqObj) in
+    let same : v ≡ w = ap (λ d. of_truth d) whole in
+    let after_a = kept-part start start c.enter_term-in-EqObj.new.table v w (of_object x) law same (part.eq_object-a x y) (kept-self start v) c.in_ok-a-in-EqObj.ensures.kept in
+    let after_b = kept-part start c.enter_term-in-EqObj.new.table c.enter_term-in-EqObj-2.new.table v w (of_object y) law same (part.eq_object-b x y) after_a c.in_ok-b-in-EqObj.ensures.kept in
+    let last = c.enter_term-in-EqObj-2.new.table in
+    let made : tree_in last (s.EqObject c.in_ok-a-in-EqObj.a c.in_ok-b-in-EqObj.b) ≡ v = tree-EqObject last.pools (nodes last) c.in_ok-a-in-EqObj.a c.in_ok-b-in-EqObj.b x y (node-stays c.enter_term-in-EqObj.new.table c.enter_term-in-EqObj-2.new.table c.in_ok-a-in-EqObj.a (of_object x) c.in_ok-b-in-EqObj.ensures.grows c.in_ok-a-in-EqObj.ensures.node) c.in_ok-b-in-EqObj.ensures.node ∙ sym same in
+    kept-made start last c.make-in-EqObj.new.self v (s.EqObject c.in_ok-a-in-EqObj.a c.in_ok-b-in-EqObj.b) c.make-in-EqObj.result made after_b c.make-in-EqObj.ensures.kept
+
+pub enter_atom-returns-in_err-a-in-EqInt-clause-kept :
+    goal.enter_atom-returns-in_err-a-in-EqInt-clause-kept
+enter_atom-returns-in_err-a-in-EqInt-clause-kept t c =
+    let start = c.args.table.now in
+    let law = c.parts_come_first.ensures in
+    let x = int_tree c.in-EqInt.a in
+    let y = int_tree c.in-EqInt.b in
+    let v = of_truth (formula_tree c.args.formula.now) in
+    let w = of_truth (tree.eq_number x y) in
+    let whole : formula_tree c.args.formula.now ≡ tree.eq_number x y = search (rules, formula_tree-EqInt) in
+    let same : v ≡ w = ap (λ d. of_truth d) whole in
+    kept-part start start c.enter_int.new.table v w (of_number x) law same (part.eq_number-a x y) (kept-self start v) c.in_err-a-in-EqInt.ensures.kept
+
+pub enter_atom-returns-in_err-b-in-EqInt-clause-kept :
+    goal.enter_atom-returns-in_err-b-in-EqInt-clause-kept
+enter_atom-returns-in_err-b-in-EqInt-clause-kept t c =
+    let start = c.args.table.now in
+    let law = c.parts_come_first.ensures in
+    let x = int_tree c.in-EqInt.a in
+    let y = int_tree c.in-EqInt.b in
+    let v = of_truth (formula_tree c.args.formula.now) in
+    let w = of_truth (tree.eq_number x y) in
+    let whole : formula_tree c.args.formula.now ≡ tree.eq_number x y = search (rules, formula_tree-EqInt) in
+    let same : v ≡ w = ap (λ d. of_truth d) whole in
+    let after_a = kept-part start start c.enter_int.new.table v w (of_number x) law same (part.eq_number-a x y) (kept-self start v) c.in_ok-a-in-EqInt.ensures.kept in
+    kept-part start c.enter_int.new.table c.enter_int-in-EqInt.new.table v w (of_number y) law same (part.eq_number-b x y) after_a c.in_err-b-in-EqInt.ensures.kept
+
+pub enter_atom-returns-in_ok-b-in-EqInt-clause-kept :
+    goal.enter_atom-returns-in_ok-b-in-EqInt-clause-kept
+enter_atom-returns-in_ok-b-in-EqInt-clause-kept t c =
+    let start = c.args.table.now in
+    let law = c.parts_come_first.ensures in
+    let x = int_tree c.in-EqInt.a in
+    let y = int_tree c.in-EqInt.b in
+    let v = of_truth (formula_tree c.args.formula.now) in
+    let w = of_truth (tree.eq_number x y) in
+    let whole : formula_tree c.args.formula.now ≡ tree.eq_number x y = search (rules, formula_tree-EqInt) in
+    let same : v ≡ w = ap (λ d. of_truth d) whole in
+    let after_a = kept-part start start c.enter_int.new.table v w (of_number x) law same (part.eq_number-a x y) (kept-self start v) c.in_ok-a-in-EqInt.ensures.kept in
+    let after_b = kept-part start c.enter_int.new.table c.enter_int-in-EqInt.new.table v w (of_number y) law same (part.eq_number-b x y) after_a c.in_ok-b-in-EqInt.ensures.kept in
+    let last = c.enter_int-in-EqInt.new.table in
+    let made : tree_in last (s.EqNumber c.in_ok-a-in-EqInt.a c.in_ok-b-in-EqInt.b) ≡ v = tree-EqNumber last.pools (nodes last) c.in_ok-a-in-EqInt.a c.in_ok-b-in-EqInt.b x y (node-stays c.enter_int.new.table c.enter_int-in-EqInt.new.table c.in_ok-a-in-EqInt.a (of_number x) c.in_ok-b-in-EqInt.ensures.grows c.in_ok-a-in-EqInt.ensures.node) c.in_ok-b-in-EqInt.ensures.node ∙ sym same in
+    kept-made start last c.make-in-EqInt.new.self v (s.EqNumber c.in_ok-a-in-EqInt.a c.in_ok-b-in-EqInt.b) c.make-in-EqInt.result made after_b c.make-in-EqInt.ensures.kept
+
+pub enter_atom-returns-in_err-a-in-EqSet-clause-kept :
+    goal.enter_atom-returns-in_err-a-in-EqSet-clause-kept
+enter_atom-returns-in_err-a-in-EqSet-clause-kept t c =
+    let start = c.args.table.now in
+    let law = c.parts_come_first.ensures in
+    let x = set_tree c.in-EqSet.a in
+    let y = set_tree c.in-EqSet.b in
+    let v = of_truth (formula_tree c.args.formula.now) in
+    let w = of_truth (tree.eq_set x y) in
+    let whole : formula_tree c.args.formula.now ≡ tree.eq_set x y = search (rules, formula_tree-EqSet) in
+    let same : v ≡ w = ap (λ d. of_truth d) whole in
+    kept-part start start c.enter_set.new.table v w (of_set x) law same (part.eq_set-a x y) (kept-self start v) c.in_err-a-in-EqSet.ensures.kept
+
+pub enter_atom-returns-in_err-b-in-EqSet-clause-kept :
+    goal.enter_atom-returns-in_err-b-in-EqSet-clause-kept
+enter_atom-returns-in_err-b-in-EqSet-clause-kept t c =
+    let start = c.args.table.now in
+    let law = c.parts_come_first.ensures in
+    let x = set_tree c.in-EqSet.a in
+    let y = set_tree c.in-EqSet.b in
+    let v = of_truth (formula_tree c.args.formula.now) in
+    let w = of_truth (tree.eq_set x y) in
+    let whole : formula_tree c.args.formula.now ≡ tree.eq_set x y = search (rules, formula_tree-EqSet) in
+    let same : v ≡ w = ap (λ d. of_truth d) whole in
+    let after_a = kept-part start start c.enter_set.new.table v w (of_set x) law same (part.eq_set-a x y) (kept-self start v) c.in_ok-a-in-EqSet.ensures.kept in
+    kept-part start c.enter_set.new.table c.enter_set-in-EqSet.new.table v w (of_set y) law same (part.eq_set-b x y) after_a c.in_err-b-in-EqSet.ensures.kept
+
+pub enter_atom-returns-in_ok-b-in-EqSet-clause-kept :
+    goal.enter_atom-returns-in_ok-b-in-EqSet-clause-kept
+enter_atom-returns-in_ok-b-in-EqSet-clause-kept t c =
+    let start = c.args.table.now in
+    let law = c.parts_come_first.ensures in
+    let x = set_tree c.in-EqSet.a in
+    let y = set_tree c.in-EqSet.b in
+    let v = of_truth (formula_tree c.args.formula.now) in
+    let w = of_truth (tree.eq_set x y) in
+    let whole : formula_tree c.args.formula.now ≡ tree.eq_set x y = search (rules, formula_tree-EqSet) in
+    let same : v ≡ w = ap (λ d. of_truth d) whole in
+    let after_a = kept-part start start c.enter_set.new.table v w (of_set x) law same (part.eq_set-a x y) (kept-self start v) c.in_ok-a-in-EqSet.ensures.kept in
+    let after_b = kept-part start c.enter_set.new.table c.enter_set-in-EqSet.new.table v w (of_set y) law same (part.eq_set-b x y) after_a c.in_ok-b-in-EqSet.ensures.kept in
+    let last = c.enter_set-in-EqSet.new.table in
+    let made : tree_in last (s.EqSet c.in_ok-a-in-EqSet.a c.in_ok-b-in-EqSet.b) ≡ v = tree-EqSet last.pools (nodes last) c.in_ok-a-in-EqSet.a c.in_ok-b-in-EqSet.b x y (node-stays c.enter_set.new.table c.enter_set-in-EqSet.new.table c.in_ok-a-in-EqSet.a (of_set x) c.in_ok-b-in-EqSet.ensures.grows c.in_ok-a-in-EqSet.ensures.node) c.in_ok-b-in-EqSet.ensures.node ∙ sym same in
+    kept-made start last c.make-in-EqSet.new.self v (s.EqSet c.in_ok-a-in-EqSet.a c.in_ok-b-in-EqSet.b) c.make-in-EqSet.result made after_b c.make-in-EqSet.ensures.kept
+
+pub enter_atom-returns-in_err-a-in-Less-clause-kept :
+    goal.enter_atom-returns-in_err-a-in-Less-clause-kept
+enter_atom-returns-in_err-a-in-Less-clause-kept t c =
+    let start = c.args.table.now in
+    let law = c.parts_come_first.ensures in
+    let x = int_tree c.in-Less.a in
+    let y = int_tree c.in-Less.b in
+    let v = of_truth (formula_tree c.args.formula.now) in
+    let w = of_truth (tree.less x y) in
+    let whole : formula_tree c.args.formula.now ≡ tree.less x y = search (rules, formula_tree-Less) in
+    let same : v ≡ w = ap (λ d. of_truth d) whole in
+    kept-part start start c.enter_int-in-Less.new.table v w (of_number x) law same (part.less-a x y) (kept-self start v) c.in_err-a-in-Less.ensures.kept
+
+pub enter_atom-returns-in_err-b-in-Less-clause-kept :
+    goal.enter_atom-returns-in_err-b-in-Less-clause-kept
+enter_atom-returns-in_err-b-in-Less-clause-kept t c =
+    let start = c.args.table.now in
+    let law = c.parts_come_first.ensures in
+    let x = int_tree c.in-Less.a in
+    let y = int_tree c.in-Less.b in
+    let v = of_truth (formula_tree c.args.formula.now) in
+    let w = of_truth (tree.less x y) in
+    let whole : formula_tree c.args.formula.now ≡ tree.less x y = search (rules, formula_tree-Less) in
+    let same : v ≡ w = ap (λ d. of_truth d) whole in
+    let after_a = kept-part start start c.enter_int-in-Less.new.table v w (of_number x) law same (part.less-a x y) (kept-self start v) c.in_ok-a-in-Less.ensures.kept in
+    kept-part start c.enter_int-in-Less.new.table c.enter_int-in-Less-2.new.table v w (of_number y) law same (part.less-b x y) after_a c.in_err-b-in-Less.ensures.kept
+
+pub enter_atom-returns-in_ok-b-in-Less-clause-kept :
+    goal.enter_atom-returns-in_ok-b-in-Less-clause-kept
+enter_atom-returns-in_ok-b-in-Less-clause-kept t c =
+    let start = c.args.table.now in
+    let law = c.parts_come_first.ensures in
+    let x = int_tree c.in-Less.a in
+    let y = int_tree c.in-Less.b in
+    let v = of_truth (formula_tree c.args.formula.now) in
+    let w = of_truth (tree.less x y) in
+    let whole : formula_tree c.args.formula.now ≡ tree.less x y = search (rules, formula_tree-Less) in
+    let same : v ≡ w = ap (λ d. of_truth d) whole in
+    let after_a = kept-part start start c.enter_int-in-Less.new.table v w (of_number x) law same (part.less-a x y) (kept-self start v) c.in_ok-a-in-Less.ensures.kept in
+    let after_b = kept-part start c.enter_int-in-Less.new.table c.enter_int-in-Less-2.new.table v w (of_number y) law same (part.less-b x y) after_a c.in_ok-b-in-Less.ensures.kept in
+    let last = c.enter_int-in-Less-2.new.table in
+    let made : tree_in last (s.Less c.in_ok-a-in-Less.a c.in_ok-b-in-Less.b) ≡ v = tree-Less last.pools (nodes last) c.in_ok-a-in-Less.a c.in_ok-b-in-Less.b x y (node-stays c.enter_int-in-Less.new.table c.enter_int-in-Less-2.new.table c.in_ok-a-in-Less.a (of_number x) c.in_ok-b-in-Less.ensures.grows c.in_ok-a-in-Less.ensures.node) c.in_ok-b-in-Less.ensures.node ∙ sym same in
+    kept-made start last c.make-in-Less.new.self v (s.Less c.in_ok-a-in-Less.a c.in_ok-b-in-Less.b) c.make-in-Less.result made after_b c.make-in-Less.ensures.kept
+
+pub enter_atom-returns-in_err-a-in-LessEq-clause-kept :
+    goal.enter_atom-returns-in_err-a-in-LessEq-clause-kept
+enter_atom-returns-in_err-a-in-LessEq-clause-kept t c =
+    let start = c.args.table.now in
+    let law = c.parts_come_first.ensures in
+    let x = int_tree c.in-LessEq.a in
+    let y = int_tree c.in-LessEq.b in
+    let v = of_truth (formula_tree c.args.formula.now) in
+    let w = of_truth (tree.less_equal x y) in
+    let whole : formula_tree c.args.formula.now ≡ tree.less_equal x y = search (rules, formula_tree-LessEq) in
+    let same : v ≡ w = ap (λ d. of_truth d) whole in
+    kept-part start start c.enter_int-in-LessEq.new.table v w (of_number x) law same (part.less_equal-a x y) (kept-self start v) c.in_err-a-in-LessEq.ensures.kept
+
+pub enter_atom-returns-in_err-b-in-LessEq-clause-kept :
+    goal.enter_atom-returns-in_err-b-in-LessEq-clause-kept
+enter_atom-returns-in_err-b-in-LessEq-clause-kept t c =
+    let start = c.args.table.now in
+    let law = c.parts_come_first.ensures in
+    let x = int_tree c.in-LessEq.a in
+    let y = int_tree c.in-LessEq.b in
+    let v = of_truth (formula_tree c.args.formula.now) in
+    let w = of_truth (tree.less_equal x y) in
+    let whole : formula_tree c.args.formula.now ≡ tree.less_equal x y = search (rules, formula_tree-LessEq) in
+    let same : v ≡ w = ap (λ d. of_truth d) whole in
+    let after_a = kept-part start start c.enter_int-in-LessEq.new.table v w (of_number x) law same (part.less_equal-a x y) (kept-self start v) c.in_ok-a-in-LessEq.ensures.kept in
+    kept-part start c.enter_int-in-LessEq.new.table c.enter_int-in-LessEq-2.new.table v w (of_number y) law same (part.less_equal-b x y) after_a c.in_err-b-in-LessEq.ensures.kept
+
+pub enter_atom-returns-in_ok-b-in-LessEq-clause-kept :
+    goal.enter_atom-returns-in_ok-b-in-LessEq-clause-kept
+enter_atom-returns-in_ok-b-in-LessEq-clause-kept t c =
+    let start = c.args.table.now in
+    let law = c.parts_come_first.ensures in
+    let x = int_tree c.in-LessEq.a in
+    let y = int_tree c.in-LessEq.b in
+    let v = of_truth (formula_tree c.args.formula.now) in
+    let w = of_truth (tree.less_equal x y) in
+    let whole : formula_tree c.args.formula.now ≡ tree.less_equal x y = search (rules, formula_tree-LessEq) in
+    let same : v ≡ w = ap (λ d. of_truth d) whole in
+    let after_a = kept-part start start c.enter_int-in-LessEq.new.table v w (of_number x) law same (part.less_equal-a x y) (kept-self start v) c.in_ok-a-in-LessEq.ensures.kept in
+    let after_b = kept-part start c.enter_int-in-LessEq.new.table c.enter_int-in-LessEq-2.new.table v w (of_number y) law same (part.less_equal-b x y) after_a c.in_ok-b-in-LessEq.ensures.kept in
+    let last = c.enter_int-in-LessEq-2.new.table in
+    let made : tree_in last (s.LessEqual c.in_ok-a-in-LessEq.a c.in_ok-b-in-LessEq.b) ≡ v = tree-LessEqual last.pools (nodes last) c.in_ok-a-in-LessEq.a c.in_ok-b-in-LessEq.b x y (node-stays c.enter_int-in-LessEq.new.table c.enter_int-in-LessEq-2.new.table c.in_ok-a-in-LessEq.a (of_number x) c.in_ok-b-in-LessEq.ensures.grows c.in_ok-a-in-LessEq.ensures.node) c.in_ok-b-in-LessEq.ensures.node ∙ sym same in
+    kept-made start last c.make-in-LessEq.new.self v (s.LessEqual c.in_ok-a-in-LessEq.a c.in_ok-b-in-LessEq.b) c.make-in-LessEq.result made after_b c.make-in-LessEq.ensures.kept
+
+pub enter_atom-returns-in_err-a-in-Divides-clause-kept :
+    goal.enter_atom-returns-in_err-a-in-Divides-clause-kept
+enter_atom-returns-in_err-a-in-Divides-clause-kept t c =
+    let start = c.args.table.now in
+    let law = c.parts_come_first.ensures in
+    let x = int_tree c.in-Divides.a in
+    let v = of_truth (formula_tree c.args.formula.now) in
+    let w = of_truth (tree.divides c.in-Divides.number x) in
+    let whole : formula_tree c.args.formula.now ≡ tree.divides c.in-Divides.number x = search (rules, formula_tree-Divides) in
+    let same : v ≡ w = ap (λ d. of_truth d) whole in
+    kept-part start start c.enter_int-in-Divides.new.table v w (of_number x) law same (part.divides c.in-Divides.number x) (kept-self start v) c.in_err-a-in-Divides.ensures.kept
+
+pub enter_atom-returns-in_ok-a-in-Divides-clause-kept :
+    goal.enter_atom-returns-in_ok-a-in-Divides-clause-kept
+enter_atom-returns-in_ok-a-in-Divides-clause-kept t c =
+    let start = c.args.table.now in
+    let law = c.parts_come_first.ensures in
+    let x = int_tree c.in-Divides.a in
+    let v = of_truth (formula_tree c.args.formula.now) in
+    let w = of_truth (tree.divides c.in-Divides.number x) in
+    let whole : formula_tree c.args.formula.now ≡ tree.divides c.in-Divides.number x = search (rules, formula_tree-Divides) in
+    let same : v ≡ w = ap (λ d. of_truth d) whole in
+    let after_a = kept-part start start c.enter_int-in-Divides.new.table v w (of_number x) law same (part.divides c.in-Divides.number x) (kept-self start v) c.in_ok-a-in-Divides.ensures.kept in
+    let last = c.enter_int-in-Divides.new.table in
+    let z = c.in-Divides.number in
+    let read = to_z w64 (of_z w64 z) in
+    let fits : SFits w64 z = search rules in
+    let made : tree_in last (s.Divides read c.in_ok-a-in-Divides.a) ≡ v = tree-Divides last.pools (nodes last) read c.in_ok-a-in-Divides.a x c.in_ok-a-in-Divides.ensures.node ∙ ap (λ d. of_truth (tree.divides d x)) (to_z-of_z w64 z fits) ∙ sym same in
+    kept-made start last c.make-in-Divides.new.self v (s.Divides read c.in_ok-a-in-Divides.a) c.make-in-Divides.result made after_a c.make-in-Divides.ensures.kept
+
+pub enter_atom-returns-in_err-a-in-Member-clause-kept :
+    goal.enter_atom-returns-in_err-a-in-Member-clause-kept
+enter_atom-returns-in_err-a-in-Member-clause-kept t c =
+    let start = c.args.table.now in
+    let law = c.parts_come_first.ensures in
+    let x = term_tree c.in-Member.a in
+    let y = set_tree c.in-Member.b in
+    let v = of_truth (formula_tree c.args.formula.now) in
+    let w = of_truth (tree.member x y) in
+    let whole : formula_tree c.args.formula.now ≡ tree.member x y = search (rules, formula_tree-Member) in
+    let same : v ≡ w = ap (λ d. of_truth d) whole in
+    kept-part start start c.enter_term-in-Member.new.table v w (of_object x) law same (part.member-a x y) (kept-self start v) c.in_err-a-in-Member.ensures.kept
+
+pub enter_atom-returns-in_err-b-in-Member-clause-kept :
+    goal.enter_atom-returns-in_err-b-in-Member-clause-kept
+enter_atom-returns-in_err-b-in-Member-clause-kept t c =
+    let start = c.args.table.now in
+    let law = c.parts_come_first.ensures in
+    let x = term_tree c.in-Member.a in
+    let y = set_tree c.in-Member.b in
+    let v = of_truth (formula_tree c.args.formula.now) in
+    let w = of_truth (tree.member x y) in
+    let whole : formula_tree c.args.formula.now ≡ tree.member x y = search (rules, formula_tree-Member) in
+    let same : v ≡ w = ap (λ d. of_truth d) whole in
+    let after_a = kept-part start start c.enter_term-in-Member.new.table v w (of_object x) law same (part.member-a x y) (kept-self start v) c.in_ok-a-in-Member.ensures.kept in
+    kept-part start c.enter_term-in-Member.new.table c.enter_set-in-Member.new.table v w (of_set y) law same (part.member-b x y) after_a c.in_err-b-in-Member.ensures.kept
+
+pub enter_atom-returns-in_ok-b-in-Member-clause-kept :
+    goal.enter_atom-returns-in_ok-b-in-Member-clause-kept
+enter_atom-returns-in_ok-b-in-Member-clause-kept t c =
+    let start = c.args.table.now in
+    let law = c.parts_come_first.ensures in
+    let x = term_tree c.in-Member.a in
+    let y = set_tree c.in-Member.b in
+    let v = of_truth (formula_tree c.args.formula.now) in
+    let w = of_truth (tree.member x y) in
+    let whole : formula_tree c.args.formula.now ≡ tree.member x y = search (rules, formula_tree-Member) in
+    let same : v ≡ w = ap (λ d. of_truth d) whole in
+    let after_a = kept-part start start c.enter_term-in-Member.new.table v w (of_object x) law same (part.member-a x y) (kept-self start v) c.in_ok-a-in-Member.ensures.kept in
+    let after_b = kept-part start c.enter_term-in-Member.new.table c.enter_set-in-Member.new.table v w (of_set y) law same (part.member-b x y) after_a c.in_ok-b-in-Member.ensures.kept in
+    let last = c.enter_set-in-Member.new.table in
+    let made : tree_in last (s.Member c.in_ok-a-in-Member.a c.in_ok-b-in-Member.b) ≡ v = tree-Member last.pools (nodes last) c.in_ok-a-in-Member.a c.in_ok-b-in-Member.b x y (node-stays c.enter_term-in-Member.new.table c.enter_set-in-Member.new.table c.in_ok-a-in-Member.a (of_object x) c.in_ok-b-in-Member.ensures.grows c.in_ok-a-in-Member.ensures.node) c.in_ok-b-in-Member.ensures.node ∙ sym same in
+    kept-made start last c.make-in-Member.new.self v (s.Member c.in_ok-a-in-Member.a c.in_ok-b-in-Member.b) c.make-in-Member.result made after_b c.make-in-Member.ensures.kept
+
+pub enter_atom-returns-in_err-a-in-Subset-clause-kept :
+    goal.enter_atom-returns-in_err-a-in-Subset-clause-kept
+enter_atom-returns-in_err-a-in-Subset-clause-kept t c =
+    let start = c.args.table.now in
+    let law = c.parts_come_first.ensures in
+    let x = set_tree c.in-Subset.a in
+    let y = set_tree c.in-Subset.b in
+    let v = of_truth (formula_tree c.args.formula.now) in
+    let w = of_truth (tree.subset x y) in
+    let whole : formula_tree c.args.formula.now ≡ tree.subset x y = search (rules, formula_tree-Subset) in
+    let same : v ≡ w = ap (λ d. of_truth d) whole in
+    kept-part start start c.enter_set-in-Subset.new.table v w (of_set x) law same (part.subset-a x y) (kept-self start v) c.in_err-a-in-Subset.ensures.kept
+
+pub enter_atom-returns-in_err-b-in-Subset-clause-kept :
+    goal.enter_atom-returns-in_err-b-in-Subset-clause-kept
+enter_atom-returns-in_err-b-in-Subset-clause-kept t c =
+    let start = c.args.table.now in
+    let law = c.parts_come_first.ensures in
+    let x = set_tree c.in-Subset.a in
+    let y = set_tree c.in-Subset.b in
+    let v = of_truth (formula_tree c.args.formula.now) in
+    let w = of_truth (tree.subset x y) in
+    let whole : formula_tree c.args.formula.now ≡ tree.subset x y = search (rules, formula_tree-Subset) in
+    let same : v ≡ w = ap (λ d. of_truth d) whole in
+    let after_a = kept-part start start c.enter_set-in-Subset.new.table v w (of_set x) law same (part.subset-a x y) (kept-self start v) c.in_ok-a-in-Subset.ensures.kept in
+    kept-part start c.enter_set-in-Subset.new.table c.enter_set-in-Subset-2.new.table v w (of_set y) law same (part.subset-b x y) after_a c.in_err-b-in-Subset.ensures.kept
+
+pub enter_atom-returns-in_ok-b-in-Subset-clause-kept :
+    goal.enter_atom-returns-in_ok-b-in-Subset-clause-kept
+enter_atom-returns-in_ok-b-in-Subset-clause-kept t c =
+    let start = c.args.table.now in
+    let law = c.parts_come_first.ensures in
+    let x = set_tree c.in-Subset.a in
+    let y = set_tree c.in-Subset.b in
+    let v = of_truth (formula_tree c.args.formula.now) in
+    let w = of_truth (tree.subset x y) in
+    let whole : formula_tree c.args.formula.now ≡ tree.subset x y = search (rules, formula_tree-Subset) in
+    let same : v ≡ w = ap (λ d. of_truth d) whole in
+    let after_a = kept-part start start c.enter_set-in-Subset.new.table v w (of_set x) law same (part.subset-a x y) (kept-self start v) c.in_ok-a-in-Subset.ensures.kept in
+    let after_b = kept-part start c.enter_set-in-Subset.new.table c.enter_set-in-Subset-2.new.table v w (of_set y) law same (part.subset-b x y) after_a c.in_ok-b-in-Subset.ensures.kept in
+    let last = c.enter_set-in-Subset-2.new.table in
+    let made : tree_in last (s.Subset c.in_ok-a-in-Subset.a c.in_ok-b-in-Subset.b) ≡ v = tree-Subset last.pools (nodes last) c.in_ok-a-in-Subset.a c.in_ok-b-in-Subset.b x y (node-stays c.enter_set-in-Subset.new.table c.enter_set-in-Subset-2.new.table c.in_ok-a-in-Subset.a (of_set x) c.in_ok-b-in-Subset.ensures.grows c.in_ok-a-in-Subset.ensures.node) c.in_ok-b-in-Subset.ensures.node ∙ sym same in
+    kept-made start last c.make-in-Subset.new.self v (s.Subset c.in_ok-a-in-Subset.a c.in_ok-b-in-Subset.b) c.make-in-Subset.result made after_b c.make-in-Subset.ensures.kept
+
+pub enter_atom-returns-in_err-a-in-Reach-clause-kept :
+    goal.enter_atom-returns-in_err-a-in-Reach-clause-kept
+enter_atom-returns-in_err-a-in-Reach-clause-kept t c =
+    let start = c.args.table.now in
+    let law = c.parts_come_first.ensures in
+    let x = term_tree c.in-Reach.a in
+    let y = term_tree c.in-Reach.b in
+    let fs = list_tree c.in-Reach.fields in
+    let v = of_truth (formula_tree c.args.formula.now) in
+    let w = of_truth (tree.reach fs x y) in
+    let whole : formula_tree c.args.formula.now ≡ tree.reach fs x y = search (rules, formula_tree-Reach) in
+    let same : v ≡ w = ap (λ d. of_truth d) whole in
+    kept-part start start c.enter_term-in-Reach.new.table v w (of_object x) law same (part.reach-a fs x y) (kept-self start v) c.in_err-a-in-Reach.ensures.kept
+
+pub enter_atom-returns-in_err-b-in-Reach-clause-kept :
+    goal.enter_atom-returns-in_err-b-in-Reach-clause-kept
+enter_atom-returns-in_err-b-in-Reach-clause-kept t c =
+    let start = c.args.table.now in
+    let law = c.parts_come_first.ensures in
+    let x = term_tree c.in-Reach.a in
+    let y = term_tree c.in-Reach.b in
+    let fs = list_tree c.in-Reach.fields in
+    let v = of_truth (formula_tree c.args.formula.now) in
+    let w = of_truth (tree.reach fs x y) in
+    let whole : formula_tree c.args.formula.now ≡ tree.reach fs x y = search (rules, formula_tree-Reach) in
+    let same : v ≡ w = ap (λ d. of_truth d) whole in
+    let after_a = kept-part start start c.enter_term-in-Reach.new.table v w (of_object x) law same (part.reach-a fs x y) (kept-self start v) c.in_ok-a-in-Reach.ensures.kept in
+    kept-part start c.enter_term-in-Reach.new.table c.enter_term-in-Reach-2.new.table v w (of_object y) law same (part.reach-b fs x y) after_a c.in_err-b-in-Reach.ensures.kept
+
+pub enter_atom-returns-in_err-fields-in-Reach-clause-kept :
+    goal.enter_atom-returns-in_err-fields-in-Reach-clause-kept
+enter_atom-returns-in_err-fields-in-Reach-clause-kept t c =
+    let start = c.args.table.now in
+    let law = c.parts_come_first.ensures in
+    let x = term_tree c.in-Reach.a in
+    let y = term_tree c.in-Reach.b in
+    let fs = list_tree c.items.result.now in
+    let v = of_truth (formula_tree c.args.formula.now) in
+    let w = of_truth (tree.reach fs x y) in
+    let whole : formula_tree c.args.formula.now ≡ tree.reach fs x y = search (rules, formula_tree-Reach) in
+    let same : v ≡ w = ap (λ d. of_truth d) whole in
+    let after_a = kept-part start start c.enter_term-in-Reach.new.table v w (of_object x) law same (part.reach-a fs x y) (kept-self start v) c.in_ok-a-in-Reach.ensures.kept in
+    let after_b = kept-part start c.enter_term-in-Reach.new.table c.enter_term-in-Reach-2.new.table v w (of_object y) law same (part.reach-b fs x y) after_a c.in_ok-b-in-Reach.ensures.kept in
+    kept-fields start c.enter_term-in-Reach-2.new.table c.enter_fields.new.table v w fs law same (λ f m. part.reach-field f fs x y m) after_b c.in_err-fields-in-Reach.ensures.kept
+
+pub enter_atom-returns-in_ok-fields-in-Reach-clause-kept :
+    goal.enter_atom-returns-in_ok-fields-in-Reach-clause-kept
+enter_atom-returns-in_ok-fields-in-Reach-clause-kept t c =
+    let start = c.args.table.now in
+    let law = c.parts_come_first.ensures in
+    let x = term_tree c.in-Reach.a in
+    let y = term_tree c.in-Reach.b in
+    let fs = list_tree c.items.result.now in
+    let v = of_truth (formula_tree c.args.formula.now) in
+    let w = of_truth (tree.reach fs x y) in
+    let whole : formula_tree c.args.formula.now ≡ tree.reach fs x y = search (rules, formula_tree-Reach) in
+    let same : v ≡ w = ap (λ d. of_truth d) whole in
+    let after_a = kept-part start start c.enter_term-in-Reach.new.table v w (of_object x) law same (part.reach-a fs x y) (kept-self start v) c.in_ok-a-in-Reach.ensures.kept in
+    let after_b = kept-part start c.enter_term-in-Reach.new.table c.enter_term-in-Reach-2.new.table v w (of_object y) law same (part.reach-b fs x y) after_a c.in_ok-b-in-Reach.ensures.kept in
+    let after_fields = kept-fields start c.enter_term-in-Reach-2.new.table c.enter_fields.new.table v w fs law same (λ f m. part.reach-field f fs x y m) after_b c.in_ok-fields-in-Reach.ensures.kept in
+    let last = c.enter_fields.new.table in
+    let made : tree_in last (s.Reach c.in_ok-fields-in-Reach.fields c.in_ok-a-in-Reach.a c.in_ok-b-in-Reach.b) ≡ v = tree-listed-Reach last c.in_ok-fields-in-Reach.fields c.in_ok-a-in-Reach.a c.in_ok-b-in-Reach.b fs x y c.in_ok-fields-in-Reach.ensures.list (node-stays c.enter_term-in-Reach-2.new.table c.enter_fields.new.table c.in_ok-a-in-Reach.a (of_object x) c.in_ok-fields-in-Reach.ensures.grows (node-stays c.enter_term-in-Reach.new.table c.enter_term-in-Reach-2.new.table c.in_ok-a-in-Reach.a (of_object x) c.in_ok-b-in-Reach.ensures.grows c.in_ok-a-in-Reach.ensures.node)) (node-stays c.enter_term-in-Reach-2.new.table c.enter_fields.new.table c.in_ok-b-in-Reach.b (of_object y) c.in_ok-fields-in-Reach.ensures.grows c.in_ok-b-in-Reach.ensures.node) ∙ sym same in
+    kept-made start last c.make-in-Reach.new.self v (s.Reach c.in_ok-fields-in-Reach.fields c.in_ok-a-in-Reach.a c.in_ok-b-in-Reach.b) c.make-in-Reach.result made after_fields c.make-in-Reach.ensures.kept
+
+pub enter_atom-returns-in_err-fields-in-Tree-clause-kept :
+    goal.enter_atom-returns-in_err-fields-in-Tree-clause-kept
+enter_atom-returns-in_err-fields-in-Tree-clause-kept t c =
+    let start = c.args.table.now in
+    let law = c.parts_come_first.ensures in
+    let fs = list_tree c.items-in-Tree.result.now in
+    let v = of_truth (formula_tree c.args.formula.now) in
+    let w = of_truth (tree.tree fs) in
+    let whole : formula_tree c.args.formula.now ≡ tree.tree fs = search (rules, formula_tree-Tree) in
+    let same : v ≡ w = ap (λ d. of_truth d) whole in
+    kept-fields start start c.enter_fields-in-Tree.new.table v w fs law same (λ f m. part.tree-field f fs m) (kept-self start v) c.in_err-fields-in-Tree.ensures.kept
+
+pub enter_atom-returns-in_ok-fields-in-Tree-clause-kept :
+    goal.enter_atom-returns-in_ok-fields-in-Tree-clause-kept
+enter_atom-returns-in_ok-fields-in-Tree-clause-kept t c =
+    let start = c.args.table.now in
+    let law = c.parts_come_first.ensures in
+    let fs = list_tree c.items-in-Tree.result.now in
+    let v = of_truth (formula_tree c.args.formula.now) in
+    let w = of_truth (tree.tree fs) in
+    let whole : formula_tree c.args.formula.now ≡ tree.tree fs = search (rules, formula_tree-Tree) in
+    let same : v ≡ w = ap (λ d. of_truth d) whole in
+    let after_fields = kept-fields start start c.enter_fields-in-Tree.new.table v w fs law same (λ f m. part.tree-field f fs m) (kept-self start v) c.in_ok-fields-in-Tree.ensures.kept in
+    let last = c.enter_fields-in-Tree.new.table in
+    let made : tree_in last (s.Tree c.in_ok-fields-in-Tree.fields) ≡ v = tree-listed-Tree last c.in_ok-fields-in-Tree.fields fs c.in_ok-fields-in-Tree.ensures.list ∙ sym same in
+    kept-made start last c.make-in-Tree.new.self v (s.Tree c.in_ok-fields-in-Tree.fields) c.make-in-Tree.result made after_fields c.make-in-Tree.ensures.kept
