@@ -6,8 +6,9 @@ sys.path.insert(0, __file__.rsplit('/', 1)[0])
 from forms import core, is_part
 from table import IS, THE, THE_POOL, WRAP, apply, has_list, names, shapes
 
-HEAD = """-- A shape over the carried parts is the tree that it was over the parts.
-use Rattle.std.proofs.Common.{◌≡◌, refl, sym, ap, ◌∙◌, ℕ, Bool, true, false, ◌&&◌, List, [], ◌∷◌, slice_get, slice_index, Option, Some, None, is_some}
+HEAD = """-- Written by tools/carry.py.
+-- A shape over the carried parts is the tree that it was over the parts.
+use Rattle.std.proofs.Common.{◌≡◌, refl, sym, ap, ◌∙◌, ℕ, Bool, true, false, ◌&&◌, List, [], ◌∷◌, slice_get, slice_index, Some, is_some}
 use Rattle.std.proofs.lemmas.Bool.{true≢false}
 use Rattle.jh_tree.specs.Tree.{ValueTree, of_object, of_number, of_truth, of_set, of_field, more}
 use Rattle.jh_tree.specs.Tree as t

@@ -5,13 +5,13 @@ import sys
 sys.path.insert(0, __file__.rsplit('/', 1)[0])
 from forms import ORDER, TYPES, apply, core, fn_of, is_part, names, tree_type
 
-HEAD = """-- The walk from below by the rule that takes labels off gives the tree without labels.
-use Rattle.std.proofs.Common.{◌≡◌, refl, sym, ap, ◌∙◌, ℕ, List, slice_get, Option, Some, true}
-use Rattle.std.proofs.lemmas.Bool.{true≢false}
+HEAD = """-- Written by tools/normal.py.
+-- The walk from below by the rule that takes labels off gives the tree without labels.
+use Rattle.std.proofs.Common.{◌≡◌, refl, sym, ap, ◌∙◌, ℕ, List, slice_get, Some, true}
 use Rattle.jh_tree.specs.Tree.{TermTree, IntTree, SetTree, FieldTree, ValueTree, FormulaTree, FieldTrees, of_truth}
 use Rattle.jh_tree.specs.Tree as t
 use Rattle.jh_compare.specs.Unmarked.{unmarked_term, unmarked_int, unmarked_set, unmarked_field, unmarked_value, unmarked_formula, unmarked_fields}
-use Rattle.jh_table.specs.Entries.{Pools, is_truth, the_truth}
+use Rattle.jh_table.specs.Entries.{Pools}
 use Rattle.jh_table.specs.Nodes.{fits, shape_tree}
 use Rattle.jh_table.specs.declared.shapes.Shape.{Shape}
 use Rattle.jh_table.specs.declared.shapes.Shape.TheVariants as s

@@ -23,7 +23,8 @@ def case(code, ctor, kinds, ns):
 
 
 def standing():
-    return f"""-- The parts of a tree, in the order in which they stand.
+    return f"""-- Written by tools/parts.py.
+-- The parts of a tree, in the order in which they stand.
 use Rattle.std.specs.Prelude.{{List, [], ◌∷◌, ◌++◌}}
 use Rattle.jh_tree.specs.Tree.{{{TREES}}}
 use Rattle.jh_tree.specs.Tree as t
@@ -108,13 +109,14 @@ def shape_line(code, ctor, variant, kinds):
 
 
 def listings():
-    out = ["""-- The parts of a shape's tree are the tree and the parts of its parts.
-use Rattle.std.proofs.Common.{◌≡◌, refl, sym, ap, ◌∙◌, ℕ, true, false, ◌&&◌, List, [], ◌∷◌, ◌++◌, slice_get, Option, Some, None, is_some}
+    out = ["""-- Written by tools/parts.py.
+-- The parts of a shape's tree are the tree and the parts of its parts.
+use Rattle.std.proofs.Common.{◌≡◌, refl, sym, ap, ◌∙◌, ℕ, true, ◌&&◌, List, [], ◌∷◌, ◌++◌, slice_get, Option, Some, is_some}
 use Rattle.std.proofs.lemmas.Bool.{true≢false}
 use Rattle.std.proofs.lemmas.List.{append-nil, append_assoc}
 use Rattle.jh_tree.specs.Tree.{ValueTree, of_object, of_number, of_truth, of_set, of_field}
 use Rattle.jh_tree.proofs.ClosedLemmas.{both-left, both-right}
-use Rattle.jh_table.specs.Entries.{Pools, the_name, the_mark, the_list, is_object, is_number, is_truth, is_set, is_field, the_object, the_number, the_truth, the_set, the_field, the_value, are_fields, fields_at}
+use Rattle.jh_table.specs.Entries.{Pools, the_list, is_object, is_number, is_truth, is_set, is_field, the_object, the_number, the_truth, the_set, the_field, the_value, are_fields, fields_at}
 use Rattle.jh_table.specs.Nodes.{fits, shape_tree}
 use Rattle.jh_table.specs.Parts.{parts, own_parts, list_parts}
 use Rattle.jh_table.specs.declared.shapes.Shape.{Shape}

@@ -1,3 +1,4 @@
+-- Written by tools/carry.py.
 -- A shape over the carried parts is the tree that it was over the parts.
 use Rattle.std.proofs.Common.{◌≡◌, refl, sym, ap, ◌∙◌, ℕ, Bool, true, false, ◌&&◌, List, [], ◌∷◌, slice_get, slice_index, Some, is_some}
 use Rattle.std.proofs.lemmas.Bool.{true≢false}

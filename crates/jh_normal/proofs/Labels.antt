@@ -1,3 +1,4 @@
+-- Written by tools/normal.py.
 -- The walk from below by the rule that takes labels off gives the tree without labels.
 use Rattle.std.proofs.Common.{◌≡◌, refl, sym, ap, ◌∙◌, ℕ, List, slice_get, Some, true}
 use Rattle.jh_tree.specs.Tree.{TermTree, IntTree, SetTree, FieldTree, ValueTree, FormulaTree, FieldTrees, of_truth}

@@ -1,3 +1,4 @@
+-- Written by tools/parts.py.
 -- The parts of a shape's tree are the tree and the parts of its parts.
 use Rattle.std.proofs.Common.{◌≡◌, refl, sym, ap, ◌∙◌, ℕ, true, ◌&&◌, List, [], ◌∷◌, ◌++◌, slice_get, Option, Some, is_some}
 use Rattle.std.proofs.lemmas.Bool.{true≢false}
