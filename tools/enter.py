@@ -14,6 +14,9 @@ WORD = {'T': 'term', 'I': 'int', 'S': 'set', 'F': 'field', 'V': 'value', 'P': 'f
 CONNECTIVES = ('True', 'False', 'Not', 'And', 'Or', 'Implies', 'Iff', 'All', 'Ex', 'Mark')
 
 
+OR = '\n        | '
+
+
 def is_atom(code, variant):
     return code == 'P' and variant not in CONNECTIVES
 
@@ -92,7 +95,7 @@ pub fn enter_{WORD[c]}(table: &mut Table, {p}: &{rust}) -> Result<usize, NoMemor
 {{
     table.parts_come_first();
     match {p} {{
-""" + ''.join(arm(c, v, ctor, kinds) for v, ctor, kinds in variants if not is_atom(c, v)) + (f"        {' | '.join(any_of(v, kinds) for v, _, kinds in variants if is_atom(c, v))} => enter_atom(table, formula),\n" if c == 'P' else '') + "    }\n}\n")
+""" + ''.join(arm(c, v, ctor, kinds) for v, ctor, kinds in variants if not is_atom(c, v)) + (f"        {OR.join(any_of(v, kinds) for v, _, kinds in variants if is_atom(c, v))} => enter_atom(table, formula),\n" if c == 'P' else '') + "    }\n}\n")
     atoms = [(v, ctor, kinds) for v, ctor, kinds in TYPES['P'][3] if is_atom('P', v)]
     out.append("""/// The node of a formula that is an atom.
 #[cycle(entered)]
