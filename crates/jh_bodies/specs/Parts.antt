@@ -12,7 +12,7 @@ use Rattle.jh_rules.specs.declared.entries.LocalEntry.{LocalEntry}
 use Rattle.jh_rules.specs.Faults.{Judged, ◌>>=◌}
 use Rattle.jh_rules.specs.Words.{is_one_of, text_of}
 use Rattle.jh_rules.specs.Kinds.{fits}
-use Rattle.jh_rules.specs.Names.{Declared, type_of, label_of}
+use Rattle.jh_rules.specs.Names.{Declared, type_of}
 use Rattle.jh_rules.specs.Scopes.{Scope, declare_all}
 use Rattle.jh_ast.specs.Exprs.{ExprTree}
 use Rattle.jh_ast.specs.declared.word.Param.{Param}
@@ -61,10 +61,6 @@ assigned l at q a r = (expr_type l at a).faults ++ rule_17 at q a ++ rhs_faults 
 abbrev pub returned : Declared → Scope → Place → JType → Option ExprTree → List Fault
 returned l at q result None = rule_24_none q result
 returned l at q result (Some a) = (expr_type l at a).faults ++ rule_24_some l q result (expr_type l at a).known
-
--- the name of a state at the left of `:=`
-abbrev pub labels_of : List LabelledPart → List (List ℕ)
-labels_of is = flat_map label_of is
 
 -- a formula in the body of a method
 abbrev pub inside_spot : Spot
