@@ -8,19 +8,14 @@ use Rattle.std.proofs.lemmas.Map.Text.{hash_map_updates_text}
 use Rattle.indexmap.specs.IndexMap.{IndexMap, get_by_text, Updates}
 use Rattle.jh_rules.specs.Names.{◌then◌}
 use Rattle.jh_rules.specs.Words.{same_text}
+use Rattle.jh_spread.proofs.Places.{item-get}
+use Rattle.jh_order.proofs.Orderings.{same-or-not}
 
 same-test : (a b : ℕ) (t : Bool) → nat_eq a b ≡ t → t ≡ true → a ≡ b
 same-test a b t e h = grind (arith, nat_tests)
 
 other-test : (a b : ℕ) (t : Bool) → nat_eq a b ≡ t → t ≡ false → a ≡ b → ⊥
 other-test a b t e h same = grind (arith, nat_tests)
-
-same-or-not : (a b : ℕ) → (a ≡ b) ⊎ (a ≡ b → ⊥)
-same-or-not a b = by (nat_eq a b) refl
-  where
-    by : (t : Bool) → nat_eq a b ≡ t → (a ≡ b) ⊎ (a ≡ b → ⊥)
-    by true e = inl (same-test a b true e refl)
-    by false e = inr (other-test a b false e refl)
 
 nat-same : (a : ℕ) → nat_eq a a ≡ true
 nat-same a = by (nat_eq a a) refl
@@ -58,11 +53,6 @@ set-other (x ∷ xs) (suc k) v (suc c) h = set-other xs k v c (λ e. h (ap suc e
 
 pub noted-text : {Y S : Type 0} (old new : IndexMap (String Y) ℕ S) (key : String Y) (node : ℕ) (text : List ℕ) → string_bytes key ≡ text → Updates string_eq old new key (Some node) → (x : List ℕ) → get_by_text new x ≡ (if same_text text x then Some node else get_by_text old x)
 noted-text old new key node text named updates x = hash_map_updates_text (string_bytes key) old new (Some node) updates x ∙ ap (λ b. if same_text b x then Some node else get_by_text old x) named
-
-pub item-get : {X : Type 0} (xs : List X) (i : ℕ) (d : X) → i < length xs → slice_get xs i ≡ Some (get_or xs i d)
-item-get [] i d lt = absurd (omega arith)
-item-get (x ∷ xs) zero d lt = refl
-item-get (x ∷ xs) (suc i) d lt = item-get xs i d (omega arith)
 
 -- one map of a list is exchanged for one that knows one more text
 module _ {Y S : Type 0} (maps : List (IndexMap (String Y) ℕ S)) (class : ℕ) (old new : IndexMap (String Y) ℕ S) (node : ℕ) (text : List ℕ) (inside : class < length maps) (there : slice_get maps class ≡ Some old) (at-text : (x : List ℕ) → get_by_text new x ≡ (if same_text text x then Some node else get_by_text old x)) where

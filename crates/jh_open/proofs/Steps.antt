@@ -21,6 +21,7 @@ use Rattle.jh_exprs.specs.declared.looking.Lookups.{Lookups}
 use Rattle.jh_resolve.specs.declared.context.Meanings.{Meanings}
 use Rattle.jh_resolve.specs.Meant.{node_of, tree_at, meaning_in, AreHeld}
 use Rattle.jh_resolve.specs.Spots.{spelled_by}
+use Rattle.jh_spread.proofs.Places.{before-or-at}
 use Rattle.jh_resolve.proofs.Meant.{held-grows, meaning-grows}
 use Rattle.jh_open.specs.declared.opening.Definition.{Definition}
 use Rattle.jh_open.specs.Opening.{source_of, variable_of, AreDefinitions, AreInOrder}
@@ -57,16 +58,6 @@ get-variable (d ∷ ds) zero x e = first d x e
     first : (d x : Definition) → Some d ≡ Some x → Some (variable_of d) ≡ Some (variable_of x)
     first d x e = cc
 get-variable (d ∷ ds) (suc k) x e = get-variable ds k x e
-
-before-or-at : (i j : ℕ) → i < j + 1 → (i < j) ⊎ (i ≡ j)
-before-or-at zero zero h = inr refl
-before-or-at zero (suc j) h = inl (omega arith)
-before-or-at (suc i) zero h = absurd (omega arith)
-before-or-at (suc i) (suc j) h = next (before-or-at i j (omega arith))
-  where
-    next : (i < j) ⊎ (i ≡ j) → (suc i < suc j) ⊎ (suc i ≡ suc j)
-    next (inl l) = inl (omega arith)
-    next (inr e) = inr (ap suc e)
 
 some-is : {X : Type 0} (a b : X) → Some a ≡ Some b → a ≡ b
 some-is a b e = cc

@@ -4,7 +4,8 @@ use Rattle.std.specs.Vec.{with_item}
 use Rattle.indexmap.specs.IndexMap.{get_by_text}
 use Rattle.jh_rules.specs.Words.{same_text}
 use Rattle.jh_resolve.specs.Meant.{node_of}
-use Rattle.jh_open.proofs.Puttings.{noted, others, item-get}
+use Rattle.jh_spread.proofs.Places.{item-get}
+use Rattle.jh_open.proofs.Puttings.{noted, others}
 use Rattle.jh_open.proofs.meanings.put.Goals as goal
 
 -- src/meanings.rt
