@@ -40,7 +40,7 @@ module _ (p : ProgramTree) where
         let d = w.0 in
         let same : Same (meant p a) (meant p b) k = λ j y l f. steady-below top j (omega arith) a b y (omega arith) (omega arith) f in
         value-of-def (meant p a) x d w.1
-        ∙ agrees p (class_text p) (meant p a) (meant p b) d.spec.form (spot_for x) (λ z. refl) (agree-before (meant p a) (meant p b) k (reads p d.spec.form x.class []) same w.2)
+        ∙ agrees p (class_text p) (meant p a) (meant p b) d.spec.form (spot_for x) (λ z. refl) (agree-before (meant p a) (meant p b) k (reads (declared_in p) d.spec.form x.class []) same w.2)
         ∙ sym (value-of-def (meant p b) x d w.1)
 
     -- a variable at a place means one thing, wherever definitions are followed more often than there are places before it
@@ -56,7 +56,7 @@ module _ (p : ProgramTree) where
         let w = follows k x e in
         let same : d ≡ w.0 = some-is d w.0 (sym f ∙ w.1) in
         let here : Same m (meant p top) k = λ j y l g. s j y l g ∙ steady j (suc top) top y (omega arith) (omega arith) g in
-        agrees p (class_text p) m (meant p top) d.spec.form (spot_for x) (λ z. refl) (agree-before m (meant p top) k (reads p d.spec.form x.class []) here (subst (λ (c : DefPart). AreBefore p order k (reads p c.spec.form x.class [])) (sym same) w.2))
+        agrees p (class_text p) m (meant p top) d.spec.form (spot_for x) (λ z. refl) (agree-before m (meant p top) k (reads (declared_in p) d.spec.form x.class []) here (subst (λ (c : DefPart). AreBefore p order k (reads (declared_in p) c.spec.form x.class [])) (sym same) w.2))
         ∙ sym (value-of-def (meant p top) x d f)
       where
         some-is : (c d : DefPart) → Some c ≡ Some d → c ≡ d

@@ -1,7 +1,7 @@
 -- Definitions of which each reads only those before it.
 use Rattle.std.specs.Prelude.{◌≡◌, ◌<◌, true, ℕ, List, [], ◌∷◌, Some, slice_get}
 use Rattle.jh_ast.specs.Programs.{ProgramTree, DefPart}
-use Rattle.jh_rules.specs.Names.{def_of}
+use Rattle.jh_rules.specs.Names.{declared_in, def_of}
 use Rattle.jh_vars.specs.States.{State}
 use Rattle.jh_vars.specs.Reading.{reads}
 
@@ -18,4 +18,4 @@ module _ (p : ProgramTree) where
 
   -- each variable of the list has a definition, which reads only those before it
   abbrev pub Follows : List Variable → Type 0
-  Follows order = (k : ℕ) (x : Variable) → slice_get order k ≡ Some x → (d : DefPart) × (def_of p x.class x.name ≡ Some d) × AreBefore order k (reads p d.spec.form x.class [])
+  Follows order = (k : ℕ) (x : Variable) → slice_get order k ≡ Some x → (d : DefPart) × (def_of p x.class x.name ≡ Some d) × AreBefore order k (reads (declared_in p) d.spec.form x.class [])
