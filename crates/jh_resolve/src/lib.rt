@@ -13,4 +13,4 @@ mod values;
 
 pub use context::{Context, Meanings, Spot};
 pub use own::own_name;
-pub use resolving::resolved;
+pub use resolving::{resolved, under};

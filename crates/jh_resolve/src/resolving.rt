@@ -129,8 +129,8 @@ fn binary(
     )
 }
 
-/// The bound names under a binder of some words.
-fn under<'a>(
+/// The bound names under a binder of some words, the outermost first.
+pub fn under<'a>(
     alloc: Global,
     bound: &[&'a Word],
     words: &'a [Word],

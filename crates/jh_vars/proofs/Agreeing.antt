@@ -87,14 +87,14 @@ module _ (p : ProgramTree) (spelled : ℕ → List ℕ) (m n : ℕ → List ℕ 
   state-agrees : (at : Spot) (x : State) → (x.entry.is_defined ≡ true → m x.entry.class x.name ≡ n x.entry.class x.name) → r.state_value (declared_in p) spelled m at x ≡ r.state_value (declared_in p) spelled n at x
   state-agrees at x a = λ i. if x.entry.fixed then static-agrees x a i else member-agrees x (this_at at) a i
 
-  spelled-agrees : (at : Spot) (o : Option State) (v : ValueTree) → Agree (some_state p o) → option_map_or (r.state_value (declared_in p) spelled m at) o v ≡ option_map_or (r.state_value (declared_in p) spelled n at) o v
+  spelled-agrees : (at : Spot) (o : Option State) (v : ValueTree) → Agree (some_state o) → option_map_or (r.state_value (declared_in p) spelled m at) o v ≡ option_map_or (r.state_value (declared_in p) spelled n at) o v
   spelled-agrees at None v a = refl
   spelled-agrees at (Some x) v a = state-agrees at x a.0
 
   abbrev others : List (List ℕ)
   others = codes "this" ∷ codes "result" ∷ codes "alloc" ∷ codes "Object" ∷ codes "Object.alloc" ∷ []
 
-  outer-agrees : (at : Spot) (w : Word) → is_one_of (text_of w) at.bound ≡ false → Agree (name_reads p at.class at.bound w) → r.outer_value (declared_in p) spelled m at w ≡ r.outer_value (declared_in p) spelled n at w
+  outer-agrees : (at : Spot) (w : Word) → is_one_of (text_of w) at.bound ≡ false → Agree (name_reads (declared_in p) at.class at.bound w) → r.outer_value (declared_in p) spelled m at w ≡ r.outer_value (declared_in p) spelled n at w
   outer-agrees at w free-of a =
       by (same_text (text_of w) (codes "this")) (same_text (text_of w) (codes "result")) (is_one_of (text_of w) (codes "alloc" ∷ codes "Object" ∷ codes "Object.alloc" ∷ []))
       (λ h. spelled-agrees at o v (known h))
@@ -105,8 +105,8 @@ module _ (p : ProgramTree) (spelled : ℕ → List ℕ) (m n : ℕ → List ℕ 
       v : ValueTree
       v = of_set (t.free_set (own (text_of w) 0))
 
-      known : is_one_of (text_of w) others ≡ false → Agree (some_state p o)
-      known h = subst (λ (b : Bool). Agree (if b then [] else some_state p o)) (any-append (text_of w) at.bound others ∙ (λ i. free-of i || h i)) a
+      known : is_one_of (text_of w) others ≡ false → Agree (some_state o)
+      known h = subst (λ (b : Bool). Agree (if b then [] else some_state o)) (any-append (text_of w) at.bound others ∙ (λ i. free-of i || h i)) a
 
       by : (b c d : Bool) → ((b || (c || d)) ≡ false → option_map_or (r.state_value (declared_in p) spelled m at) o v ≡ option_map_or (r.state_value (declared_in p) spelled n at) o v) →
           (if b then of_object (this_at at) else (if c then free at.result (own (codes "result") 0) else (if d then of_set (t.free_set (own (codes "alloc") 0)) else option_map_or (r.state_value (declared_in p) spelled m at) o v)))
@@ -116,7 +116,7 @@ module _ (p : ProgramTree) (spelled : ℕ → List ℕ) (m n : ℕ → List ℕ 
       by false false true e = refl
       by false false false e = e refl
 
-  name-agrees : (at : Spot) (w : Word) → at.local (text_of w) ≡ None → Agree (name_reads p at.class at.bound w) → r.name_value (declared_in p) spelled m at w ≡ r.name_value (declared_in p) spelled n at w
+  name-agrees : (at : Spot) (w : Word) → at.local (text_of w) ≡ None → Agree (name_reads (declared_in p) at.class at.bound w) → r.name_value (declared_in p) spelled m at w ≡ r.name_value (declared_in p) spelled n at w
   name-agrees at w none a = by (bound_as (text_of w) at.bound) refl
     where
       local : (k : ℕ → List ℕ → ValueTree) → r.local_value (declared_in p) spelled k at w ≡ r.outer_value (declared_in p) spelled k at w
@@ -126,17 +126,17 @@ module _ (p : ProgramTree) (spelled : ℕ → List ℕ) (m n : ℕ → List ℕ 
       by (Some i) e = refl
       by None e = local m ∙ outer-agrees at w (unbound (text_of w) at.bound e) a ∙ sym (local n)
 
-  dots-agree : (at : Spot) (a : TermTree) (w : Word) → Agree (fields_read p at.class (w ∷ [])) → r.after_dots (declared_in p) spelled m at a w ≡ r.after_dots (declared_in p) spelled n at a w
-  dots-agree at a w h = by (state_named (declared_in p) at.class (text_of w)) (agree-left (some_state p (state_named (declared_in p) at.class (text_of w))) [] h)
+  dots-agree : (at : Spot) (a : TermTree) (w : Word) → Agree (fields_read (declared_in p) at.class (w ∷ [])) → r.after_dots (declared_in p) spelled m at a w ≡ r.after_dots (declared_in p) spelled n at a w
+  dots-agree at a w h = by (state_named (declared_in p) at.class (text_of w)) (agree-left (some_state (state_named (declared_in p) at.class (text_of w))) [] h)
     where
-      by : (o : Option State) → Agree (some_state p o) → option_map_or (λ x. r.member_value (declared_in p) spelled m x a) o (of_object a) ≡ option_map_or (λ x. r.member_value (declared_in p) spelled n x a) o (of_object a)
+      by : (o : Option State) → Agree (some_state o) → option_map_or (λ x. r.member_value (declared_in p) spelled m x a) o (of_object a) ≡ option_map_or (λ x. r.member_value (declared_in p) spelled n x a) o (of_object a)
       by None h = refl
       by (Some x) h = member-agrees x a h.0
 
   mutual
     unfolding resolved reads
 
-    pub agrees : (a : FormTree) (at : Spot) → ((x : List ℕ) → at.local x ≡ None) → Agree (reads p a at.class at.bound) → resolved (declared_in p) spelled m a at ≡ resolved (declared_in p) spelled n a at
+    pub agrees : (a : FormTree) (at : Spot) → ((x : List ℕ) → at.local x ≡ None) → Agree (reads (declared_in p) a at.class at.bound) → resolved (declared_in p) spelled m a at ≡ resolved (declared_in p) spelled n a at
     agrees (f.null q) at none h = refl
     agrees (f.yes q) at none h = refl
     agrees (f.no q) at none h = refl
@@ -144,30 +144,30 @@ module _ (p : ProgramTree) (spelled : ℕ → List ℕ) (m n : ℕ → List ℕ 
     agrees (f.number q z) at none h = refl
     agrees (f.name q w) at none h = name-agrees at w (none (text_of w)) h
     agrees (f.member q a w) at none h =
-        (λ i. r.after_dots (declared_in p) spelled m at (as_object (agrees a at none (agree-left (reads p a at.class at.bound) (fields_read p at.class (w ∷ [])) h) i)) w)
-        ∙ dots-agree at (as_object (resolved (declared_in p) spelled n a at)) w (agree-right (reads p a at.class at.bound) (fields_read p at.class (w ∷ [])) h)
+        (λ i. r.after_dots (declared_in p) spelled m at (as_object (agrees a at none (agree-left (reads (declared_in p) a at.class at.bound) (fields_read (declared_in p) at.class (w ∷ [])) h) i)) w)
+        ∙ dots-agree at (as_object (resolved (declared_in p) spelled n a at)) w (agree-right (reads (declared_in p) a at.class at.bound) (fields_read (declared_in p) at.class (w ∷ [])) h)
     agrees (f.negation q a) at none h = λ i. of_truth (t.negation (as_truth (agrees a at none h i)))
     agrees (f.minus q a) at none h = λ i. opposite (agrees a at none h i)
     agrees (f.old q a) at none h = λ i. mapped_value (agrees a at none h i) at_entry 0
     agrees (f.card q a) at none h = λ i. of_number (t.card (as_set (agrees a at none h i)))
     agrees (f.binary q o a b) at none h = λ i.
-        binary o (literal a) (agrees a at none (agree-left (reads p a at.class at.bound) (reads p b at.class at.bound) h) i) (literal b) (agrees b at none (agree-right (reads p a at.class at.bound) (reads p b at.class at.bound) h) i)
+        binary o (literal a) (agrees a at none (agree-left (reads (declared_in p) a at.class at.bound) (reads (declared_in p) b at.class at.bound) h) i) (literal b) (agrees b at none (agree-right (reads (declared_in p) a at.class at.bound) (reads (declared_in p) b at.class at.bound) h) i)
     agrees (f.dvd q z a) at none h = λ i. of_truth (t.divides z (as_number (agrees a at none h i)))
     agrees (f.all q ws a) at none h = λ i. of_truth (quantified t.all (length ws) (as_truth (agrees a (under at ws) none h i)))
     agrees (f.ex q ws a) at none h = λ i. of_truth (quantified t.ex (length ws) (as_truth (agrees a (under at ws) none h i)))
     agrees (f.tree q ws) at none h = refl
     agrees (f.rtrancl q x y body a b) at none h =
-        let fs = option_map_or (fields_read p at.class) (equations (text_of x) (text_of y) body) [] in
-        let us = reads p a at.class at.bound in
-        let vs = reads p b at.class at.bound in
+        let fs = option_map_or (fields_read (declared_in p) at.class) (equations (text_of x) (text_of y) body) [] in
+        let us = reads (declared_in p) a at.class at.bound in
+        let vs = reads (declared_in p) b at.class at.bound in
         let first = agree-right fs us (agree-left (fs ++ us) vs h) in
         let second = agree-right (fs ++ us) vs h in
         λ i. of_truth (t.reach (path_fields (declared_in p) spelled at x y body) (as_object (agrees a at none first i)) (as_object (agrees b at none second i)))
     agrees (f.braces q fs) at none h = λ i. of_set (unions-agree fs at None none h i)
     agrees (f.compr q w a) at none h = λ i. of_set (t.compr (as_truth (agrees a (under at (w ∷ [])) none h i)))
 
-    unions-agree : (fs : FormTrees) (at : Spot) (made : Option SetTree) → ((x : List ℕ) → at.local x ≡ None) → Agree (all_read p fs at.class at.bound) → union_of (declared_in p) spelled m fs at made ≡ union_of (declared_in p) spelled n fs at made
+    unions-agree : (fs : FormTrees) (at : Spot) (made : Option SetTree) → ((x : List ℕ) → at.local x ≡ None) → Agree (all_read (declared_in p) fs at.class at.bound) → union_of (declared_in p) spelled m fs at made ≡ union_of (declared_in p) spelled n fs at made
     unions-agree f.none at made none h = refl
     unions-agree (f.more a fs) at made none h =
-        (λ i. union_of (declared_in p) spelled m fs at (Some (with_single made (as_object (agrees a at none (agree-left (reads p a at.class at.bound) (all_read p fs at.class at.bound) h) i)))))
-        ∙ unions-agree fs at (Some (with_single made (as_object (resolved (declared_in p) spelled n a at)))) none (agree-right (reads p a at.class at.bound) (all_read p fs at.class at.bound) h)
+        (λ i. union_of (declared_in p) spelled m fs at (Some (with_single made (as_object (agrees a at none (agree-left (reads (declared_in p) a at.class at.bound) (all_read (declared_in p) fs at.class at.bound) h) i)))))
+        ∙ unions-agree fs at (Some (with_single made (as_object (resolved (declared_in p) spelled n a at)))) none (agree-right (reads (declared_in p) a at.class at.bound) (all_read (declared_in p) fs at.class at.bound) h)

@@ -1,6 +1,6 @@
 -- Where each definition reads only those before it, what it means no longer changes once definitions are followed
 -- often enough.
-use Rattle.std.proofs.Common.{◌≡◌, refl, sym, ap, subst, ◌∙◌, ℕ, zero, suc, ◌<◌, true, List, [], ◌∷◌, slice_get, Some, arith}
+use Rattle.std.proofs.Common.{◌≡◌, refl, sym, ap, subst, ◌∙◌, ℕ, zero, suc, ◌<◌, List, [], ◌∷◌, slice_get, Some, arith}
 use Rattle.std.specs.Option.{option_map_or}
 use Rattle.jh_tree.specs.Tree.{ValueTree, of_object, null}
 use Rattle.jh_ast.specs.Programs.{ProgramTree, DefPart}
@@ -9,37 +9,24 @@ use Rattle.jh_vars.specs.States.{State, class_text}
 use Rattle.jh_vars.specs.Resolved.{Spot, resolved}
 use Rattle.jh_vars.specs.Opened.{outside, is_of_objects, meant}
 use Rattle.jh_vars.specs.Reading.{reads}
+use Rattle.jh_vars.specs.Following.{Variable, AreBefore, Follows}
 use Rattle.jh_vars.proofs.Agreeing.{Agree, agrees}
-
--- a defined variable, by its class and its name
-pub record Variable : Type 0 where
-  pub class : ℕ
-  pub name : List ℕ
 
 module _ (p : ProgramTree) where
   -- the place of what defines a variable: its `this` is loose where there is one for each object
   abbrev pub spot_for : Variable → Spot
   spot_for x = outside x.class (is_of_objects p x.class x.name)
 
-  -- the defined ones of these variables stand in a list before a place
-  abbrev pub AreBefore : List Variable → ℕ → List State → Type 0
-  AreBefore order k [] = Unit {0}
-  AreBefore order k (y ∷ ys) = (y.entry.is_defined ≡ true → (j : ℕ) × (j < k) × (slice_get order j ≡ Some (record { class = y.entry.class; name = y.name }))) × AreBefore order k ys
-
-  -- each variable of the list has a definition, which reads only those before it
-  abbrev pub Follows : List Variable → Type 0
-  Follows order = (k : ℕ) (x : Variable) → slice_get order k ≡ Some x → (d : DefPart) × (def_of p x.class x.name ≡ Some d) × AreBefore order k (reads p d.spec.form x.class [])
-
   value-of-def : (k : ℕ → List ℕ → ValueTree) (x : Variable) (d : DefPart) → def_of p x.class x.name ≡ Some d →
       option_map_or (λ (e : DefPart). resolved (declared_in p) (class_text p) k e.spec.form (spot_for x)) (def_of p x.class x.name) (of_object null) ≡ resolved (declared_in p) (class_text p) k d.spec.form (spot_for x)
   value-of-def k x d e = ap (λ o. option_map_or (λ (e : DefPart). resolved (declared_in p) (class_text p) k e.spec.form (spot_for x)) o (of_object null)) e
 
-  module _ (order : List Variable) (follows : Follows order) where
+  module _ (order : List Variable) (follows : Follows p order) where
     abbrev Same : (ℕ → List ℕ → ValueTree) → (ℕ → List ℕ → ValueTree) → ℕ → Type 0
     Same m n k = (j : ℕ) (y : Variable) → j < k → slice_get order j ≡ Some y → m y.class y.name ≡ n y.class y.name
 
     -- meanings that agree on the variables before a place agree on what is read there
-    pub agree-before : (m n : ℕ → List ℕ → ValueTree) (k : ℕ) (ys : List State) → Same m n k → AreBefore order k ys → Agree p (class_text p) m n ys
+    pub agree-before : (m n : ℕ → List ℕ → ValueTree) (k : ℕ) (ys : List State) → Same m n k → AreBefore p order k ys → Agree p (class_text p) m n ys
     agree-before m n k [] s b = tt
     agree-before m n k (y ∷ ys) s b = (λ h. let q = b.0 h in s q.0 (record { class = y.entry.class; name = y.name }) q.1 q.2, agree-before m n k ys s b.1)
 
@@ -53,7 +40,7 @@ module _ (p : ProgramTree) where
         let d = w.0 in
         let same : Same (meant p a) (meant p b) k = λ j y l f. steady-below top j (omega arith) a b y (omega arith) (omega arith) f in
         value-of-def (meant p a) x d w.1
-        ∙ agrees p (class_text p) (meant p a) (meant p b) d.spec.form (spot_for x) (λ z. refl) (agree-before (meant p a) (meant p b) k (reads p d.spec.form x.class []) same w.2)
+        ∙ agrees p (class_text p) (meant p a) (meant p b) d.spec.form (spot_for x) (λ z. refl) (agree-before (meant p a) (meant p b) k (reads (declared_in p) d.spec.form x.class []) same w.2)
         ∙ sym (value-of-def (meant p b) x d w.1)
 
     -- a variable at a place means one thing, wherever definitions are followed more often than there are places before it
@@ -69,7 +56,7 @@ module _ (p : ProgramTree) where
         let w = follows k x e in
         let same : d ≡ w.0 = some-is d w.0 (sym f ∙ w.1) in
         let here : Same m (meant p top) k = λ j y l g. s j y l g ∙ steady j (suc top) top y (omega arith) (omega arith) g in
-        agrees p (class_text p) m (meant p top) d.spec.form (spot_for x) (λ z. refl) (agree-before m (meant p top) k (reads p d.spec.form x.class []) here (subst (λ (c : DefPart). AreBefore order k (reads p c.spec.form x.class [])) (sym same) w.2))
+        agrees p (class_text p) m (meant p top) d.spec.form (spot_for x) (λ z. refl) (agree-before m (meant p top) k (reads (declared_in p) d.spec.form x.class []) here (subst (λ (c : DefPart). AreBefore p order k (reads (declared_in p) c.spec.form x.class [])) (sym same) w.2))
         ∙ sym (value-of-def (meant p top) x d f)
       where
         some-is : (c d : DefPart) → Some c ≡ Some d → c ≡ d

@@ -7,20 +7,21 @@ use Rattle.jh_ast.specs.Forms.{FormTree, FormTrees}
 use Rattle.jh_ast.specs.Forms as f
 use Rattle.jh_ast.specs.Programs.{ProgramTree, ClassPart, VarPart, DefPart}
 use Rattle.jh_rules.specs.Words.{is_one_of, text_of}
-use Rattle.jh_rules.specs.Names.{declared_in, def_of}
+use Rattle.jh_rules.specs.Names.{Declared, declared_in, def_of}
 use Rattle.jh_vars.specs.States.{State, state_spelled, state_named}
 use Rattle.jh_rules.specs.Formulas.{equations}
 
-module _ (p : ProgramTree) where
-  abbrev pub some_state : Option State → List State
-  some_state x = option_map_or (λ y. y ∷ []) x []
+abbrev pub some_state : Option State → List State
+some_state x = option_map_or (λ y. y ∷ []) x []
 
+-- over what is declared
+module _ (l : Declared) where
   abbrev pub name_reads : ℕ → List (List ℕ) → Word → List State
   name_reads n bound w =
-      if is_one_of (text_of w) (bound ++ codes "this" ∷ codes "result" ∷ codes "alloc" ∷ codes "Object" ∷ codes "Object.alloc" ∷ []) then [] else some_state (state_spelled (declared_in p) n (text_of w))
+      if is_one_of (text_of w) (bound ++ codes "this" ∷ codes "result" ∷ codes "alloc" ∷ codes "Object" ∷ codes "Object.alloc" ∷ []) then [] else some_state (state_spelled l n (text_of w))
 
   abbrev pub fields_read : ℕ → List Word → List State
-  fields_read n ws = flat_map (λ w. some_state (state_named (declared_in p) n (text_of w))) ws
+  fields_read n ws = flat_map (λ w. some_state (state_named l n (text_of w))) ws
 
   unfoldable mutual
     -- the fields, statics and variables that a formula outside methods reads
@@ -45,9 +46,10 @@ module _ (p : ProgramTree) where
     all_read f.none n bound = []
     all_read (f.more a fs) n bound = reads a n bound ++ all_read fs n bound
 
+module _ (p : ProgramTree) where
   -- what the definition of a variable reads itself
   abbrev pub definition_reads : State → List State
-  definition_reads x = option_map_or (λ (d : DefPart). reads d.spec.form x.entry.class []) (if x.entry.is_defined then def_of p x.entry.class x.name else None) []
+  definition_reads x = option_map_or (λ (d : DefPart). reads (declared_in p) d.spec.form x.entry.class []) (if x.entry.is_defined then def_of p x.entry.class x.name else None) []
 
   -- what a definition reads, directly or through others
   pub data Reads : State → State → Type 0 where

@@ -1,0 +1,47 @@
+-- Definitions that are opened one after another.
+use Rattle.std.specs.Prelude.{◌≡◌, ◌<◌, ℕ, List, map, Some, length, slice_get}
+use Rattle.jh_ast.specs.declared.program.Class.{Class}
+use Rattle.jh_ast.specs.Bare.{class_part, form_tree}
+use Rattle.jh_ast.specs.Programs.{ProgramTree, DefPart}
+use Rattle.jh_tree.specs.Tree.{ValueTree}
+use Rattle.jh_rules.specs.Names.{def_of}
+use Rattle.jh_rules.specs.Words.{text_of}
+use Rattle.jh_exprs.specs.Lookings.{declared_by}
+use Rattle.jh_vars.specs.Opened.{is_of_objects, meant, all_variables, outside}
+use Rattle.jh_vars.specs.Resolved.{resolved}
+use Rattle.jh_vars.specs.Following.{Variable, Follows}
+use Rattle.jh_resolve.specs.declared.context.Context.{Context}
+use Rattle.jh_resolve.specs.declared.context.Meanings.{Meanings}
+use Rattle.jh_resolve.specs.Meant.{meaning_in}
+use Rattle.jh_resolve.specs.Spots.{spelled_by}
+use Rattle.jh_open.specs.declared.opening.Definition.{Definition}
+
+-- the source with these classes
+abbrev pub source_of : List Class → ProgramTree
+source_of cs = record { classes = map class_part cs }
+
+abbrev pub variable_of : Definition → Variable
+variable_of d = record { class = d.class; name = text_of d.word.now }
+
+-- a definition is the one that the source has for its variable
+pub record IsDefinition (p : ProgramTree) (d : Definition) : Type 0 where
+  pub part : DefPart
+  pub found : def_of p d.class (text_of d.word.now) ≡ Some part
+  pub form : part.spec.form ≡ form_tree d.body.now
+  pub objects : is_of_objects p d.class (text_of d.word.now) ≡ d.of_objects
+  pub inside : d.class < length p.classes
+
+abbrev pub AreDefinitions : ProgramTree → List Definition → Type 0
+AreDefinitions p ds = (k : ℕ) (d : Definition) → slice_get ds k ≡ Some d → IsDefinition p d
+
+-- each reads only variables that are defined before it
+abbrev pub AreInOrder : ProgramTree → List Definition → Type 0
+AreInOrder p ds = Follows p (map variable_of ds)
+
+-- each variable means what its definition says
+abbrev pub AreMeant : ProgramTree → List ValueTree → Meanings → List Definition → Type 0
+AreMeant p ts made ds = (k : ℕ) (d : Definition) → slice_get ds k ≡ Some d → meaning_in ts made d.class (text_of d.word.now) ≡ meant p (all_variables p) d.class (text_of d.word.now)
+
+-- what a definition says, over what is known of other variables
+abbrev pub value_of : List ValueTree → Context → Definition → ValueTree
+value_of ts x d = resolved (declared_by x.lookups.now) (spelled_by x.classes.now) (meaning_in ts x.meanings.now) (form_tree d.body.now) (outside d.class d.of_objects)
