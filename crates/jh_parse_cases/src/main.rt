@@ -1,10 +1,11 @@
-//! Goes through specifications and bodies of methods with what is to be read of them. Prints each that differs and, in the last line, how many there
+//! Goes through specifications, bodies of methods and programs with what is to be read of them. Prints each that differs and, in the last line, how many there
 //! were; ends with status 1 where one differs, and with 6 where a file of cases can't be read.
 #![tactic(auto)]
 
 mod exprs;
 mod forms;
 mod parts;
+mod programs;
 mod reading;
 mod stmts;
 
@@ -15,7 +16,12 @@ use std::process::ExitCode;
 use std::{fs, io};
 
 /// The files of cases, by what they are about.
-const FILES: [&str; 3] = ["formulas.cases", "parts.cases", "statements.cases"];
+const FILES: [&str; 4] = [
+    "formulas.cases",
+    "parts.cases",
+    "statements.cases",
+    "programs.cases",
+];
 
 /// How many cases there were, and how many of them differed.
 #[derive(Clone, Copy)]

@@ -1,7 +1,7 @@
 //! What specifications hold, as texts. A formula is written with the place of its quote and its number.
 
 use crate::forms::{write_form, write_words};
-use jh_ast::{Labelled, Spec, SpecVar, Stmt, StmtBody, Word};
+use jh_ast::{Labelled, Spec, SpecVar, Stmt, StmtBody, VarDef, Word};
 use jh_name::Kind;
 use jh_spec::{SpecItem, SpecPart};
 use std::alloc::AllocError;
@@ -58,7 +58,7 @@ fn kind_word(kind: Kind) -> &'static str {
 }
 
 /// Writes a variable.
-fn write_variable(out: &mut String, variable: &SpecVar) -> Result<(), AllocError> {
+pub fn write_variable(out: &mut String, variable: &SpecVar) -> Result<(), AllocError> {
     if variable.fixed {
         out.push_str("static ")?;
     }
@@ -75,15 +75,18 @@ fn write_variable(out: &mut String, variable: &SpecVar) -> Result<(), AllocError
     out.push_str(";")
 }
 
+/// Writes the definition of a variable.
+pub fn write_definition(out: &mut String, definition: &VarDef) -> Result<(), AllocError> {
+    write!(out, "{} ==", definition.name.text.text())?;
+    write_spec(out, &definition.body)?;
+    out.push_str(";")
+}
+
 /// Writes an item of a class.
 fn write_item(out: &mut String, item: &SpecItem) -> Result<(), AllocError> {
     match item {
         SpecItem::Var(variable) => write_variable(out, variable),
-        SpecItem::Def(definition) => {
-            write!(out, "{} ==", definition.name.text.text())?;
-            write_spec(out, &definition.body)?;
-            out.push_str(";")
-        }
+        SpecItem::Def(definition) => write_definition(out, definition),
         SpecItem::Invariant(labelled) => write_labelled(out, "invariant", labelled),
     }
 }
@@ -111,7 +114,7 @@ fn write_statement(out: &mut String, statement: &Stmt) -> Result<(), AllocError>
 }
 
 /// Writes a contract.
-fn write_contract(
+pub fn write_contract(
     out: &mut String,
     pre: &Option<Spec>,
     modifies: &[Word],

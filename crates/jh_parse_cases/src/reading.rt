@@ -1,10 +1,12 @@
-//! What is read of a source: the statements of a body, where the source begins with a brace; the tree of a formula, where it
-//! begins with a quote; else that of a specification.
+//! What is read of a source: a program, where the source begins with `class` or `final`; the statements of a body, where it begins
+//! with a brace; the tree of a formula, where it begins with a quote; else that of a specification.
 
 use crate::forms::write_form;
 use crate::parts::write_part;
+use crate::programs::write_program;
 use crate::stmts::write_stmts;
 use jh_lex::{LexError, Token, tokens};
+use jh_parse::program;
 use jh_peek::{ReadError, is_end};
 use jh_spec::{ParseError, formula, spec};
 use jh_stmt::body;
@@ -66,6 +68,18 @@ fn write_body(alloc: Global, out: &mut String, tokens: &[Token]) -> Result<(), A
     }
 }
 
+/// Writes the program that all of the tokens are. Which token a refusal names isn't written, as no contract says it.
+fn write_whole(alloc: Global, out: &mut String, tokens: &[Token]) -> Result<(), AllocError> {
+    if tokens.is_empty() {
+        return out.push_str("no tokens");
+    }
+    match program(alloc, tokens) {
+        Ok(program) => write_program(out, &program),
+        Err(ParseError::Syntax(_)) => out.push_str("refused"),
+        Err(error) => write_refusal(out, &error),
+    }
+}
+
 /// The tokens of a specification with this text.
 fn tokens_of_spec(alloc: Global, source: &str) -> Result<Vec<Token>, LexError> {
     let mut text = String::new(alloc);
@@ -109,9 +123,21 @@ fn shown_body(alloc: Global, source: &str) -> Result<String, AllocError> {
     Ok(out)
 }
 
+/// What is read of a program.
+fn shown_program(alloc: Global, source: &str) -> Result<String, AllocError> {
+    let mut out = String::new(alloc);
+    match tokens_of(alloc, source) {
+        Ok(tokens) => write_whole(alloc, &mut out, tokens.as_slice())?,
+        Err(error) => write!(out, "{error}")?,
+    }
+    Ok(out)
+}
+
 /// What is read of a source, in one line.
 pub fn shown(alloc: Global, source: &str) -> Result<String, AllocError> {
-    if source.starts_with('{') {
+    if source.starts_with("class") || source.starts_with("final") {
+        shown_program(alloc, source)
+    } else if source.starts_with('{') {
         shown_body(alloc, source)
     } else {
         shown_spec(alloc, source)

@@ -6,7 +6,7 @@ use jh_ast::{Expr, JType, Labelled, Param, Rhs, Stmt, StmtBody};
 use std::alloc::AllocError;
 
 /// The text of a type.
-fn type_text(jtype: &JType) -> &str {
+pub fn type_text(jtype: &JType) -> &str {
     match jtype {
         JType::Int => "int",
         JType::Boolean => "boolean",

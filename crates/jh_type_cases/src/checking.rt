@@ -27,6 +27,9 @@ fn write_unread(out: &mut String, error: &ParseError) -> Result<(), AllocError> 
 
 /// Writes what is said of the program that tokens spell.
 fn write_tokens(alloc: Global, out: &mut String, tokens: &[Token]) -> Result<(), AllocError> {
+    if tokens.is_empty() {
+        return out.push_str("no tokens");
+    }
     match program(alloc, tokens) {
         Err(error) => write_unread(out, &error),
         Ok(program) => match check(alloc, program) {
