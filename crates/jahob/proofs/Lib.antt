@@ -10,6 +10,7 @@ pub mod Sights
 pub mod Unmarkings
 pub mod Closings
 pub mod Among
+pub mod Apart
 pub mod Rights
 pub mod Verifying
 pub mod Lines

@@ -30,7 +30,7 @@ use Rattle.jahob.proofs.Rights.{proved-valid}
 use Rattle.jahob.proofs.Soundness.{valid_sound}
 
 -- bytes spell one tree at most
-parses-one : (bytes : List ℕ) (t u : ProgramTree) → Parses bytes t → Parses bytes u → t ≡ u
+pub parses-one : (bytes : List ℕ) (t u : ProgramTree) → Parses bytes t → Parses bytes u → t ≡ u
 parses-one bytes t u p q = at_most_one_program q.tokens t u (subst (λ ts. Spelled ts t) (one_list bytes p.tokens q.tokens p.cut q.cut) p.spelled) q.spelled
 
 -- what is read from one tree is read from the other

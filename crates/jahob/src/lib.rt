@@ -5,6 +5,7 @@ mod check;
 mod command;
 mod copying;
 mod error;
+mod laws;
 mod prove;
 mod report;
 mod sequent;
@@ -15,4 +16,5 @@ mod tree;
 mod words;
 mod wp;
 
+pub use laws::at_most_one_refusal;
 pub use top::jahob;

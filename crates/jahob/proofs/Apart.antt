@@ -1,0 +1,105 @@
+-- At most one refusal applies to given bytes.
+use Rattle.std.proofs.Common.{◌≡◌, ◌≢◌, ◌≤◌, ◌<◌, ℕ, List, ap, sym, subst, ◌∙◌, refl, arith, inl, inr}
+use Rattle.std.proofs.lemmas.Bool.{cases_order}
+use Rattle.std.specs.Prelude.{Some, None, slice_get}
+use Rattle.std.specs.Option.{option_map_or}
+use Rattle.jh_ast.specs.Programs.{ProgramTree}
+use Rattle.jh_lex.specs.declared.error.LexError.{LexError}
+use Rattle.jh_lex.specs.declared.error.LexError.TheVariants as lex
+use Rattle.jh_lex.specs.declared.token.Token.{Token}
+use Rattle.jh_lex.specs.Lexes.{Lexes, IsFirstFault}
+use Rattle.jh_lex.proofs.Unique.{one_list, one_fault, fault_or_list}
+use Rattle.jh_name.specs.declared.place.Place.{Place}
+use Rattle.jh_nest.specs.Nesting.{AllShallow, IsFirstDeep, nesting_at}
+use Rattle.jh_rules.specs.Breaks.{Breaks}
+use Rattle.jahob.specs.Refusals.{Parses, RefusedAt, not_utf8, bad_char, open_comment, open_quote, too_wide, syntax, too_deep, IsMistyped, IsUnbuilt}
+use Rattle.jahob.proofs.Verifying.{parses-one, refused-parses}
+
+-- the number and the place of a fault of the text
+abbrev fault_number : LexError → ℕ
+fault_number (lex.NotUtf8 p) = 1
+fault_number (lex.BadChar p) = 2
+fault_number (lex.OpenComment p) = 3
+fault_number (lex.OpenQuote p) = 4
+fault_number (lex.TooWide p) = 5
+fault_number lex.Memory = 0
+
+abbrev fault_place : LexError → Place
+fault_place (lex.NotUtf8 p) = p
+fault_place (lex.BadChar p) = p
+fault_place (lex.OpenComment p) = p
+fault_place (lex.OpenQuote p) = p
+fault_place (lex.TooWide p) = p
+fault_place lex.Memory = record { line = 0; column = 0 }
+
+-- a refusal is for a fault of the text, for tokens that spell nothing, or for one that is nested too deep
+data Why (bytes : List ℕ) : ℕ → Place → Type 0 where
+  by_fault : (e : LexError) → IsFirstFault bytes e → Why bytes (fault_number e) (fault_place e)
+  by_syntax : {p : Place} (ts : List Token) → Lexes bytes ts → AllShallow ts → Why bytes 6 p
+  by_depth : {p : Place} (ts : List Token) → Lexes bytes ts → IsFirstDeep ts p → Why bytes 7 p
+
+why : {bytes : List ℕ} {n : ℕ} {p : Place} → RefusedAt bytes n p → Why bytes n p
+why (not_utf8 {p = p} f) = by_fault (lex.NotUtf8 p) f
+why (bad_char {p = p} f) = by_fault (lex.BadChar p) f
+why (open_comment {p = p} f) = by_fault (lex.OpenComment p) f
+why (open_quote {p = p} f) = by_fault (lex.OpenQuote p) f
+why (too_wide {p = p} f) = by_fault (lex.TooWide p) f
+why (syntax {ts = ts} cut shallow none start) = by_syntax ts cut shallow
+why (too_deep {ts = ts} cut deep) = by_depth ts cut deep
+
+shallow-deep : (bytes : List ℕ) (ts us : List Token) (p : Place) → Lexes bytes ts → AllShallow ts → Lexes bytes us → IsFirstDeep us p → ⊥
+shallow-deep bytes ts us p first shallow second deep = apart (subst (λ l. AllShallow l) (one_list bytes ts us first second) shallow deep.index deep.within) deep.deep where
+  apart : {n : ℕ} → n ≤ 64 → 64 < n → ⊥
+  apart low high = omega (arith, low, high)
+
+number-of : (bytes : List ℕ) {m n : ℕ} {p q : Place} → Why bytes m p → Why bytes n q → m ≡ n
+number-of bytes (by_fault e f) (by_fault d g) = ap fault_number (one_fault bytes e d f g)
+number-of bytes (by_fault e f) (by_syntax ts cut shallow) = absurd (fault_or_list bytes e ts f cut)
+number-of bytes (by_fault e f) (by_depth ts cut deep) = absurd (fault_or_list bytes e ts f cut)
+number-of bytes (by_syntax ts cut shallow) (by_fault e f) = absurd (fault_or_list bytes e ts f cut)
+number-of bytes (by_syntax ts cut shallow) (by_syntax us other plain) = refl
+number-of bytes (by_syntax ts cut shallow) (by_depth {p = q} us other deep) = absurd (shallow-deep bytes ts us q cut shallow other deep)
+number-of bytes (by_depth ts cut deep) (by_fault e f) = absurd (fault_or_list bytes e ts f cut)
+number-of bytes (by_depth {p = p} ts cut deep) (by_syntax us other shallow) = absurd (shallow-deep bytes us ts p other shallow cut deep)
+number-of bytes (by_depth ts cut deep) (by_depth us other more) = refl
+
+pub one-number : (bytes : List ℕ) (m n : ℕ) (p q : Place) → RefusedAt bytes m p → RefusedAt bytes n q → m ≡ n
+one-number bytes m n p q first second = number-of bytes (why first) (why second)
+
+-- the first token that is nested too deep is one
+one-deep : (ts : List Token) (p q : Place) → IsFirstDeep ts p → IsFirstDeep ts q → p ≡ q
+one-deep ts p q first second = some-one (sym first.place ∙ ap (λ i. option_map_or (λ (t : Token). Some t.place) (slice_get ts i) None) same ∙ second.place) where
+  some-one : {a b : Place} → Some a ≡ Some b → a ≡ b
+  some-one e = cc
+
+  same : first.index ≡ second.index
+  same = elim (cases_order first.index second.index) [
+    | inl is ↦ is
+    | inr order ↦ elim order [
+      | inl less ↦ absurd (omega (arith, second.first first.index less, first.deep))
+      | inr less ↦ absurd (omega (arith, first.first second.index less, second.deep))
+    ]
+  ]
+
+place-of : (bytes : List ℕ) {m n : ℕ} {p q : Place} → n ≢ 6 → Why bytes m p → Why bytes n q → p ≡ q
+place-of bytes not (by_fault e f) (by_fault d g) = ap fault_place (one_fault bytes e d f g)
+place-of bytes not (by_fault e f) (by_syntax ts cut shallow) = absurd (fault_or_list bytes e ts f cut)
+place-of bytes not (by_fault e f) (by_depth ts cut deep) = absurd (fault_or_list bytes e ts f cut)
+place-of bytes not (by_syntax ts cut shallow) (by_fault e f) = absurd (fault_or_list bytes e ts f cut)
+place-of bytes not (by_syntax ts cut shallow) (by_syntax us other plain) = absurd (not refl)
+place-of bytes not (by_syntax ts cut shallow) (by_depth {p = q} us other deep) = absurd (shallow-deep bytes ts us q cut shallow other deep)
+place-of bytes not (by_depth ts cut deep) (by_fault e f) = absurd (fault_or_list bytes e ts f cut)
+place-of bytes not (by_depth ts cut deep) (by_syntax us other shallow) = absurd (not refl)
+place-of bytes not (by_depth {p = p} ts cut deep) (by_depth {p = q} us other more) = one-deep us p q (subst (λ l. IsFirstDeep l p) (one_list bytes ts us cut other) deep) more
+
+pub one-place : (bytes : List ℕ) (n : ℕ) (p q : Place) → n ≢ 6 → RefusedAt bytes n p → RefusedAt bytes n q → p ≡ q
+one-place bytes n p q not first second = place-of bytes not (why first) (why second)
+
+pub refused-typed : (bytes : List ℕ) (n rule : ℕ) (p q : Place) → RefusedAt bytes n p → IsMistyped bytes rule q → ⊥
+refused-typed bytes n rule p q refused ill = refused-parses bytes n p ill.tree refused ill.parsed
+
+pub refused-built : (bytes : List ℕ) (n : ℕ) (p : Place) → RefusedAt bytes n p → IsUnbuilt bytes → ⊥
+refused-built bytes n p refused left = refused-parses bytes n p left.tree refused left.parsed
+
+pub ill-built : (bytes : List ℕ) (rule : ℕ) (p : Place) → IsMistyped bytes rule p → IsUnbuilt bytes → ⊥
+ill-built bytes rule p ill left = left.typed rule p (subst (λ t. Breaks t rule p) (parses-one bytes ill.tree left.tree ill.parsed left.parsed) ill.least.breaks)

@@ -1,0 +1,17 @@
+use Rattle.jahob.proofs.Apart.{one-number, one-place, refused-typed, refused-built, ill-built}
+use Rattle.jahob.proofs.laws.at_most_one_refusal.Goals as goal
+
+pub returns-clause-number : goal.returns-clause-number
+returns-clause-number c = one-number
+
+pub returns-clause-place : goal.returns-clause-place
+returns-clause-place c = one-place
+
+pub returns-clause-typed : goal.returns-clause-typed
+returns-clause-typed c = refused-typed
+
+pub returns-clause-built : goal.returns-clause-built
+returns-clause-built c = refused-built
+
+pub returns-clause-apart : goal.returns-clause-apart
+returns-clause-apart c = ill-built
