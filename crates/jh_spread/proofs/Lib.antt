@@ -1,1 +1,2 @@
+pub mod Edging
 pub mod Places

@@ -1,13 +1,40 @@
 -- What stands in lists, as loops over them say it.
-use Rattle.std.proofs.Common.{◌≡◌, refl, sym, ap, subst, ◌∙◌, ◌⊎◌, inl, inr, ℕ, zero, suc, ◌+◌, ◌<◌, ◌≤◌, List, [], ◌∷◌, length, get_or, slice_get, Some, arith}
-use Rattle.std.proofs.lemmas.Option.{slice_get_within}
+use Rattle.std.proofs.Common.{◌≡◌, refl, sym, ap, subst, ◌∙◌, ◌⊎◌, inl, inr, ℕ, zero, suc, ◌+◌, ◌<◌, ◌≤◌, Bool, true, false, nat_eq, List, [], ◌∷◌, length, get_or, slice_get, slice_set, Some, arith}
+use Rattle.std.proofs.lemmas.Bool.Decides.{nat_tests}
+use Rattle.std.proofs.lemmas.Option.{slice_get_within, slice_get-get_or}
 use Rattle.jh_spread.specs.declared.facts.Fact.{Fact}
 use Rattle.jh_spread.specs.Spreads.{IsIn, Spreads, given, passed, passed_to}
 
 pub item-get : {X : Type 0} (xs : List X) (i : ℕ) (d : X) → i < length xs → slice_get xs i ≡ Some (get_or xs i d)
-item-get [] i d lt = absurd (omega arith)
-item-get (x ∷ xs) zero d lt = refl
-item-get (x ∷ xs) (suc i) d lt = item-get xs i d (omega arith)
+item-get xs i d lt = slice_get-get_or xs i d lt
+
+same-test : (a b : ℕ) (t : Bool) → nat_eq a b ≡ t → t ≡ true → a ≡ b
+same-test a b t e h = grind (arith, nat_tests)
+
+other-test : (a b : ℕ) (t : Bool) → nat_eq a b ≡ t → t ≡ false → a ≡ b → ⊥
+other-test a b t e h same = grind (arith, nat_tests)
+
+-- two numbers are one or not
+pub same-or-not : (a b : ℕ) → (a ≡ b) ⊎ (a ≡ b → ⊥)
+same-or-not a b = by (nat_eq a b) refl
+  where
+    by : (t : Bool) → nat_eq a b ≡ t → (a ≡ b) ⊎ (a ≡ b → ⊥)
+    by true e = inl (same-test a b true e refl)
+    by false e = inr (other-test a b false e refl)
+
+-- a list in which one item is exchanged
+pub set-here : {X : Type 0} (xs : List X) (k : ℕ) (v : X) → k < length xs → slice_get (slice_set xs k v) k ≡ Some v
+set-here [] k v lt = absurd (omega arith)
+set-here (x ∷ xs) zero v lt = refl
+set-here (x ∷ xs) (suc k) v lt = set-here xs k v (omega arith)
+
+pub set-other : {X : Type 0} (xs : List X) (k : ℕ) (v : X) (c : ℕ) → (c ≡ k → ⊥) → slice_get (slice_set xs k v) c ≡ slice_get xs c
+set-other [] zero v c h = refl
+set-other [] (suc k) v c h = refl
+set-other (x ∷ xs) zero v zero h = absurd (h refl)
+set-other (x ∷ xs) zero v (suc c) h = refl
+set-other (x ∷ xs) (suc k) v zero h = refl
+set-other (x ∷ xs) (suc k) v (suc c) h = set-other xs k v c (λ e. h (ap suc e))
 
 pub is-in-item : {X : Type 0} (xs : List X) (i : ℕ) (d : X) → i < length xs → IsIn xs (get_or xs i d)
 is-in-item xs i d lt = (i, item-get xs i d lt)

@@ -1,11 +1,17 @@
 -- Facts that are passed on along edges.
 use Rattle.std.specs.Prelude.{◌≡◌, ℕ, List, [], Some, slice_get}
 use Rattle.std.specs.Option.{option_map_or}
+use Rattle.std.specs.declared.alloc.Global.{Global}
+use Rattle.std.specs.declared.vec.Vec.{Vec}
 use Rattle.jh_spread.specs.declared.facts.Fact.{Fact}
 
 -- something stands in a list
 abbrev pub IsIn : {X : Type 0} → List X → X → Type 0
 IsIn xs x = (i : ℕ) × (slice_get xs i ≡ Some x)
+
+-- the items of a row of edges
+abbrev pub items_of : Vec ℕ Global → List ℕ
+items_of row = row.items
 
 -- the things to which what is so of a thing is passed on
 abbrev pub passed_to : List (List ℕ) → ℕ → List ℕ

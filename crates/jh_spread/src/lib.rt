@@ -1,8 +1,10 @@
 //! Facts that are passed on along edges.
 #![tactic(auto)]
 
+mod edges;
 mod facts;
 mod spreading;
 
+pub use edges::Edges;
 pub use facts::{Fact, FactList};
 pub use spreading::spread;
