@@ -1,12 +1,13 @@
 -- What is done, and what waits for what.
-use Rattle.std.proofs.Common.{◌≡◌, refl, sym, ap, subst, ◌∙◌, ◌⊎◌, inl, inr, ℕ, zero, suc, ◌+◌, ◌<◌, ◌≤◌, ◌||◌, Bool, true, false, nat_eq, List, [], ◌∷◌, ◌++◌, length, slice_get, Some, arith}
+use Rattle.std.proofs.Common.{◌≡◌, refl, sym, ap, subst, ◌∙◌, ◌⊎◌, inl, inr, ℕ, zero, suc, ◌+◌, ◌<◌, ◌≤◌, ◌||◌, Bool, true, false, nat_eq, List, [], ◌∷◌, ◌++◌, length, get_or, slice_get, Some, arith}
 use Rattle.std.specs.List.{list_any}
+use Rattle.indexmap.proofs.IndexTableLemmas.Probe.{pigeonhole}
 use Rattle.std.proofs.lemmas.Bool.{true≢false}
 use Rattle.std.proofs.lemmas.Bool.Decides.{nat_tests}
-use Rattle.std.proofs.lemmas.Option.{slice_get_within}
+use Rattle.std.proofs.lemmas.Option.{slice_get_within, slice_get-get_or}
 use Rattle.jh_spread.specs.Spreads.{IsIn}
-use Rattle.jh_spread.proofs.Places.{before-or-at}
-use Rattle.jh_order.specs.Orders.{reads_of, IsOrdered, AreThings, IsTried, IsReversed, Reaches, itself, through}
+use Rattle.jh_spread.proofs.Places.{before-or-at, same-or-not}
+use Rattle.jh_order.specs.Orders.{reads_of, IsOrdered, AreThings, AreDistinct, IsTried, IsReversed, Reaches, directly, through}
 
 same-test : (a b : ℕ) (t : Bool) → nat_eq a b ≡ t → t ≡ true → a ≡ b
 same-test a b t e h = grind (arith, nat_tests)
@@ -20,13 +21,6 @@ some-is a b e = cc
 any-step : (x y : ℕ) (ys : List ℕ) (t : Bool) → nat_eq x y ≡ t → (list_any (nat_eq x) ys ≡ true → IsIn ys x) → list_any (nat_eq x) (y ∷ ys) ≡ true → IsIn (y ∷ ys) x
 any-step x y ys true e rest h = (0, ap Some (sym (same-test x y true e refl)))
 any-step x y ys false e rest h = let k = rest (sym (ap (λ t. t || list_any (nat_eq x) ys) e) ∙ h) in (suc k.0, k.1)
-
-pub same-or-not : (a b : ℕ) → (a ≡ b) ⊎ (a ≡ b → ⊥)
-same-or-not a b = by (nat_eq a b) refl
-  where
-    by : (t : Bool) → nat_eq a b ≡ t → (a ≡ b) ⊎ (a ≡ b → ⊥)
-    by true e = inl (same-test a b true e refl)
-    by false e = inr (other-test a b false e refl)
 
 -- a test over a list
 pub any-in : (x : ℕ) (xs : List ℕ) → list_any (nat_eq x) xs ≡ true → IsIn xs x
@@ -49,25 +43,47 @@ there (x ∷ xs) zero l = (x, refl)
 there (x ∷ xs) (suc i) l = there xs i (omega arith)
 
 -- a list with one more at the end
-pub push-keeps : (xs : List ℕ) (x i r : ℕ) → slice_get xs i ≡ Some r → slice_get (xs ++ x ∷ []) i ≡ Some r
-push-keeps [] x zero r e = cc
-push-keeps [] x (suc i) r e = cc
-push-keeps (y ∷ xs) x zero r e = e
-push-keeps (y ∷ xs) x (suc i) r e = push-keeps xs x i r e
+module _ {X : Type 0} where
+  last-is : (x r : X) → Some x ≡ Some r → r ≡ x
+  last-is x r e = cc
 
-pub push-last : (xs : List ℕ) (x : ℕ) → slice_get (xs ++ x ∷ []) (length xs) ≡ Some x
-push-last [] x = refl
-push-last (y ∷ xs) x = push-last xs x
+  pub push-keeps : (xs : List X) (x : X) (i : ℕ) (r : X) → slice_get xs i ≡ Some r → slice_get (xs ++ x ∷ []) i ≡ Some r
+  push-keeps [] x zero r e = cc
+  push-keeps [] x (suc i) r e = cc
+  push-keeps (y ∷ xs) x zero r e = e
+  push-keeps (y ∷ xs) x (suc i) r e = push-keeps xs x i r e
 
-pub push-cases : (xs : List ℕ) (x i r : ℕ) → slice_get (xs ++ x ∷ []) i ≡ Some r → (slice_get xs i ≡ Some r) ⊎ ((i ≡ length xs) × (r ≡ x))
-push-cases [] x zero r e = inr (refl, some-is r x (sym e))
-push-cases [] x (suc i) r e = inl e
-push-cases (y ∷ xs) x zero r e = inl e
-push-cases (y ∷ xs) x (suc i) r e = next (push-cases xs x i r e)
+  pub push-last : (xs : List X) (x : X) → slice_get (xs ++ x ∷ []) (length xs) ≡ Some x
+  push-last [] x = refl
+  push-last (y ∷ xs) x = push-last xs x
+
+  pub push-cases : (xs : List X) (x : X) (i : ℕ) (r : X) → slice_get (xs ++ x ∷ []) i ≡ Some r → (slice_get xs i ≡ Some r) ⊎ ((i ≡ length xs) × (r ≡ x))
+  push-cases [] x zero r e = inr (refl, last-is x r e)
+  push-cases [] x (suc i) r e = inl e
+  push-cases (y ∷ xs) x zero r e = inl e
+  push-cases (y ∷ xs) x (suc i) r e = next (push-cases xs x i r e)
+    where
+      next : (slice_get xs i ≡ Some r) ⊎ ((i ≡ length xs) × (r ≡ x)) → (slice_get (y ∷ xs) (suc i) ≡ Some r) ⊎ ((suc i ≡ length (y ∷ xs)) × (r ≡ x))
+      next (inl k) = inl k
+      next (inr k) = inr (ap suc k.0, k.1)
+
+pub distinct-push : (xs new : List ℕ) (x : ℕ) → new ≡ xs ++ x ∷ [] → list_any (nat_eq x) xs ≡ false → AreDistinct xs → AreDistinct new
+distinct-push xs new x p absent d = subst (λ (ys : List ℕ). AreDistinct ys) (sym p) (λ i j r e f. both i j r (push-cases xs x i r e) (push-cases xs x j r f))
   where
-    next : (slice_get xs i ≡ Some r) ⊎ ((i ≡ length xs) × (r ≡ x)) → (slice_get (y ∷ xs) (suc i) ≡ Some r) ⊎ ((suc i ≡ length (y ∷ xs)) × (r ≡ x))
-    next (inl k) = inl k
-    next (inr k) = inr (ap suc k.0, k.1)
+    apart : (i r : ℕ) → slice_get xs i ≡ Some r → r ≡ x → ⊥
+    apart i r e s = none-in x xs absent (i, e ∙ ap Some s)
+
+    both : (i j r : ℕ) → (slice_get xs i ≡ Some r) ⊎ ((i ≡ length xs) × (r ≡ x)) → (slice_get xs j ≡ Some r) ⊎ ((j ≡ length xs) × (r ≡ x)) → i ≡ j
+    both i j r (inl e) (inl f) = d i j r e f
+    both i j r (inl e) (inr f) = absurd (apart i r e f.1)
+    both i j r (inr e) (inl f) = absurd (apart j r f e.1)
+    both i j r (inr e) (inr f) = e.0 ∙ sym f.0
+
+-- things that differ are no more than there are
+pub few-things : (reads : List (List ℕ)) (order : List ℕ) → AreThings reads order → AreDistinct order → length order ≤ length reads
+few-things reads order things d =
+    pigeonhole (length order) (length reads) (λ i. get_or order i 0) (λ i lt. things i (get_or order i 0) (slice_get-get_or order i 0 lt))
+    (λ i j p q e. d i j (get_or order i 0) (slice_get-get_or order i 0 p) (slice_get-get_or order j 0 q ∙ ap Some (sym e)))
 
 abbrev pub Keeps : List ℕ → List ℕ → Type 0
 Keeps old new = (i r : ℕ) → slice_get old i ≡ Some r → slice_get new i ≡ Some r
@@ -184,7 +200,7 @@ module _ (reads : List (List ℕ)) (first old new : List ℕ) where
 -- in an order all that is reached stands before
 module _ (reads : List (List ℕ)) (order : List ℕ) (ordered : IsOrdered reads order) where
   reached-before : (i x y : ℕ) → slice_get order i ≡ Some x → Reaches reads x y → (j : ℕ) × (j < i) × (slice_get order j ≡ Some y)
-  reached-before i x y e (itself _ _ k) = ordered i x y e k
+  reached-before i x y e (directly _ _ k) = ordered i x y e k
   reached-before i x y e (through _ z _ k r) =
       let p = ordered i x z e k in
       let q = reached-before p.0 z y p.2 r in

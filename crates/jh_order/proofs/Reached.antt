@@ -3,7 +3,7 @@ use Rattle.std.proofs.Common.{◌≡◌, ap, subst, ◌⊎◌, inl, inr, ℕ, ze
 use Rattle.jh_spread.specs.declared.facts.Fact.{Fact}
 use Rattle.jh_spread.specs.Spreads.{IsIn, Spreads, given, passed}
 use Rattle.jh_spread.proofs.Places.{before-or-at}
-use Rattle.jh_order.specs.Orders.{reads_of, Reaches, itself, through, start_of}
+use Rattle.jh_order.specs.Orders.{reads_of, Reaches, directly, through, start_of}
 
 in-started : (xs : List ℕ) (f : Fact) → IsIn (map start_of xs) f → IsIn xs f.of
 in-started [] f (zero, e) = cc
@@ -28,24 +28,17 @@ started-in (x ∷ xs) y (suc i, e) = let k = started-in xs y (i, e) in (suc k.0,
 
 module _ (reads : List (List ℕ)) where
   pub reaches-more : (x y z : ℕ) → Reaches reads x y → IsIn (reads_of reads y) z → Reaches reads x z
-  reaches-more x y z (itself _ _ k) m = through x y z k (itself y z m)
+  reaches-more x y z (directly _ _ k) m = through x y z k (directly y z m)
   reaches-more x y z (through _ w _ k r) m = through x w z k (reaches-more w y z r m)
 
   pub reached-from : (x : ℕ) (f : Fact) → Spreads (map start_of (reads_of reads x)) reads f → Reaches reads x f.of
-  reached-from x f (given _ k) = itself x f.of (in-started (reads_of reads x) f k)
+  reached-from x f (given _ k) = directly x f.of (in-started (reads_of reads x) f k)
   reached-from x _ (passed m f k s) = reaches-more x f.of m (reached-from x f s) k
 
   spreads-to : (starts : List Fact) (z y : ℕ) → Reaches reads z y → Spreads starts reads (start_of z) → Spreads starts reads (start_of y)
-  spreads-to starts z y (itself _ _ k) s = passed y (start_of z) k s
+  spreads-to starts z y (directly _ _ k) s = passed y (start_of z) k s
   spreads-to starts z y (through _ w _ k r) s = spreads-to starts w y r (passed w (start_of z) k s)
 
   pub reached-back : (x y : ℕ) → Reaches reads x y → Spreads (map start_of (reads_of reads x)) reads (start_of y)
-  reached-back x y (itself _ _ k) = given (start_of y) (started-in (reads_of reads x) y k)
+  reached-back x y (directly _ _ k) = given (start_of y) (started-in (reads_of reads x) y k)
   reached-back x y (through _ z _ k r) = spreads-to (map start_of (reads_of reads x)) z y r (given (start_of z) (started-in (reads_of reads x) z k))
-
-  pub none-before : (j : ℕ) → (Reaches reads j j → ⊥) → ((y : ℕ) → y < j → Reaches reads y y → ⊥) → (y : ℕ) → y < j + 1 → Reaches reads y y → ⊥
-  none-before j here before y lt r = by (before-or-at y j lt)
-    where
-      by : (y < j) ⊎ (y ≡ j) → ⊥
-      by (inl l) = before y l r
-      by (inr s) = here (subst (λ (z : ℕ). Reaches reads z z) s r)

@@ -1,10 +1,10 @@
--- Where something is left out, something reads itself: a walk among what is left out comes back.
+-- Where something is left out, something reads directly: a walk among what is left out comes back.
 use Rattle.std.proofs.Common.{◌≡◌, refl, sym, ap, subst, ◌∙◌, ◌⊎◌, inl, inr, ℕ, zero, suc, ◌<◌, ◌≤◌, List, length, arith}
 use Rattle.indexmap.proofs.IndexTableLemmas.Probe.{pigeonhole, OneToOne}
 use Rattle.jh_spread.specs.Spreads.{IsIn}
 use Rattle.jh_spread.proofs.Places.{before-or-at}
-use Rattle.jh_order.specs.Orders.{reads_of, IsTried, IsAll, Reaches, itself}
-use Rattle.jh_order.proofs.Orderings.{same-or-not}
+use Rattle.jh_order.specs.Orders.{reads_of, IsTried, IsAll, Reaches, directly}
+use Rattle.jh_spread.proofs.Places.{same-or-not}
 use Rattle.jh_order.proofs.Reached.{reaches-more}
 
 -- a value that a function has below a number
@@ -87,7 +87,7 @@ module _ (reads : List (List ℕ)) (order : List ℕ) (all : IsAll reads order) 
 
       by : (i < j) ⊎ (i ≡ j) → (i < j → Reaches reads (walk x i).thing (walk x j).thing) → Reaches reads (walk x i).thing (walk x (suc j)).thing
       by (inl l) r = reaches-more reads (walk x i).thing (walk x j).thing (walk x (suc j)).thing (r l) last
-      by (inr s) r = subst (λ (n : ℕ). Reaches reads (walk x n).thing (walk x (suc j)).thing) (sym s) (itself (walk x j).thing (walk x (suc j)).thing last)
+      by (inr s) r = subst (λ (n : ℕ). Reaches reads (walk x n).thing (walk x (suc j)).thing) (sym s) (directly (walk x j).thing (walk x (suc j)).thing last)
 
   pub cycle-among : (r : ℕ) → r < length reads → (IsIn order r → ⊥) → (x : ℕ) × Reaches reads x x
   cycle-among r lt out = by (twice-or-not f (suc (length reads)))

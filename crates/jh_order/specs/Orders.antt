@@ -15,6 +15,10 @@ IsOrdered reads order = (i r d : ℕ) → slice_get order i ≡ Some r → IsIn 
 abbrev pub AreThings : List (List ℕ) → List ℕ → Type 0
 AreThings reads order = (i r : ℕ) → slice_get order i ≡ Some r → r < length reads
 
+-- no thing stands twice
+abbrev pub AreDistinct : List ℕ → Type 0
+AreDistinct order = (i j r : ℕ) → slice_get order i ≡ Some r → slice_get order j ≡ Some r → i ≡ j
+
 -- all that is read is among the things that there are
 abbrev pub AreThingsRead : List (List ℕ) → Type 0
 AreThingsRead reads = (r d : ℕ) → IsIn (reads_of reads r) d → d < length reads
@@ -33,7 +37,7 @@ IsReversed reads readers = (r d : ℕ) → IsIn (reads_of reads r) d → IsIn (r
 
 -- what a thing reads, directly or through others
 pub data Reaches (reads : List (List ℕ)) : ℕ → ℕ → Type 0 where
-  itself : (x y : ℕ) → IsIn (reads_of reads x) y → Reaches reads x y
+  directly : (x y : ℕ) → IsIn (reads_of reads x) y → Reaches reads x y
   through : (x y z : ℕ) → IsIn (reads_of reads x) y → Reaches reads y z → Reaches reads x z
 
 -- that a thing is reached, as a fact to be passed on

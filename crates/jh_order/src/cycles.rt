@@ -1,4 +1,4 @@
-ghost use Rattle.std.specs.Prelude.{◌≡◌, ◌<◌, ℕ, true, false, map, Some, None, length, slice_get, IfOk};
+ghost use Rattle.std.specs.Prelude.{◌≡◌, ◌<◌, ℕ, true, false, map, Some, length, slice_get, IfOk};
 ghost use Rattle.jh_spread.specs.declared.facts.Fact.{Fact};
 ghost use Rattle.jh_spread.specs.Spreads.{IsIn};
 ghost use Rattle.jh_order.specs.Orders.{reads_of, Reaches, start_of};
@@ -46,8 +46,8 @@ fn reads_itself(alloc: Global, reads: &[Row<usize>], thing: usize) -> Result<boo
     Ok(is_of(&reached, thing))
 }
 
-/// Whether a thing reads itself, where those of an order do not.
-fn is_cyclic(
+/// Whether a thing reads itself, directly or through others. Those of an order, which do not, are answered at once.
+pub fn is_cyclic(
     alloc: Global,
     reads: &[Row<usize>],
     order: &Done,
@@ -61,24 +61,4 @@ fn is_cyclic(
         return Ok(false);
     }
     reads_itself(alloc, reads, thing)
-}
-
-/// The first thing that reads itself, directly or through others. Things of an order, which do not, are passed
-/// over.
-pub fn first_cyclic(
-    alloc: Global,
-    reads: &[Row<usize>],
-    order: &Done,
-) -> Result<Option<usize>, NoMemory>
-    requires sound { (x : ℕ) → IsIn order.now x → Reaches reads.now x x → ⊥ }
-    ensures cyclic { IfOk result (λ found. (x : ℕ) → found ≡ Some x → Reaches reads.now x x) }
-    ensures first { IfOk result (λ found. (x y : ℕ) → found ≡ Some x → y < x → Reaches reads.now y y → ⊥) }
-    ensures none { IfOk result (λ found. found ≡ None → (y : ℕ) → y < length reads.now → Reaches reads.now y y → ⊥) }
-{
-    for thing in 0..reads.len() {
-        if is_cyclic(alloc, reads, order, thing)? {
-            return Ok(Some(thing));
-        }
-    }
-    Ok(None)
 }

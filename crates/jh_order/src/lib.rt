@@ -5,6 +5,6 @@ mod cycles;
 mod done;
 mod ordering;
 
-pub use cycles::first_cyclic;
+pub use cycles::is_cyclic;
 pub use done::Done;
 pub use ordering::order;

@@ -1,6 +1,6 @@
 ghost use Rattle.std.specs.Prelude.{◌≡◌, ◌<◌, ◌≤◌, ℕ, Some, length, slice_get, IfOk, OnOk};
 ghost use Rattle.jh_spread.specs.Spreads.{IsIn};
-ghost use Rattle.jh_order.specs.Orders.{reads_of, IsOrdered, AreThings, IsTried, IsAll, IsReversed, Reaches, AreThingsRead};
+ghost use Rattle.jh_order.specs.Orders.{reads_of, IsOrdered, AreThings, AreDistinct, IsTried, IsAll, IsReversed, Reaches, AreThingsRead};
 
 use crate::done::Done;
 use jh_name::{NoMemory, Row};
@@ -34,8 +34,10 @@ fn first_undone(done: &Done, row: &[usize]) -> usize
 fn attempt(done: &mut Done, reads: &[Row<usize>], of: usize) -> Result<(), NoMemory>
     requires ordered { IsOrdered reads.now done.old }
     requires things { AreThings reads.now done.old }
+    requires distinct { AreDistinct done.old }
     ensures ordered { OnOk result (IsOrdered reads.now done.new) }
     ensures things { OnOk result (AreThings reads.now done.new) }
+    ensures distinct { OnOk result (AreDistinct done.new) }
     ensures keeps { OnOk result ((i r : ℕ) → slice_get done.old i ≡ Some r → slice_get done.new i ≡ Some r) }
     ensures tried { OnOk result (of < length reads.now → IsTried reads.now done.new done.old of) }
 {
@@ -56,8 +58,10 @@ fn attempt(done: &mut Done, reads: &[Row<usize>], of: usize) -> Result<(), NoMem
 fn attempt_all(done: &mut Done, reads: &[Row<usize>], things: &[usize]) -> Result<(), NoMemory>
     requires ordered { IsOrdered reads.now done.old }
     requires things { AreThings reads.now done.old }
+    requires distinct { AreDistinct done.old }
     ensures ordered { OnOk result (IsOrdered reads.now done.new) }
     ensures things { OnOk result (AreThings reads.now done.new) }
+    ensures distinct { OnOk result (AreDistinct done.new) }
     ensures keeps { OnOk result ((i r : ℕ) → slice_get done.old i ≡ Some r → slice_get done.new i ≡ Some r) }
     ensures tried { OnOk result ((r : ℕ) → IsIn things.now r → r < length reads.now → IsTried reads.now done.new done.old r) }
 {
@@ -71,8 +75,10 @@ fn attempt_all(done: &mut Done, reads: &[Row<usize>], things: &[usize]) -> Resul
 fn attempt_first(done: &mut Done, reads: &[Row<usize>]) -> Result<(), NoMemory>
     requires ordered { IsOrdered reads.now done.old }
     requires things { AreThings reads.now done.old }
+    requires distinct { AreDistinct done.old }
     ensures ordered { OnOk result (IsOrdered reads.now done.new) }
     ensures things { OnOk result (AreThings reads.now done.new) }
+    ensures distinct { OnOk result (AreDistinct done.new) }
     ensures tried { OnOk result ((r : ℕ) → r < length reads.now → IsTried reads.now done.new done.old r) }
 {
     for thing in 0..reads.len() {
@@ -82,13 +88,14 @@ fn attempt_first(done: &mut Done, reads: &[Row<usize>]) -> Result<(), NoMemory>
 }
 
 /// Things in an order in which each stands behind all that it reads. `reads` has a row for each thing, and
-/// `readers` one of those that read it. What is left out reads something that is left out; what is in the order
-/// reads itself neither directly nor through others. Where
-/// something is left out, something does.
+/// `readers` one of those that read it. No thing stands in it twice. What is left out reads something that is left
+/// out; what is in the order reads itself neither directly nor through others. Where something is left out,
+/// something does.
 pub fn order(alloc: Global, reads: &[Row<usize>], readers: &[Row<usize>]) -> Result<Done, NoMemory>
     requires reversed { IsReversed reads.now readers.now }
     ensures ordered { IfOk result (λ made. IsOrdered reads.now made) }
     ensures things { IfOk result (λ made. AreThings reads.now made) }
+    ensures few { IfOk result (λ made. length made ≤ length reads.now) }
     ensures all { IfOk result (λ made. IsAll reads.now made) }
     ensures sound { IfOk result (λ made. (x : ℕ) → IsIn made x → Reaches reads.now x x → ⊥) }
     ensures cycle { IfOk result (λ made. AreThingsRead reads.now → (r : ℕ) → r < length reads.now → (IsIn made r → ⊥) → (x : ℕ) × Reaches reads.now x x) }

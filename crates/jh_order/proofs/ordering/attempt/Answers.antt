@@ -1,8 +1,9 @@
-use Rattle.std.proofs.Common.{◌≡◌, sym, subst, ◌∙◌, inl, inr, ◌<◌, ℕ, List, [], ◌∷◌, ◌++◌, length, slice_get, Some, arith}
+use Rattle.std.proofs.Common.{◌≡◌, false, nat_eq, sym, subst, ◌∙◌, inl, inr, ◌<◌, ℕ, List, [], ◌∷◌, ◌++◌, length, slice_get, Some, arith}
+use Rattle.std.specs.List.{list_any}
 use Rattle.std.proofs.lemmas.Result.{IfOk-weaker}
 use Rattle.jh_spread.specs.Spreads.{IsIn}
-use Rattle.jh_order.specs.Orders.{reads_of, IsOrdered, AreThings, IsTried}
-use Rattle.jh_order.proofs.Orderings.{any-in, there, ordered-push, things-push, keeps-push, in-push, all-done}
+use Rattle.jh_order.specs.Orders.{reads_of, IsOrdered, AreThings, AreDistinct, IsTried}
+use Rattle.jh_order.proofs.Orderings.{any-in, there, ordered-push, things-push, distinct-push, keeps-push, in-push, all-done}
 use Rattle.jh_order.proofs.ordering.attempt.Goals as goal
 
 pub returns-then-has-clause-tried : goal.returns-then-has-clause-tried
@@ -33,6 +34,18 @@ returns-clause-things c =
     (λ made. new ≡ old ++ c.args.of ∷ [])
     (λ made. AreThings c.args.reads.now new)
     (λ made p. things-push c.args.reads.now old new c.args.of p c.requires.things (omega arith))
+    c.add.ensures.added
+
+pub returns-clause-distinct : goal.returns-clause-distinct
+returns-clause-distinct c =
+    let old = c.args.done.now in
+    let new = c.add.new.self in
+    let absent : list_any (nat_eq c.args.of) old ≡ false = sym c.has.ensures ∙ c.if-has.false in
+    IfOk-weaker
+    c.add.result
+    (λ made. new ≡ old ++ c.args.of ∷ [])
+    (λ made. AreDistinct new)
+    (λ made p. distinct-push old new c.args.of p absent c.requires.distinct)
     c.add.ensures.added
 
 pub returns-clause-keeps : goal.returns-clause-keeps

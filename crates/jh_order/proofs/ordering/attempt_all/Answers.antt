@@ -8,6 +8,7 @@ pub loop-thing-preserved : goal.loop-thing-preserved
 loop-thing-preserved c = record {
   ordered = c.in_ok-attempt.ensures.ordered;
   things = c.in_ok-attempt.ensures.things;
+  distinct = c.in_ok-attempt.ensures.distinct;
   keeps = λ i r e. c.in_ok-attempt.ensures.keeps i r (c.loop-thing.invariant.keeps i r e);
   tried =
       tried-more c.args.reads.now c.args.done.now c.loop-thing.done c.attempt.new.done c.args.things.now c.loop-thing.thing-index _ (item-get c.args.things.now c.loop-thing.thing-index _ c.loop-thing-test.true)

@@ -1,5 +1,5 @@
 use Rattle.std.proofs.Common.{◌≡◌, ◌<◌, ℕ, Some, length, slice_get}
-use Rattle.jh_order.specs.Orders.{IsOrdered, AreThings, IsTried}
+use Rattle.jh_order.specs.Orders.{IsOrdered, AreThings, AreDistinct, IsTried}
 use Rattle.jh_order.proofs.Orderings.{Keeps}
 use Rattle.jh_order.proofs.ordering.attempt_all.Given as goal
 
@@ -7,6 +7,7 @@ abbrev pub invariant-loop-thing : goal.invariant-loop-thing
 invariant-loop-thing l = record {
   ordered : IsOrdered l.reads l.done;
   things : AreThings l.reads l.done;
+  distinct : AreDistinct l.done;
   keeps : Keeps l.initial.done l.done;
   tried : (i r : ℕ) → i < l.thing-index → slice_get l.things i ≡ Some r → r < length l.reads → IsTried l.reads l.done l.initial.done r;
 }

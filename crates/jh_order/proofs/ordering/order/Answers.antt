@@ -1,7 +1,7 @@
 use Rattle.std.proofs.Common.{subst, ◌<◌, ℕ, List, length, arith}
 use Rattle.jh_spread.specs.Spreads.{IsIn}
 use Rattle.jh_order.specs.Orders.{IsTried}
-use Rattle.jh_order.proofs.Orderings.{no-cycle, waits-none, waits-more, waits-end}
+use Rattle.jh_order.proofs.Orderings.{no-cycle, few-things, waits-none, waits-more, waits-end}
 use Rattle.jh_order.proofs.Walks.{cycle-among}
 use Rattle.jh_order.proofs.ordering.order.Goals as goal
 
@@ -9,11 +9,15 @@ pub loop-turn-init : goal.loop-turn-init
 loop-turn-init c = record {
   ordered = c.in_ok-attempt_first.ensures.ordered;
   things = c.in_ok-attempt_first.ensures.things;
+  distinct = c.in_ok-attempt_first.ensures.distinct;
   waits = λ r lt. waits-none c.args.reads.now c.attempt_first.new.done c.new-done.result r (c.in_ok-attempt_first.ensures.tried r lt);
 }
 
 pub returns-then-at-len-clause-all : goal.returns-then-at-len-clause-all
 returns-then-at-len-clause-all c = λ r lt. waits-end c.args.reads.now c.loop-turn.done c.loop-turn.at r (omega arith) (c.loop-turn.invariant.waits r lt)
+
+pub returns-then-at-len-clause-few : goal.returns-then-at-len-clause-few
+returns-then-at-len-clause-few c = few-things c.args.reads.now c.loop-turn.done c.loop-turn.invariant.things c.loop-turn.invariant.distinct
 
 pub returns-then-at-len-clause-sound : goal.returns-then-at-len-clause-sound
 returns-then-at-len-clause-sound c = λ x k. no-cycle c.args.reads.now c.loop-turn.done c.loop-turn.invariant.ordered k.0 x k.1
@@ -33,5 +37,6 @@ loop-turn-preserved c =
     record {
       ordered = c.in_ok-attempt_all.ensures.ordered;
       things = c.in_ok-attempt_all.ensures.things;
+      distinct = c.in_ok-attempt_all.ensures.distinct;
       waits = λ r lt. waits-more reads readers old new c.loop-turn.at x c.requires.reversed inside c.at-thing.ensures c.in_ok-attempt_all.ensures.keeps tried r lt (c.loop-turn.invariant.waits r lt);
     }
