@@ -23,10 +23,11 @@ use Rattle.jh_rules.specs.Names.{first_named, class_from, def_in, states_from}
 use Rattle.jh_rules.specs.Scopes.{with_all_declared, declared, all_declared, labels_in, all_labels_in, declare_all}
 use Rattle.jh_rules.specs.Exprs.{expr_type}
 use Rattle.jh_rules.specs.Formulas.{equations}
-use Rattle.jh_vars.specs.States.{State}
+use Rattle.jh_vars.specs.States.{State, Variable, variable_of}
+use Rattle.jh_vars.specs.Statements.{inner_statements, all_statements}
 use Rattle.jh_vars.specs.Reading.{reads, all_read, definition_reads, variables_from, variables, Reads, IsCyclic, IsFirstCyclic}
 use Rattle.jh_vars.specs.Reading as reading
-use Rattle.jh_vars.specs.Written.{Written, Callee, assigns, all_assign, calls, all_call, front_before, rest_behind, merged, members_in_order, class_sets, own_writes, own_calls, all_state, state_names, MayWrite, Names, named_by}
+use Rattle.jh_vars.specs.Written.{Written, Callee, method_in, front_before, rest_behind, merged, members_in_order, class_sets, own_writes, own_calls, all_state, state_names, MayWrite, Names, named_by}
 use Rattle.jh_vars.specs.Written as w
 
 abbrev at : ℕ → ℕ → Place
@@ -73,31 +74,31 @@ abbrev callee : List ℕ → Callee
 callee x = record { class = 0; name = x }
 
 names-of : state_names methods ≡ own (codes "alloc") ∷ own (codes "A") ∷ own (codes "B") ∷ own (codes "Object") ∷ own (codes "A.n") ∷ own (codes "A.top") ∷ own (codes "A.g") ∷ own (codes "A.next") ∷ own (codes "B.s") ∷ []
-unfolding halves first_named class_from def_in states_from declared all_declared labels_in all_labels_in with_all_declared declare_all equations expr_type reads all_read assigns all_assign calls all_call front_before rest_behind merged members_in_order class_sets variables_from
+unfolding halves first_named class_from def_in method_in states_from declared all_declared labels_in all_labels_in with_all_declared declare_all equations expr_type reads all_read inner_statements all_statements front_before rest_behind merged members_in_order class_sets variables_from
 names-of = refl
 
 writes-m : own_writes methods (callee (codes "m")) ≡ w.state 0 (codes "n") ∷ w.state 0 (codes "next") ∷ w.allocated ∷ w.objects 0 ∷ w.state 0 (codes "g") ∷ []
-unfolding halves first_named class_from def_in states_from declared all_declared labels_in all_labels_in with_all_declared declare_all equations expr_type reads all_read assigns all_assign calls all_call front_before rest_behind merged members_in_order class_sets variables_from
+unfolding halves first_named class_from def_in method_in states_from declared all_declared labels_in all_labels_in with_all_declared declare_all equations expr_type reads all_read inner_statements all_statements front_before rest_behind merged members_in_order class_sets variables_from
 writes-m = refl
 
 calls-m : own_calls methods (callee (codes "m")) ≡ callee (codes "k") ∷ []
-unfolding halves first_named class_from def_in states_from declared all_declared labels_in all_labels_in with_all_declared declare_all equations expr_type reads all_read assigns all_assign calls all_call front_before rest_behind merged members_in_order class_sets variables_from
+unfolding halves first_named class_from def_in method_in states_from declared all_declared labels_in all_labels_in with_all_declared declare_all equations expr_type reads all_read inner_statements all_statements front_before rest_behind merged members_in_order class_sets variables_from
 calls-m = refl
 
 writes-k : own_writes methods (callee (codes "k")) ≡ w.state 0 (codes "top") ∷ w.allocated ∷ w.plain_objects ∷ []
-unfolding halves first_named class_from def_in states_from declared all_declared labels_in all_labels_in with_all_declared declare_all equations expr_type reads all_read assigns all_assign calls all_call front_before rest_behind merged members_in_order class_sets variables_from
+unfolding halves first_named class_from def_in method_in states_from declared all_declared labels_in all_labels_in with_all_declared declare_all equations expr_type reads all_read inner_statements all_statements front_before rest_behind merged members_in_order class_sets variables_from
 writes-k = refl
 
 calls-k : own_calls methods (callee (codes "k")) ≡ []
-unfolding halves first_named class_from def_in states_from declared all_declared labels_in all_labels_in with_all_declared declare_all equations expr_type reads all_read assigns all_assign calls all_call front_before rest_behind merged members_in_order class_sets variables_from
+unfolding halves first_named class_from def_in method_in states_from declared all_declared labels_in all_labels_in with_all_declared declare_all equations expr_type reads all_read inner_statements all_statements front_before rest_behind merged members_in_order class_sets variables_from
 calls-k = refl
 
 writes-z : own_writes methods (callee (codes "z")) ≡ []
-unfolding halves first_named class_from def_in states_from declared all_declared labels_in all_labels_in with_all_declared declare_all equations expr_type reads all_read assigns all_assign calls all_call front_before rest_behind merged members_in_order class_sets variables_from
+unfolding halves first_named class_from def_in method_in states_from declared all_declared labels_in all_labels_in with_all_declared declare_all equations expr_type reads all_read inner_statements all_statements front_before rest_behind merged members_in_order class_sets variables_from
 writes-z = refl
 
 calls-z : own_calls methods (callee (codes "z")) ≡ callee (codes "m") ∷ []
-unfolding halves first_named class_from def_in states_from declared all_declared labels_in all_labels_in with_all_declared declare_all equations expr_type reads all_read assigns all_assign calls all_call front_before rest_behind merged members_in_order class_sets variables_from
+unfolding halves first_named class_from def_in method_in states_from declared all_declared labels_in all_labels_in with_all_declared declare_all equations expr_type reads all_read inner_statements all_statements front_before rest_behind merged members_in_order class_sets variables_from
 calls-z = refl
 
 first-of : {X : Type 0} (xs : List X) (x : X) (rest : List X) → xs ≡ x ∷ rest → Contains xs x
@@ -107,7 +108,7 @@ first-of {X} xs x rest e = subst (λ (ys : List X). Contains ys x) (sym e) (0, o
 writes-through : MayWrite methods (callee (codes "z")) (w.state 0 (codes "top"))
 writes-through =
     w.called (callee (codes "z")) (callee (codes "m")) _ (first-of _ _ _ calls-z)
-    (w.called (callee (codes "m")) (callee (codes "k")) _ (first-of _ _ _ calls-m) (w.itself (callee (codes "k")) _ (first-of _ _ _ writes-k)))
+    (w.called (callee (codes "m")) (callee (codes "k")) _ (first-of _ _ _ calls-m) (w.directly (callee (codes "k")) _ (first-of _ _ _ writes-k)))
 
 none-in : {X : Type 0} (xs : List X) (x : X) → xs ≡ [] → Contains xs x → ⊥
 none-in {X} xs x e h = let n : h.0 < 0 = subst (λ (ys : List X). h.0 < length ys) e h.1 in omega arith
@@ -133,7 +134,7 @@ not-written h = of-k (callee (codes "k")) (w.state 0 (codes "n")) refl h refl
         at-three (suc (suc (suc k)), lt, is) = omega arith
 
     of-k : (m : Callee) (x : Written) → m ≡ callee (codes "k") → MayWrite methods m x → x ≡ w.state 0 (codes "n") → ⊥
-    of-k m x e (w.itself _ _ c) f = in-k (own_writes methods (callee (codes "k"))) writes-k (subst (λ (y : Written). Contains (own_writes methods (callee (codes "k"))) y) f (subst (λ (n : Callee). Contains (own_writes methods n) x) e c))
+    of-k m x e (w.directly _ _ c) f = in-k (own_writes methods (callee (codes "k"))) writes-k (subst (λ (y : Written). Contains (own_writes methods (callee (codes "k"))) y) f (subst (λ (n : Callee). Contains (own_writes methods n) x) e c))
     of-k m x e (w.called _ n _ c r) f = none-in (own_calls methods (callee (codes "k"))) n calls-k (subst (λ (i : Callee). Contains (own_calls methods i) n) e c)
 
 abbrev state-of : List ℕ → Option Kind → Bool → Bool → Bool → Bool → State
@@ -154,32 +155,35 @@ of-n = state-of (codes "n") (Some k.Int) false false false false
 abbrev of-next : State
 of-next = state-of (codes "next") (Some k.Obj) false false false false
 
-variables-of : variables methods ≡ of-g ∷ of-d ∷ of-e ∷ []
-unfolding halves first_named class_from def_in states_from declared all_declared labels_in all_labels_in with_all_declared declare_all equations expr_type reads all_read assigns all_assign calls all_call front_before rest_behind merged members_in_order class_sets variables_from
+abbrev called-a : List ℕ → Variable
+called-a x = record { class = 0; name = x }
+
+variables-of : variables methods ≡ called-a (codes "g") ∷ called-a (codes "d") ∷ called-a (codes "e") ∷ []
+unfolding halves first_named class_from def_in method_in states_from declared all_declared labels_in all_labels_in with_all_declared declare_all equations expr_type reads all_read inner_statements all_statements front_before rest_behind merged members_in_order class_sets variables_from
 variables-of = refl
 
-reads-d : definition_reads methods of-d ≡ of-n ∷ of-e ∷ []
-unfolding halves first_named class_from def_in states_from declared all_declared labels_in all_labels_in with_all_declared declare_all equations expr_type reads all_read assigns all_assign calls all_call front_before rest_behind merged members_in_order class_sets variables_from
+reads-d : definition_reads methods (variable_of of-d) ≡ of-n ∷ of-e ∷ []
+unfolding halves first_named class_from def_in method_in states_from declared all_declared labels_in all_labels_in with_all_declared declare_all equations expr_type reads all_read inner_statements all_statements front_before rest_behind merged members_in_order class_sets variables_from
 reads-d = refl
 
-reads-e : definition_reads methods of-e ≡ of-next ∷ []
-unfolding halves first_named class_from def_in states_from declared all_declared labels_in all_labels_in with_all_declared declare_all equations expr_type reads all_read assigns all_assign calls all_call front_before rest_behind merged members_in_order class_sets variables_from
+reads-e : definition_reads methods (variable_of of-e) ≡ of-next ∷ []
+unfolding halves first_named class_from def_in method_in states_from declared all_declared labels_in all_labels_in with_all_declared declare_all equations expr_type reads all_read inner_statements all_statements front_before rest_behind merged members_in_order class_sets variables_from
 reads-e = refl
 
 second-of : {X : Type 0} (xs : List X) (x y : X) (rest : List X) → xs ≡ y ∷ x ∷ rest → Contains xs x
 second-of {X} xs x y rest e = subst (λ (ys : List X). Contains ys x) (sym e) (1, omega arith, refl)
 
 -- d reads a field through e
-reads-through : Reads methods of-d of-next
-reads-through = reading.through of-d of-e of-next (second-of _ _ _ _ reads-d) (reading.itself of-e of-next (first-of _ _ _ reads-e))
+reads-through : Reads methods (variable_of of-d) of-next
+reads-through = reading.through (variable_of of-d) of-e of-next (second-of _ _ _ _ reads-d) (reading.directly (variable_of of-e) of-next (first-of _ _ _ reads-e))
 
 modifies-m : named_by methods 0 (record { name = word (codes "m") 6 15; is_public = true; fixed = false; result = j.Void; params = []; pre = None; modifies = word (codes "d") 6 35 ∷ word (codes "g") 6 38 ∷ []; post = None; body = s.none; end = at 7 10 }) ≡ of-d ∷ of-g ∷ []
-unfolding halves first_named class_from def_in states_from declared all_declared labels_in all_labels_in with_all_declared declare_all equations expr_type reads all_read assigns all_assign calls all_call front_before rest_behind merged members_in_order class_sets variables_from
+unfolding halves first_named class_from def_in method_in states_from declared all_declared labels_in all_labels_in with_all_declared declare_all equations expr_type reads all_read inner_statements all_statements front_before rest_behind merged members_in_order class_sets variables_from
 modifies-m = refl
 
 -- `modifies d, g` names a field that d reads through e, and g
 names-field : Names methods (of-d ∷ of-g ∷ []) (w.state 0 (codes "next"))
-names-field = w.through (of-d ∷ of-g ∷ []) of-d of-next (0, omega arith, refl) reads-through refl
+names-field = w.through (of-d ∷ of-g ∷ []) of-d of-next (0, omega arith, refl) refl reads-through refl
 
 names-ghost : Names methods (of-d ∷ of-g ∷ []) (w.state 0 (codes "g"))
 names-ghost = w.plainly (of-d ∷ of-g ∷ []) of-g (1, omega arith, refl) refl
@@ -188,26 +192,27 @@ names-ghost = w.plainly (of-d ∷ of-g ∷ []) of-g (1, omega arith, refl) refl
 abbrev cyclic : ProgramTree
 cyclic = record { classes = ((class (word (codes "C") 1 7) ((field (word (codes "x") 2 14) j.Int true None) ∷ []) [] ((var (word (codes "u") 3 22) k.Int true false None) ∷ (var (word (codes "v") 3 69) k.Int true false None) ∷ (var (word (codes "w") 3 112) k.Int true false None) ∷ []) ((def (word (codes "u") 3 41) (spec (at 3 40) 0 (f.binary (at 3 46) sop.Add (f.name (at 3 46) (word (codes "v") 3 46)) (f.name (at 3 50) (word (codes "x") 3 50))))) ∷ (def (word (codes "v") 3 88) (spec (at 3 87) 1 (f.name (at 3 93) (word (codes "w") 3 93)))) ∷ (def (word (codes "w") 3 131) (spec (at 3 130) 2 (f.name (at 3 136) (word (codes "v") 3 136)))) ∷ []) []) ∷ []) }
 
-abbrev of-u : State
-of-u = state-of (codes "u") (Some k.Int) true true false true
-
 abbrev of-v : State
 of-v = state-of (codes "v") (Some k.Int) true true false true
 
 abbrev of-w : State
 of-w = state-of (codes "w") (Some k.Int) true true false true
 
-cyclic-variables : variables cyclic ≡ of-u ∷ of-v ∷ of-w ∷ []
-unfolding halves first_named class_from def_in states_from declared all_declared labels_in all_labels_in with_all_declared declare_all equations expr_type reads all_read assigns all_assign calls all_call front_before rest_behind merged members_in_order class_sets variables_from
+cyclic-variables : variables cyclic ≡ called-a (codes "u") ∷ called-a (codes "v") ∷ called-a (codes "w") ∷ []
+unfolding halves first_named class_from def_in method_in states_from declared all_declared labels_in all_labels_in with_all_declared declare_all equations expr_type reads all_read inner_statements all_statements front_before rest_behind merged members_in_order class_sets variables_from
 cyclic-variables = refl
 
-reads-v : definition_reads cyclic of-v ≡ of-w ∷ []
-unfolding halves first_named class_from def_in states_from declared all_declared labels_in all_labels_in with_all_declared declare_all equations expr_type reads all_read assigns all_assign calls all_call front_before rest_behind merged members_in_order class_sets variables_from
+reads-v : definition_reads cyclic (variable_of of-v) ≡ of-w ∷ []
+unfolding halves first_named class_from def_in method_in states_from declared all_declared labels_in all_labels_in with_all_declared declare_all equations expr_type reads all_read inner_statements all_statements front_before rest_behind merged members_in_order class_sets variables_from
 reads-v = refl
 
-reads-w : definition_reads cyclic of-w ≡ of-v ∷ []
-unfolding halves first_named class_from def_in states_from declared all_declared labels_in all_labels_in with_all_declared declare_all equations expr_type reads all_read assigns all_assign calls all_call front_before rest_behind merged members_in_order class_sets variables_from
+reads-w : definition_reads cyclic (variable_of of-w) ≡ of-v ∷ []
+unfolding halves first_named class_from def_in method_in states_from declared all_declared labels_in all_labels_in with_all_declared declare_all equations expr_type reads all_read inner_statements all_statements front_before rest_behind merged members_in_order class_sets variables_from
 reads-w = refl
 
-v-is-cyclic : IsCyclic cyclic of-v
-v-is-cyclic = reading.through of-v of-w of-v (first-of _ _ _ reads-v) (reading.itself of-w of-v (first-of _ _ _ reads-w))
+v-is-cyclic : IsCyclic cyclic (variable_of of-v)
+v-is-cyclic = record {
+  read = of-v;
+  itself = refl;
+  reads = reading.through (variable_of of-v) of-w of-v (first-of _ _ _ reads-v) (reading.directly (variable_of of-w) of-v (first-of _ _ _ reads-w));
+}

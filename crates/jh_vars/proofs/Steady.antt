@@ -5,11 +5,11 @@ use Rattle.std.specs.Option.{option_map_or}
 use Rattle.jh_tree.specs.Tree.{ValueTree, of_object, null}
 use Rattle.jh_ast.specs.Programs.{ProgramTree, DefPart}
 use Rattle.jh_rules.specs.Names.{declared_in, def_of}
-use Rattle.jh_vars.specs.States.{State, class_text}
+use Rattle.jh_vars.specs.States.{State, Variable, variable_of, class_text}
 use Rattle.jh_vars.specs.Resolved.{Spot, resolved}
 use Rattle.jh_vars.specs.Opened.{outside, is_of_objects, meant}
 use Rattle.jh_vars.specs.Reading.{reads}
-use Rattle.jh_vars.specs.Following.{Variable, AreBefore, Follows}
+use Rattle.jh_vars.specs.Following.{AreBefore, Follows}
 use Rattle.jh_vars.proofs.Agreeing.{Agree, agrees}
 
 module _ (p : ProgramTree) where
@@ -28,7 +28,7 @@ module _ (p : ProgramTree) where
     -- meanings that agree on the variables before a place agree on what is read there
     pub agree-before : (m n : ℕ → List ℕ → ValueTree) (k : ℕ) (ys : List State) → Same m n k → AreBefore p order k ys → Agree p (class_text p) m n ys
     agree-before m n k [] s b = tt
-    agree-before m n k (y ∷ ys) s b = (λ h. let q = b.0 h in s q.0 (record { class = y.entry.class; name = y.name }) q.1 q.2, agree-before m n k ys s b.1)
+    agree-before m n k (y ∷ ys) s b = (λ h. let q = b.0 h in s q.0 (variable_of y) q.1 q.2, agree-before m n k ys s b.1)
 
     steady-below : (top k : ℕ) → k < top → (a b : ℕ) (x : Variable) → k < a → k < b → slice_get order k ≡ Some x → meant p a x.class x.name ≡ meant p b x.class x.name
     unfolding meant

@@ -2,19 +2,14 @@
 use Rattle.std.specs.Prelude.{◌≡◌, ◌<◌, true, ℕ, List, [], ◌∷◌, Some, slice_get}
 use Rattle.jh_ast.specs.Programs.{ProgramTree, DefPart}
 use Rattle.jh_rules.specs.Names.{declared_in, def_of}
-use Rattle.jh_vars.specs.States.{State}
+use Rattle.jh_vars.specs.States.{State, Variable, variable_of}
 use Rattle.jh_vars.specs.Reading.{reads}
-
--- a defined variable, by its class and its name
-pub record Variable : Type 0 where
-  pub class : ℕ
-  pub name : List ℕ
 
 module _ (p : ProgramTree) where
   -- the defined ones of these variables stand in a list before a place
   abbrev pub AreBefore : List Variable → ℕ → List State → Type 0
   AreBefore order k [] = Unit {0}
-  AreBefore order k (y ∷ ys) = (y.entry.is_defined ≡ true → (j : ℕ) × (j < k) × (slice_get order j ≡ Some (record { class = y.entry.class; name = y.name }))) × AreBefore order k ys
+  AreBefore order k (y ∷ ys) = (y.entry.is_defined ≡ true → (j : ℕ) × (j < k) × (slice_get order j ≡ Some (variable_of y))) × AreBefore order k ys
 
   -- each variable of the list has a definition, which reads only those before it
   abbrev pub Follows : List Variable → Type 0

@@ -1,6 +1,6 @@
 -- The value of each formula of a source, by its number, with all definitions opened.
-use Rattle.std.specs.Prelude.{ℕ, zero, suc, ◌+◌, ◌==◌, ◌||◌, not, Bool, true, false, List, [], ◌∷◌, ◌++◌, map, length, Option, Some, None, codes, sum, if◌then◌else◌}
-use Rattle.std.specs.List.{flat_map}
+use Rattle.std.specs.Prelude.{ℕ, zero, suc, ◌+◌, ◌==◌, ◌||◌, not, Bool, true, false, List, [], ◌∷◌, ◌++◌, map, length, Option, Some, None, codes, if◌then◌else◌}
+use Rattle.std.specs.List.{flat_map, sum_by}
 use Rattle.std.specs.Option.{option_map_or}
 use Rattle.jh_name.specs.declared.place.Kind.{Kind}
 use Rattle.jh_name.specs.declared.place.Kind.TheVariants as k
@@ -9,14 +9,15 @@ use Rattle.jh_tree.specs.Tree as t
 use Rattle.jh_ast.specs.declared.word.Word.{Word}
 use Rattle.jh_ast.specs.Forms.{FormTree, FormTrees, SpecPart, LabelledPart}
 use Rattle.jh_ast.specs.Forms as f
-use Rattle.jh_ast.specs.Stmts.{StmtTree, StmtTrees}
+use Rattle.jh_ast.specs.Stmts.{StmtTree}
 use Rattle.jh_ast.specs.Stmts as s
 use Rattle.jh_ast.specs.Programs.{ProgramTree, ClassPart, VarPart, DefPart, MethodPart}
 use Rattle.jh_rules.specs.Words.{same_text, is_one_of, text_of}
 use Rattle.jh_rules.specs.Names.{declared_in, def_of, kind_of_word}
 use Rattle.jh_vars.specs.States.{State, class_text, state_spelled}
-use Rattle.jh_rules.specs.Scopes.{Scope, behind, declare_all, outermost, text_behind}
+use Rattle.jh_rules.specs.Scopes.{Scope}
 use Rattle.jh_rules.specs.declared.entries.StateEntry.{StateEntry}
+use Rattle.jh_vars.specs.Statements.{InScope, entry_scope, method_statements}
 use Rattle.jh_vars.specs.Resolved.{Spot, own, as_truth, resolved}
 
 -- a formula outside methods, whose `this` is the variable of a binder round it or a free name
@@ -38,12 +39,12 @@ module _ (p : ProgramTree) where
   meant zero c x = t.of_object t.null
   meant (suc n) c x = option_map_or (λ (d : DefPart). resolved (declared_in p) (class_text p) (meant n) d.spec.form (outside c (is_of_objects c x))) (def_of p c x) (t.of_object t.null)
 
-  -- as often as there are variables is enough where none is cyclic
-  abbrev pub all_variables : ℕ
-  all_variables = sum (map (λ (c : ClassPart). length c.vars) p.classes)
+  -- as often as there are definitions is enough where no variable is cyclic
+  abbrev pub all_definitions : ℕ
+  all_definitions = sum_by (λ (c : ClassPart). length c.defs) p.classes
 
   abbrev pub value_at : Spot → FormTree → ValueTree
-  value_at at a = resolved (declared_in p) (class_text p) (meant all_variables) a at
+  value_at at a = resolved (declared_in p) (class_text p) (meant all_definitions) a at
 
   -- whether a formula outside methods uses `this`, spelled or not, as it is written
   abbrev pub is_of_object : Option State → Bool
@@ -63,11 +64,11 @@ module _ (p : ProgramTree) where
     uses_this (f.card q a) n bound = uses_this a n bound
     uses_this (f.binary q o a b) n bound = uses_this a n bound || uses_this b n bound
     uses_this (f.dvd q z a) n bound = uses_this a n bound
-    uses_this (f.all q ws a) n bound = uses_this a n (map text_of ws ++ bound)
-    uses_this (f.ex q ws a) n bound = uses_this a n (map text_of ws ++ bound)
+    uses_this (f.all q ws a) n bound = uses_this a n (bound ++ map text_of ws)
+    uses_this (f.ex q ws a) n bound = uses_this a n (bound ++ map text_of ws)
     uses_this (f.rtrancl q x y body a b) n bound = uses_this a n bound || uses_this b n bound
     uses_this (f.braces q fs) n bound = one_uses_this fs n bound
-    uses_this (f.compr q w a) n bound = uses_this a n (text_of w ∷ bound)
+    uses_this (f.compr q w a) n bound = uses_this a n (bound ++ text_of w ∷ [])
     uses_this _ n bound = false
 
     pub one_uses_this : FormTrees → ℕ → List (List ℕ) → Bool
@@ -88,28 +89,28 @@ module _ (p : ProgramTree) where
   abbrev pub valued_some : Spot → Option SpecPart → List (ℕ × ValueTree)
   valued_some at spec = option_map_or (valued at) spec []
 
-  unfoldable mutual
-    pub in_stmt : StmtTree → Scope → List (ℕ × ValueTree)
-    in_stmt (s.block q ss) at = in_stmts ss at
-    in_stmt (s.branch q c a b) at = in_stmt a at ++ in_stmts b (text_behind at a)
-    in_stmt (s.loop q is c a) at = flat_map (λ (l : LabelledPart). valued (inside k.Obj at) l.spec) is ++ in_stmt a at
-    in_stmt (s.assert q l) at = valued (inside k.Obj at) l.spec
-    in_stmt (s.note q l) at = valued (inside k.Obj at) l.spec
-    in_stmt (s.ghost q l r) at = valued (inside k.Obj at) l ++ valued (inside k.Obj at) r
-    in_stmt _ at = []
+  abbrev pub labelled_values : Spot → List LabelledPart → List (ℕ × ValueTree)
+  labelled_values at ls = flat_map (λ (l : LabelledPart). valued at l.spec) ls
 
-    pub in_stmts : StmtTrees → Scope → List (ℕ × ValueTree)
-    in_stmts s.none at = []
-    in_stmts (s.more a ss) at = in_stmt a at ++ in_stmts ss (behind (declared_in p) at a)
+  abbrev pub ghost_values : Scope → SpecPart → SpecPart → List (ℕ × ValueTree)
+  ghost_values at l r = valued (inside k.Obj at) l ++ valued (inside k.Obj at) r
 
-  abbrev pub entry_scope : ℕ → MethodPart → Scope
-  entry_scope n m = declare_all (declared_in p) (outermost n m.fixed) m.params
+  -- the values of the formulas of a statement itself
+  abbrev pub stmt_values : Scope → StmtTree → List (ℕ × ValueTree)
+  stmt_values at (s.loop q is c a) = labelled_values (inside k.Obj at) is
+  stmt_values at (s.assert q l) = valued (inside k.Obj at) l.spec
+  stmt_values at (s.note q l) = valued (inside k.Obj at) l.spec
+  stmt_values at (s.ghost q l r) = ghost_values at l r
+  stmt_values at _ = []
+
+  abbrev pub values_of : InScope → List (ℕ × ValueTree)
+  values_of x = stmt_values x.at x.stmt
 
   unfoldable pub in_method : ℕ → MethodPart → List (ℕ × ValueTree)
   in_method n m =
-      valued_some (inside (kind_of_word m.result) (entry_scope n m)) m.pre
-      ++ valued_some (inside (kind_of_word m.result) (entry_scope n m)) m.post
-      ++ in_stmts m.body (entry_scope n m)
+      valued_some (inside (kind_of_word m.result) (entry_scope p n m)) m.pre
+      ++ valued_some (inside (kind_of_word m.result) (entry_scope p n m)) m.post
+      ++ flat_map values_of (method_statements p n m)
 
   unfoldable pub in_class : ℕ → ClassPart → List (ℕ × ValueTree)
   in_class n c =

@@ -1,5 +1,5 @@
 -- Which variables a definition reads, and which are cyclic.
-use Rattle.std.specs.Prelude.{◌≡◌, true, ℕ, ◌+◌, List, [], ◌∷◌, ◌++◌, map, Option, Some, None, is_some, codes, if◌then◌else◌}
+use Rattle.std.specs.Prelude.{◌≡◌, ℕ, ◌+◌, List, [], ◌∷◌, ◌++◌, map, Option, codes, if◌then◌else◌}
 use Rattle.std.specs.List.{flat_map, Contains}
 use Rattle.std.specs.Option.{option_map_or}
 use Rattle.jh_ast.specs.declared.word.Word.{Word}
@@ -8,7 +8,7 @@ use Rattle.jh_ast.specs.Forms as f
 use Rattle.jh_ast.specs.Programs.{ProgramTree, ClassPart, VarPart, DefPart}
 use Rattle.jh_rules.specs.Words.{is_one_of, text_of}
 use Rattle.jh_rules.specs.Names.{Declared, declared_in, def_of}
-use Rattle.jh_vars.specs.States.{State, state_spelled, state_named}
+use Rattle.jh_vars.specs.States.{State, Variable, variable_of, state_spelled, state_named}
 use Rattle.jh_rules.specs.Formulas.{equations}
 
 abbrev pub some_state : Option State → List State
@@ -46,43 +46,45 @@ module _ (l : Declared) where
     all_read f.none n bound = []
     all_read (f.more a fs) n bound = reads a n bound ++ all_read fs n bound
 
+-- the first of a list of which something is so
+pub record IsFirst {X : Type 0} (holds : X → Type 0) (xs : List X) (x : X) : Type 0 where
+  pub before : List X
+  pub behind : List X
+  pub stands : xs ≡ before ++ x ∷ behind
+  pub here : holds x
+  pub none_before : (y : X) → Contains before y → holds y → ⊥
+
 module _ (p : ProgramTree) where
   -- what the definition of a variable reads itself
-  abbrev pub definition_reads : State → List State
-  definition_reads x = option_map_or (λ (d : DefPart). reads (declared_in p) d.spec.form x.entry.class []) (if x.entry.is_defined then def_of p x.entry.class x.name else None) []
+  abbrev pub definition_reads : Variable → List State
+  definition_reads x = option_map_or (λ (d : DefPart). reads (declared_in p) d.spec.form x.class []) (def_of p x.class x.name) []
 
-  -- what a definition reads, directly or through others
-  pub data Reads : State → State → Type 0 where
-    itself : (x y : State) → Contains (definition_reads x) y → Reads x y
-    through : (x y z : State) → Contains (definition_reads x) y → Reads y z → Reads x z
+  -- what the definition of a variable reads, directly or through the definitions of what it reads
+  pub data Reads : Variable → State → Type 0 where
+    directly : (x : Variable) (y : State) → Contains (definition_reads x) y → Reads x y
+    through : (x : Variable) (y z : State) → Contains (definition_reads x) y → Reads (variable_of y) z → Reads x z
 
-  abbrev pub IsCyclic : State → Type 0
-  IsCyclic x = Reads x x
+  -- the definition of a variable reads the variable
+  pub record IsCyclic (x : Variable) : Type 0 where
+    pub read : State
+    pub itself : variable_of read ≡ x
+    pub reads : Reads x read
 
   -- the variables of the text, in its order
-  abbrev pub var_state : ℕ → VarPart → State
-  var_state n v = record {
-    entry = record { class = n; kind = Some v.kind; fixed = v.fixed; is_variable = true; is_ghost = v.is_ghost; is_defined = is_some (def_of p n (text_of v.name)) };
-    name = text_of v.name;
-  }
+  abbrev pub variable_in : ℕ → VarPart → Variable
+  variable_in n v = record { class = n; name = text_of v.name }
 
-  unfoldable pub variables_from : ℕ → List ClassPart → List State
+  unfoldable pub variables_from : ℕ → List ClassPart → List Variable
   variables_from n [] = []
-  variables_from n (c ∷ cs) = map (var_state n) c.vars ++ variables_from (n + 1) cs
+  variables_from n (c ∷ cs) = map (variable_in n) c.vars ++ variables_from (n + 1) cs
 
-  abbrev pub variables : List State
+  abbrev pub variables : List Variable
   variables = variables_from 0 p.classes
 
-  -- some variable is cyclic
-  pub record HasCyclic : Type 0 where
-    pub variable : State
-    pub stands : Contains variables variable
-    pub cyclic : IsCyclic variable
+  -- no variable is cyclic
+  abbrev pub IsAcyclic : Type 0
+  IsAcyclic = (v : Variable) → IsCyclic v → ⊥
 
-  -- the first variable of a list that is cyclic, and no earlier one is
-  pub record IsFirstCyclic (x : State) : Type 0 where
-    pub before : List State
-    pub behind : List State
-    pub stands : variables ≡ before ++ x ∷ behind
-    pub cyclic : IsCyclic x
-    pub none_before : (y : State) → Contains before y → IsCyclic y → ⊥
+  -- the first variable of the text that is cyclic
+  abbrev pub IsFirstCyclic : Variable → Type 0
+  IsFirstCyclic x = IsFirst IsCyclic variables x

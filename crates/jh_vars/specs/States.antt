@@ -12,6 +12,14 @@ pub record State : Type 0 where
   pub entry : StateEntry
   pub name : List ℕ
 
+-- a specification variable, by its class and its own name
+pub record Variable : Type 0 where
+  pub class : ℕ
+  pub name : List ℕ
+
+abbrev pub variable_of : State → Variable
+variable_of x = record { class = x.entry.class; name = x.name }
+
 abbrev pub called : List ℕ → StateEntry → State
 called x s = record { entry = s; name = own_name x }
 

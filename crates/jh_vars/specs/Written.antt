@@ -1,5 +1,5 @@
 -- The state that a method may write, and the state that it names.
-use Rattle.std.specs.Prelude.{◌≡◌, ◌↔◌, IsTrue, filter, ℕ, ◌+◌, Bool, true, false, List, [], ◌∷◌, ◌++◌, map, Option, Some, None, is_some, codes, if◌then◌else◌}
+use Rattle.std.specs.Prelude.{◌≡◌, ◌↔◌, IsTrue, filter, ℕ, ◌+◌, Bool, true, false, List, [], ◌∷◌, ◌++◌, map, Option, Some, None, is_some, slice_get, codes, if◌then◌else◌}
 use Rattle.std.specs.List.{flat_map, Contains}
 use Rattle.std.specs.Option.{option_map_or}
 use Rattle.jh_name.specs.declared.naming.Name.{Name}
@@ -9,15 +9,16 @@ use Rattle.jh_ast.specs.Exprs.{ExprTree}
 use Rattle.jh_ast.specs.Exprs as e
 use Rattle.jh_ast.specs.Forms.{FormTree}
 use Rattle.jh_ast.specs.Forms as f
-use Rattle.jh_ast.specs.Stmts.{StmtTree, StmtTrees, RhsTree, CallTree}
+use Rattle.jh_ast.specs.Stmts.{StmtTree, RhsTree, CallTree}
 use Rattle.jh_ast.specs.Stmts as s
 use Rattle.jh_ast.specs.Programs.{ProgramTree, ClassPart, FieldPart, VarPart, MethodPart}
 use Rattle.jh_rules.specs.declared.types.Ty.{Ty}
-use Rattle.jh_rules.specs.Words.{text_of, is_before}
+use Rattle.jh_rules.specs.Words.{same_text, text_of, is_before}
 use Rattle.jh_rules.specs.Kinds.{class_of}
-use Rattle.jh_rules.specs.Names.{MemberPart, method, kind_of_word, declared_in, number_of, member_of}
-use Rattle.jh_vars.specs.States.{State, class_text, state_spelled, state_named}
-use Rattle.jh_rules.specs.Scopes.{Scope, behind, text_behind, declare_all, outermost}
+use Rattle.jh_rules.specs.Names.{◌then◌, kind_of_word, declared_in, number_of}
+use Rattle.jh_vars.specs.States.{State, variable_of, class_text, state_spelled, state_named}
+use Rattle.jh_rules.specs.Scopes.{Scope}
+use Rattle.jh_vars.specs.Statements.{InScope, method_statements}
 use Rattle.jh_vars.specs.Reading.{Reads}
 use Rattle.jh_vars.specs.Resolved.{own}
 use Rattle.jh_rules.specs.Exprs.{expr_type, class_spelled, callee_class}
@@ -68,6 +69,11 @@ merged (x ∷ xs) ys = front_before x ys ++ x ∷ merged xs (rest_behind x ys)
 abbrev pub pieces_of : ClassPart → List Piece
 pieces_of c = merged (map field_piece c.fields) (flat_map ghost_pieces c.vars)
 
+-- the first method of a name
+unfoldable pub method_in : List ℕ → List MethodPart → Option MethodPart
+method_in x [] = None
+method_in x (m ∷ ms) = if same_text (text_of m.name) x then Some m else method_in x ms
+
 module _ (p : ProgramTree) where
   abbrev pub some_state : Option State → List Written
   some_state x = option_map_or (λ (y : State). state y.entry.class y.name ∷ []) x []
@@ -105,53 +111,39 @@ module _ (p : ProgramTree) where
   rhs_calls at (s.result_of c) = calls_of at c
   rhs_calls at (s.new w) = []
 
-  unfoldable mutual
-    -- what a statement assigns itself
-    pub assigns : StmtTree → Scope → List Written
-    assigns (s.block q ss) at = all_assign ss at
-    assigns (s.local q d r) at = option_map_or rhs_writes r []
-    assigns (s.assign q a r) at = target_writes at a ++ rhs_writes r
-    assigns (s.branch q c a b) at = assigns a at ++ all_assign b (text_behind at a)
-    assigns (s.loop q is c a) at = assigns a at
-    assigns (s.ghost q l r) at = ghost_writes at l.form
-    assigns _ at = []
+  -- what a statement assigns itself
+  abbrev pub stmt_writes : Scope → StmtTree → List Written
+  stmt_writes at (s.local q d r) = option_map_or rhs_writes r []
+  stmt_writes at (s.assign q a r) = target_writes at a ++ rhs_writes r
+  stmt_writes at (s.ghost q l r) = ghost_writes at l.form
+  stmt_writes at _ = []
 
-    pub all_assign : StmtTrees → Scope → List Written
-    all_assign s.none at = []
-    all_assign (s.more a ss) at = assigns a at ++ all_assign ss (behind (declared_in p) at a)
+  abbrev pub writes_of : InScope → List Written
+  writes_of x = stmt_writes x.at x.stmt
 
-  unfoldable mutual
-    -- the methods that a statement calls itself
-    pub calls : StmtTree → Scope → List Callee
-    calls (s.block q ss) at = all_call ss at
-    calls (s.local q d r) at = option_map_or (rhs_calls at) r []
-    calls (s.assign q a r) at = rhs_calls at r
-    calls (s.call q c) at = calls_of at c
-    calls (s.branch q c a b) at = calls a at ++ all_call b (text_behind at a)
-    calls (s.loop q is c a) at = calls a at
-    calls _ at = []
+  -- the method that a statement calls itself
+  abbrev pub stmt_calls : Scope → StmtTree → List Callee
+  stmt_calls at (s.local q d r) = option_map_or (rhs_calls at) r []
+  stmt_calls at (s.assign q a r) = rhs_calls at r
+  stmt_calls at (s.call q c) = calls_of at c
+  stmt_calls at _ = []
 
-    pub all_call : StmtTrees → Scope → List Callee
-    all_call s.none at = []
-    all_call (s.more a ss) at = calls a at ++ all_call ss (behind (declared_in p) at a)
-
-  abbrev pub method_part : Option MemberPart → Option MethodPart
-  method_part (Some (method m)) = Some m
-  method_part _ = None
+  abbrev pub called_by : InScope → List Callee
+  called_by x = stmt_calls x.at x.stmt
 
   -- a method of the program
   abbrev pub part_of : Callee → Option MethodPart
-  part_of m = method_part (member_of p m.class m.name)
+  part_of m = slice_get p.classes m.class then λ class. method_in m.name class.methods
 
   abbrev pub own_writes : Callee → List Written
-  own_writes m = option_map_or (λ (x : MethodPart). all_assign x.body (declare_all (declared_in p) (outermost m.class x.fixed) x.params)) (part_of m) []
+  own_writes m = option_map_or (λ (x : MethodPart). flat_map writes_of (method_statements p m.class x)) (part_of m) []
 
   abbrev pub own_calls : Callee → List Callee
-  own_calls m = option_map_or (λ (x : MethodPart). all_call x.body (declare_all (declared_in p) (outermost m.class x.fixed) x.params)) (part_of m) []
+  own_calls m = option_map_or (λ (x : MethodPart). flat_map called_by (method_statements p m.class x)) (part_of m) []
 
   -- what a method may write, itself or by the methods that it calls
   pub data MayWrite : Callee → Written → Type 0 where
-    itself : (m : Callee) (x : Written) → Contains (own_writes m) x → MayWrite m x
+    directly : (m : Callee) (x : Written) → Contains (own_writes m) x → MayWrite m x
     called : (m n : Callee) (x : Written) → Contains (own_calls m) n → MayWrite n x → MayWrite m x
 
   unfoldable pub members_in_order : ℕ → List ClassPart → List Written
@@ -177,13 +169,13 @@ module _ (p : ProgramTree) where
   abbrev pub IsWrittenList : Callee → List Written → Type 0
   IsWrittenList m result = IsSelected (MayWrite m) result
 
-  -- what `modifies` names: state, or all that a definition reads, through others too
   abbrev pub as_written : State → Written
   as_written x = state x.entry.class x.name
 
+  -- what `modifies` names: state, or all that a definition reads, through others too
   pub data Names : List State → Written → Type 0 where
     plainly : (named : List State) (x : State) → Contains named x → x.entry.is_defined ≡ false → Names named (as_written x)
-    through : (named : List State) (x y : State) → Contains named x → Reads p x y → y.entry.is_defined ≡ false → Names named (as_written y)
+    through : (named : List State) (x y : State) → Contains named x → x.entry.is_defined ≡ true → Reads p (variable_of x) y → y.entry.is_defined ≡ false → Names named (as_written y)
 
   abbrev pub named_by : ℕ → MethodPart → List State
   named_by n m = flat_map (λ w. option_map_or (λ x. x ∷ []) (state_named (declared_in p) n (text_of w)) []) m.modifies
