@@ -1,15 +1,15 @@
--- What is known of variables, where one more is noted.
-use Rattle.std.proofs.Common.{◌≡◌, refl, sym, ap, ◌∙◌, ◌⊎◌, inl, inr, ℕ, zero, suc, ◌<◌, ◌&&◌, Bool, true, false, if◌then◌else◌, nat_eq, List, [], ◌∷◌, length, get_or, slice_get, slice_set, Option, Some, None, arith}
+-- What is known of members, where one more is noted.
+use Rattle.std.proofs.Common.{◌≡◌, refl, sym, ap, ◌∙◌, ◌⊎◌, inl, inr, ℕ, ◌<◌, ◌&&◌, Bool, true, false, if◌then◌else◌, nat_eq, List, [], ◌∷◌, length, get_or, slice_get, slice_set, Option, Some, None, arith}
 use Rattle.std.specs.String.{string_bytes, string_eq}
 use Rattle.std.specs.declared.string.String.{String}
 use Rattle.std.proofs.lemmas.Bool.{true≢false}
 use Rattle.std.proofs.lemmas.Bool.Decides.{nat_tests}
 use Rattle.std.proofs.lemmas.Map.Text.{hash_map_updates_text}
+use Rattle.std.proofs.lemmas.Option.{slice_get-get_or}
 use Rattle.indexmap.specs.IndexMap.{IndexMap, get_by_text, Updates}
 use Rattle.jh_rules.specs.Names.{◌then◌}
 use Rattle.jh_rules.specs.Words.{same_text}
-use Rattle.jh_spread.proofs.Places.{item-get}
-use Rattle.jh_order.proofs.Orderings.{same-or-not}
+use Rattle.jh_spread.proofs.Places.{same-or-not, set-here, set-other}
 
 same-test : (a b : ℕ) (t : Bool) → nat_eq a b ≡ t → t ≡ true → a ≡ b
 same-test a b t e h = grind (arith, nat_tests)
@@ -37,19 +37,6 @@ text-is [] [] h = refl
 text-is [] (b ∷ y) h = absurd (true≢false (sym h))
 text-is (a ∷ x) [] h = absurd (true≢false (sym h))
 text-is (a ∷ x) (b ∷ y) h = let k = both (nat_eq a b) (same_text x y) h in λ i. same-test a b (nat_eq a b) refl k.0 i ∷ text-is x y k.1 i
-
-set-here : {X : Type 0} (xs : List X) (k : ℕ) (v : X) → k < length xs → slice_get (slice_set xs k v) k ≡ Some v
-set-here [] k v lt = absurd (omega arith)
-set-here (x ∷ xs) zero v lt = refl
-set-here (x ∷ xs) (suc k) v lt = set-here xs k v (omega arith)
-
-set-other : {X : Type 0} (xs : List X) (k : ℕ) (v : X) (c : ℕ) → (c ≡ k → ⊥) → slice_get (slice_set xs k v) c ≡ slice_get xs c
-set-other [] zero v c h = refl
-set-other [] (suc k) v c h = refl
-set-other (x ∷ xs) zero v zero h = absurd (h refl)
-set-other (x ∷ xs) zero v (suc c) h = refl
-set-other (x ∷ xs) (suc k) v zero h = refl
-set-other (x ∷ xs) (suc k) v (suc c) h = set-other xs k v c (λ e. h (ap suc e))
 
 pub noted-text : {Y S : Type 0} (old new : IndexMap (String Y) ℕ S) (key : String Y) (node : ℕ) (text : List ℕ) → string_bytes key ≡ text → Updates string_eq old new key (Some node) → (x : List ℕ) → get_by_text new x ≡ (if same_text text x then Some node else get_by_text old x)
 noted-text old new key node text named updates x = hash_map_updates_text (string_bytes key) old new (Some node) updates x ∙ ap (λ b. if same_text b x then Some node else get_by_text old x) named
@@ -90,4 +77,4 @@ none-known maps h c x = by (slice_get maps c) refl
     by (Some m) e = h c m e x
 
 pub item-is : {X : Type 0} (xs : List X) (i : ℕ) (v : X) → i < length xs → v ≡ get_or xs i v → slice_get xs i ≡ Some v
-item-is xs i v lt e = item-get xs i v lt ∙ ap Some (sym e)
+item-is xs i v lt e = slice_get-get_or xs i v lt ∙ ap Some (sym e)

@@ -7,11 +7,12 @@ use Rattle.jh_tree.specs.Tree.{ValueTree}
 use Rattle.jh_rules.specs.Names.{def_of}
 use Rattle.jh_rules.specs.Words.{text_of}
 use Rattle.jh_exprs.specs.Lookings.{declared_by}
-use Rattle.jh_vars.specs.Opened.{is_of_objects, meant, all_variables, outside}
+use Rattle.jh_vars.specs.Opened.{is_of_objects, meant, all_definitions, outside}
 use Rattle.jh_vars.specs.Resolved.{resolved}
-use Rattle.jh_vars.specs.Following.{Variable, Follows}
+use Rattle.jh_vars.specs.States.{Variable}
+use Rattle.jh_vars.specs.Following.{Follows}
 use Rattle.jh_resolve.specs.declared.context.Context.{Context}
-use Rattle.jh_resolve.specs.declared.context.Meanings.{Meanings}
+use Rattle.jh_numbers.specs.declared.numbers.Numbers.{Numbers}
 use Rattle.jh_resolve.specs.Meant.{meaning_in}
 use Rattle.jh_resolve.specs.Spots.{spelled_by}
 use Rattle.jh_open.specs.declared.opening.Definition.{Definition}
@@ -20,8 +21,8 @@ use Rattle.jh_open.specs.declared.opening.Definition.{Definition}
 abbrev pub source_of : List Class → ProgramTree
 source_of cs = record { classes = map class_part cs }
 
-abbrev pub variable_of : Definition → Variable
-variable_of d = record { class = d.class; name = text_of d.word.now }
+abbrev pub defined_by : Definition → Variable
+defined_by d = record { class = d.class; name = text_of d.word.now }
 
 -- a definition is the one that the source has for its variable
 pub record IsDefinition (p : ProgramTree) (d : Definition) : Type 0 where
@@ -36,11 +37,15 @@ AreDefinitions p ds = (k : ℕ) (d : Definition) → slice_get ds k ≡ Some d �
 
 -- each reads only variables that are defined before it
 abbrev pub AreInOrder : ProgramTree → List Definition → Type 0
-AreInOrder p ds = Follows p (map variable_of ds)
+AreInOrder p ds = Follows p (map defined_by ds)
 
 -- each variable means what its definition says
-abbrev pub AreMeant : ProgramTree → List ValueTree → Meanings → List Definition → Type 0
-AreMeant p ts made ds = (k : ℕ) (d : Definition) → slice_get ds k ≡ Some d → meaning_in ts made d.class (text_of d.word.now) ≡ meant p (all_variables p) d.class (text_of d.word.now)
+abbrev pub AreMeant : ProgramTree → List ValueTree → Numbers → List Definition → Type 0
+AreMeant p ts made ds = (k : ℕ) (d : Definition) → slice_get ds k ≡ Some d → meaning_in ts made d.class (text_of d.word.now) ≡ meant p (all_definitions p) d.class (text_of d.word.now)
+
+-- a variable has a definition in a list
+abbrev pub IsAmong : List Definition → ℕ → List ℕ → Type 0
+IsAmong ds c x = (k : ℕ) × (d : Definition) × (slice_get ds k ≡ Some d) × (d.class ≡ c) × (text_of d.word.now ≡ x)
 
 -- what a definition says, over what is known of other variables
 abbrev pub value_of : List ValueTree → Context → Definition → ValueTree

@@ -1,7 +1,6 @@
 //! Definitions opened each once, in an order in which each stands behind what it reads.
 #![tactic(auto)]
 
-mod meanings;
 mod opening;
 
 pub use opening::{Definition, opened};

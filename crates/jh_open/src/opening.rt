@@ -4,15 +4,16 @@ ghost use Rattle.jh_table.specs.Growth.{Extends};
 ghost use Rattle.jh_table.specs.Nodes.{nodes};
 ghost use Rattle.jh_rules.specs.Names.{declared_in};
 ghost use Rattle.jh_exprs.specs.Lookings.{declared_by, scope_by};
-ghost use Rattle.jh_vars.specs.Opened.{all_variables};
+ghost use Rattle.jh_vars.specs.Opened.{all_definitions};
 ghost use Rattle.jh_resolve.specs.Meant.{AreHeld};
-ghost use Rattle.jh_open.specs.Opening.{source_of, AreDefinitions, AreInOrder, AreMeant, value_of};
+ghost use Rattle.jh_numbers.specs.Numbering.{number_in};
+ghost use Rattle.jh_open.specs.Opening.{source_of, AreDefinitions, AreInOrder, AreMeant, IsAmong, value_of};
 
-use crate::meanings::{no_meanings, put};
 use jh_ast::{Class, SpecTree, Word};
 use jh_exprs::{Lookups, ScopeTable};
 use jh_name::{Kind, NoMemory};
-use jh_resolve::{Context, Meanings, Spot, resolved};
+use jh_numbers::Numbers;
+use jh_resolve::{Context, Spot, resolved};
 use jh_table::Table;
 
 /// A variable with its definition: its class, its word, whether there is one for each object, and the body.
@@ -50,26 +51,27 @@ fn open_next(
     )
 }
 
-/// What defined variables stand for, where each definition of the list reads only those before it. `outside` is a
-/// scope without parameters and locals.
+/// What the variables of a list of definitions stand for, and no others, where each definition reads only those
+/// before it. `outside` is a scope without parameters and locals.
 pub fn opened(
     table: &mut Table,
     lookups: &Lookups,
     classes: &[Class],
     outside: &ScopeTable,
     definitions: &[Definition],
-) -> Result<Meanings, NoMemory>
+) -> Result<Numbers, NoMemory>
     requires declared { declared_by lookups.now ≡ declared_in (source_of classes.now) }
     requires outside { (x : List ℕ) → (scope_by outside.now).local x ≡ None }
     requires definitions { AreDefinitions (source_of classes.now) definitions.now }
     requires ordered { AreInOrder (source_of classes.now) definitions.now }
-    requires few { length definitions.now ≤ all_variables (source_of classes.now) }
+    requires few { length definitions.now ≤ all_definitions (source_of classes.now) }
     ensures held { IfOk result (λ made. AreHeld (nodes table.new) made) }
+    ensures only { IfOk result (λ made. (c : ℕ) (x : List ℕ) (n : ℕ) → number_in made c x ≡ Some n → IsAmong definitions.now c x) }
     ensures means { IfOk result (λ made. AreMeant (source_of classes.now) (nodes table.new) made definitions.now) }
     ensures grows { Extends table.old table.new }
 {
     let alloc = table.alloc();
-    let mut made = no_meanings(alloc, classes.len())?;
+    let mut made = Numbers::none(alloc, classes.len())?;
     for definition in definitions {
         let context = Context {
             lookups,
@@ -77,9 +79,8 @@ pub fn opened(
             meanings: &made,
         };
         let node = open_next(table, &context, outside, definition)?;
-        put(
+        made.put(
             alloc,
-            &mut made,
             definition.class,
             definition.word.text.text(),
             node,

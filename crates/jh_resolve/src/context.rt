@@ -1,43 +1,13 @@
 ghost use Rattle.std.specs.Prelude.{◌≡◌, IfOk, Some, slice_get};
 ghost use Rattle.jh_table.specs.Growth.{Extends};
 ghost use Rattle.jh_table.specs.Nodes.{nodes};
-ghost use Rattle.jh_resolve.specs.Meant.{node_of, meaning_in, AreHeld};
+ghost use Rattle.jh_resolve.specs.Meant.{meaning_in, AreHeld};
 
-use indexmap::IndexMap;
 use jh_ast::{Class, Word};
 use jh_exprs::{Lookups, ScopeTable};
 use jh_name::{Kind, NoMemory};
+use jh_numbers::Numbers;
 use jh_table::{Shape, Table};
-
-/// The nodes of what defined variables stand for, by the name of the variable in its class.
-#[derive(Drop)]
-pub struct Meanings {
-    pub nodes: Vec<IndexMap<String, usize>>,
-}
-
-impl Meanings {
-    /// The node of what a variable stands for, where it is known.
-    pub fn node(&self, class: usize, text: &str) -> Option<usize>
-        ensures { result ≡ node_of self.now class text.now }
-    {
-        match self.nodes.get(class) {
-            None => None,
-            Some(nodes) => nodes.get(text).copied(),
-        }
-    }
-
-    /// The node of what a variable stands for, which is null where nothing is known.
-    pub fn meaning(&self, table: &mut Table, class: usize, text: &str) -> Result<usize, NoMemory>
-        requires held { AreHeld (nodes table.old) self.now }
-        ensures node { IfOk result (λ made. slice_get (nodes table.new) made ≡ Some (meaning_in (nodes table.new) self.now class text.now)) }
-        ensures grows { Extends table.old table.new }
-    {
-        match self.node(class, text) {
-            None => table.make(Shape::Null),
-            Some(node) => Ok(node),
-        }
-    }
-}
 
 /// What the names of formulas are resolved by: what the program declares, its classes, and what its defined
 /// variables stand for.
@@ -45,7 +15,21 @@ impl Meanings {
 pub struct Context<'a> {
     pub lookups: &'a Lookups,
     pub classes: &'a [Class],
-    pub meanings: &'a Meanings,
+    pub meanings: &'a Numbers,
+}
+
+impl Context<'_> {
+    /// The node of what a defined variable stands for, which is null where nothing is known.
+    pub fn meaning(&self, table: &mut Table, class: usize, text: &str) -> Result<usize, NoMemory>
+        requires held { AreHeld (nodes table.old) self.now.meanings.now }
+        ensures node { IfOk result (λ made. slice_get (nodes table.new) made ≡ Some (meaning_in (nodes table.new) self.now.meanings.now class text.now)) }
+        ensures grows { Extends table.old table.new }
+    {
+        match self.meanings.number(class, text) {
+            None => table.make(Shape::Null),
+            Some(node) => Ok(node),
+        }
+    }
 }
 
 /// Where a formula stands: the class, the parameters and locals in scope, the kind of `result`, the bound

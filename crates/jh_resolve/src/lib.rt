@@ -11,6 +11,6 @@ mod own;
 mod resolving;
 mod values;
 
-pub use context::{Context, Meanings, Spot};
+pub use context::{Context, Spot};
 pub use own::own_name;
 pub use resolving::{resolved, under};

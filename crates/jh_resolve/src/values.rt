@@ -35,7 +35,7 @@ fn static_value(
     ensures grows { Extends table.old table.new }
 {
     if state.is_defined {
-        context.meanings.meaning(table, state.class, own)
+        context.meaning(table, state.class, own)
     } else {
         let name = state_name(table.alloc(), context, state.class, own)?;
         free(table, kind_of_state(state), &name)
@@ -56,7 +56,7 @@ fn defined_member(
     ensures node { IfOk result (λ made. slice_get (nodes table.new) made ≡ Some (member_in (nodes table.new) context.now state own.now (the_object (slice_get (nodes table.old) receiver)))) }
     ensures grows { Extends table.old table.new }
 {
-    let defined = context.meanings.meaning(table, state.class, own)?;
+    let defined = context.meaning(table, state.class, own)?;
     received(table, defined, receiver)
 }
 

@@ -2,16 +2,16 @@ use Rattle.std.proofs.Common.{◌≡◌, subst, ◌∙◌, ◌⊎◌, ℕ, List,
 use Rattle.std.proofs.lemmas.Option.{slice_get_within}
 use Rattle.jh_table.specs.Nodes.{nodes}
 use Rattle.jh_table.proofs.Listed.{extends-trans}
-use Rattle.jh_resolve.specs.Meant.{node_of}
+use Rattle.jh_numbers.specs.Numbering.{number_in}
 use Rattle.jh_open.specs.Opening.{source_of}
-use Rattle.jh_open.proofs.Puttings.{item-is}
-use Rattle.jh_open.proofs.Steps.{value-meant, class-inside, below-grows, meant-more, held-more, text}
+use Rattle.jh_numbers.proofs.Puttings.{item-is}
+use Rattle.jh_open.proofs.Steps.{value-meant, class-inside, below-grows, meant-more, held-more, only-more, only-none, text}
 use Rattle.jh_open.proofs.opening.opened.Goals as goal
 
 -- src/opening.rt
 pub put-requires : goal.put-requires
 put-requires c =
-    class-inside c.args.classes.now c.args.definitions.now c.loop-definition.definition-index c.definition-item.result (length c.loop-definition.made.nodes.items) c.requires.definitions
+    class-inside c.args.classes.now c.args.definitions.now c.loop-definition.definition-index c.definition-item.result (length c.loop-definition.made.maps.items) c.requires.definitions
     (item-is c.args.definitions.now c.loop-definition.definition-index c.definition-item.result c.loop-definition-test.true c.definition-item.is) c.loop-definition.invariant.count
 
 -- src/opening.rt
@@ -23,17 +23,18 @@ loop-definition-preserved c =
     let k = c.loop-definition.definition-index in
     let d = c.definition-item.result in
     let old = c.loop-definition.made in
-    let new = c.put.new.meanings in
+    let new = c.put.new.self in
     let l = c.loop-definition.table in
     let n = c.open_next.new.table in
     let at : slice_get ds k ≡ Some d = item-is ds k d c.loop-definition-test.true c.definition-item.is in
     let below = below-grows p l n old ds k c.in_ok-node.ensures.grows c.loop-definition.invariant.held c.loop-definition.invariant.known in
     let is = value-meant cs c.args.lookups.now old ds c.requires.definitions c.requires.ordered c.requires.few c.requires.declared (nodes n) k d at below in
-    let noted : node_of new d.class (text d) ≡ Some c.in_ok-node.node = subst (λ (x : List ℕ). node_of new d.class x ≡ Some c.in_ok-node.node) c.text.ensures c.in_ok-put.ensures.noted in
-    let others = subst (λ (x : List ℕ). (e : ℕ) (y : List ℕ) → ((e ≡ d.class) × (y ≡ x)) ⊎ (node_of new e y ≡ node_of old e y)) c.text.ensures c.in_ok-put.ensures.others in
+    let noted : number_in new d.class (text d) ≡ Some c.in_ok-node.node = subst (λ (x : List ℕ). number_in new d.class x ≡ Some c.in_ok-node.node) c.text.ensures c.in_ok-put.ensures.noted in
+    let others = subst (λ (x : List ℕ). (e : ℕ) (y : List ℕ) → ((e ≡ d.class) × (y ≡ x)) ⊎ (number_in new e y ≡ number_in old e y)) c.text.ensures c.in_ok-put.ensures.others in
     record {
       grows = extends-trans c.args.table.now l n c.loop-definition.invariant.grows c.in_ok-node.ensures.grows;
       held = held-more p ds old new l n c.in_ok-node.ensures.grows c.loop-definition.invariant.held k c.in_ok-node.node d at _ c.in_ok-node.ensures.node is noted others;
+      only = only-more ds old new k d at others c.loop-definition.invariant.only;
       count = c.in_ok-put.ensures.classes ∙ c.loop-definition.invariant.count;
       known = meant-more p ds old new l n c.in_ok-node.ensures.grows c.loop-definition.invariant.held k c.in_ok-node.node d at _ c.in_ok-node.ensures.node is noted others c.loop-definition.invariant.known;
     }

@@ -4,7 +4,7 @@ use Rattle.jh_tree.specs.Tree.{of_object, null}
 use Rattle.jh_table.specs.Nodes.{nodes, fits, shape_tree}
 use Rattle.jh_resolve.specs.Meant.{meaning_in}
 use Rattle.jh_resolve.proofs.Meant.{none-meant, some-meant}
-use Rattle.jh_resolve.proofs.context.Meanings.meaning.Goals as goal
+use Rattle.jh_resolve.proofs.context.Context.meaning.Goals as goal
 
 pub make-requires : goal.make-requires
 unfolding fits
@@ -16,9 +16,9 @@ returns-in-None-clause-node c =
     IfOk-weaker
     c.make.result
     (λ made. slice_get (nodes c.make.new.self) made ≡ Some (of_object null))
-    (λ made. slice_get (nodes c.make.new.self) made ≡ Some (meaning_in (nodes c.make.new.self) c.args.self.now c.args.class c.args.text.now))
-    (λ made e. e ∙ ap Some (none-meant (nodes c.make.new.self) c.args.self.now c.args.class c.args.text.now (sym c.in-None.is ∙ c.node.ensures)))
+    (λ made. slice_get (nodes c.make.new.self) made ≡ Some (meaning_in (nodes c.make.new.self) c.args.self.now.meanings.now c.args.class c.args.text.now))
+    (λ made e. e ∙ ap Some (none-meant (nodes c.make.new.self) c.args.self.now.meanings.now c.args.class c.args.text.now (sym c.in-None.is ∙ c.number.ensures)))
     c.make.ensures.node
 
 pub returns-in-Some-clause-node : goal.returns-in-Some-clause-node
-returns-in-Some-clause-node c = some-meant (nodes c.args.table.now) c.args.self.now c.args.class c.args.text.now c.in-Some.node c.requires.held (sym c.in-Some.is ∙ c.node.ensures)
+returns-in-Some-clause-node c = some-meant (nodes c.args.table.now) c.args.self.now.meanings.now c.args.class c.args.text.now c.in-Some.node c.requires.held (sym c.in-Some.is ∙ c.number.ensures)
