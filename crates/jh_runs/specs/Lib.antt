@@ -1,0 +1,15 @@
+pub mod Code
+pub mod Program
+pub mod State
+pub mod Values
+pub mod Locals
+pub mod WellFormed
+pub mod Progress
+pub mod Objects
+pub mod Execution
+pub mod Entry
+pub mod Frame
+pub mod Sound
+pub mod Lowered
+pub mod LoweredStmts
+pub mod LoweredProgram
