@@ -13,3 +13,4 @@ pub mod Sound
 pub mod Lowered
 pub mod LoweredStmts
 pub mod LoweredProgram
+pub mod Laws

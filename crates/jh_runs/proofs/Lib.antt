@@ -1,0 +1,5 @@
+pub mod Keeping
+mod Steps
+mod Bounds
+mod Inside
+mod Whole
