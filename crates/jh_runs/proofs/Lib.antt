@@ -3,3 +3,5 @@ mod Steps
 mod Bounds
 mod Inside
 mod Whole
+mod Cases
+mod Sources
