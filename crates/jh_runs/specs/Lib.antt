@@ -14,3 +14,4 @@ pub mod Lowered
 pub mod LoweredStmts
 pub mod LoweredProgram
 pub mod Laws
+pub mod Typed

@@ -1,0 +1,229 @@
+-- What the type rules give of code, as far as runs hang on it: each object that is stored, passed or returned fits its target, the
+-- receiver of what is written is of the class with that field, and ghost assignments write ghost variables. Numbers and truths need
+-- nothing, since each lies in its type. Nobody has to believe this notion: it is one for proofs that runs keep states well formed.
+use Rattle.std.specs.Prelude.{◌≡◌, ℕ, nat_lt, ◌<◌, length, ◌⊎◌, ◌&&◌, slice_get, Bool, true, false, List, [], ◌∷◌, ◌++◌, Option, None, Some, codes}
+use Rattle.std.specs.List.{Contains, list_any}
+use Rattle.jh_name.specs.declared.place.Kind.TheVariants as k
+use Rattle.jh_name.specs.declared.place.Place.{Place}
+use Rattle.jh_tree.specs.Tree.{ValueTree, TermTree}
+use Rattle.jh_tree.specs.Tree as t
+use Rattle.jh_tree.specs.Closed.{is_closed_value}
+use Rattle.jh_tree.specs.Passing.{value_passes}
+use Rattle.jh_tree.specs.Sorts.{tree_sort}
+use Rattle.jh_rules.specs.declared.types.Ty.{Ty}
+use Rattle.jh_rules.specs.declared.types.Ty.TheVariants as ty
+use Rattle.jh_rules.specs.Kinds.{fits, kind_of}
+use Rattle.jh_rules.specs.Words.{same_text}
+use Rattle.jh_vars.specs.Written.{Callee}
+use Rattle.jh_runs.specs.Code.{Text, ObjectCode, NumberCode, TruthCode, AnyCode, Local, Target, Claim, Stmt, Stmts}
+use Rattle.jh_runs.specs.Code as c
+use Rattle.jh_runs.specs.Program.{Program, Method, Member, class_at}
+use Rattle.jh_runs.specs.Locals.{has_dot}
+use Rattle.jh_runs.specs.WellFormed.{all_classes}
+use Rattle.jh_state.specs.States.{sort_of}
+
+-- where code stands: the class of `this`, the parameters, and the locals in scope
+pub record Surroundings : Type 0 where
+  pub this : Option ℕ
+  pub params : List Local
+  pub locals : List Local
+
+-- a value has no loose bound variables, and speaks of what is now and what was at entry alone
+pub record IsOfStates (v : ValueTree) : Type 0 where
+  pub closed : is_closed_value v 0 ≡ true
+  pub turns : value_passes v (λ x sort. nat_lt x.turn 2) ≡ true
+
+abbrev pub AreOfStates : List Claim → Type 0
+AreOfStates [] = Unit {0}
+AreOfStates (claim ∷ more) = IsOfStates (t.of_truth claim.formula) × AreOfStates more
+
+-- whether there is a parameter or local of that text
+abbrev pub is_among : Text → List Local → Bool
+is_among x locals = list_any (λ (y : Local). same_text y.text x) locals
+
+-- the text of a parameter or local: no state has such a name, nor is it `this` or one that is in scope
+pub record MayDeclare (at : Surroundings) (x : Text) : Type 0 where
+  pub no_state : has_dot x ≡ false
+  pub not_this : same_text x (codes "this") ≡ false
+  pub is_new : is_among x (at.params ++ at.locals) ≡ false
+
+module _ (p : Program) where
+  -- a field or static of the code, of a type
+  pub record IsMember (x : Member) (is_static : Bool) (type : Ty) : Type 0 where
+    pub stands : Contains p.members x
+    pub sort : x.is_static ≡ is_static
+    pub has : x.type ≡ Some type
+
+  -- a ghost variable
+  pub record IsGhost (x : Member) (is_static : Bool) : Type 0 where
+    pub stands : Contains p.members x
+    pub sort : x.is_static ≡ is_static
+    pub has : x.type ≡ None
+
+  -- what a text names in code: a parameter or local in scope, or a static
+  pub data Named (at : Surroundings) : Text → Ty → Type 0 where
+    as_local : (x : Local) → Contains (at.params ++ at.locals) x → Named at x.text x.type
+    as_static : (x : Member) (type : Ty) → IsMember x true type → Named at x.text type
+
+  -- an expression has objects of a type
+  pub data ObjectHas (at : Surroundings) : ObjectCode → Ty → Type 0 where
+    of_null : ObjectHas at c.null ty.Null
+    of_this : (n : ℕ) → at.this ≡ Some n → ObjectHas at c.this (ty.Class n)
+    of_name : (x : Text) (type : Ty) → Named at x type → kind_of type ≡ k.Obj → ObjectHas at (c.object x) type
+    of_read : (x : Member) (type : Ty) → IsMember x false type → kind_of type ≡ k.Obj → (r : ObjectCode) (place : Place) (n : ℕ) → ObjectHas at r (ty.Class n) → class_at p.classes n ≡ x.class → ObjectHas at (c.read_object x.text r place) type
+
+  -- an expression has values of a type
+  abbrev pub Has : Surroundings → AnyCode → Ty → Type 0
+  Has at (c.an_object a) type = ObjectHas at a type
+  Has at (c.a_number a) type = type ≡ ty.Int
+  Has at (c.a_truth a) type = type ≡ ty.Boolean
+
+  -- and they fit a type
+  pub record Fits (at : Surroundings) (a : AnyCode) (target : Ty) : Type 0 where
+    pub type : Ty
+    pub has : Has at a type
+    pub fit : fits type target ≡ true
+
+  abbrev pub AllFit : Surroundings → List AnyCode → List Local → Type 0
+  AllFit at [] [] = Unit {0}
+  AllFit at (a ∷ rest) (x ∷ xs) = Fits at a x.type × AllFit at rest xs
+  AllFit at _ _ = ⊥
+
+  -- what a value of a type may be assigned to: a parameter is never assigned
+  pub data Takes (at : Surroundings) : Target → Ty → Type 0 where
+    new_local : (x : Local) → MayDeclare at x.text → Takes at (c.to_new x) x.type
+    old_local : (x : Local) → Contains at.locals x → Takes at (c.to_name x.text) x.type
+    a_static : (x : Member) (type : Ty) → IsMember x true type → Takes at (c.to_name x.text) type
+    a_field : (x : Member) (type : Ty) → IsMember x false type → (r : ObjectCode) (place : Place) (n : ℕ) → ObjectHas at r (ty.Class n) → class_at p.classes n ≡ x.class → Takes at (c.to_field x.text r place) type
+
+  pub record TakesFit (at : Surroundings) (target : Target) (value : Ty) : Type 0 where
+    pub type : Ty
+    pub takes : Takes at target type
+    pub fit : fits value type ≡ true
+
+  -- the type of a class by its text; `Object` is that of the plain objects
+  pub data TypeOf : Text → Ty → Type 0 where
+    plain_objects : TypeOf (codes "Object") ty.Object
+    objects_of : (n : ℕ) → n < length p.classes → TypeOf (class_at p.classes n) (ty.Class n)
+
+  -- a call has its receiver where it is one of an instance method
+  abbrev pub ReceiverFits : Surroundings → Option ObjectCode → Option ℕ → Type 0
+  ReceiverFits at None None = Unit {0}
+  ReceiverFits at (Some r) (Some n) = ObjectHas at r (ty.Class n)
+  ReceiverFits at _ _ = ⊥
+
+  -- the result of a call goes nowhere or fits
+  abbrev pub ResultFits : Surroundings → Target → Ty → Type 0
+  ResultFits at c.nowhere type = Unit {0}
+  ResultFits at target type = TakesFit at target type
+
+  pub record CallFits (at : Surroundings) (target : Target) (receiver : Option ObjectCode) (m : Callee) (args : List AnyCode) : Type 0 where
+    pub method : Method
+    pub is : p.method m ≡ Some method
+    pub receiver_fits : ReceiverFits at receiver method.this
+    pub args_fit : AllFit at args method.params
+    pub result_fits : ResultFits at target method.result
+
+  pub record AssignFits (at : Surroundings) (target : Target) (a : AnyCode) : Type 0 where
+    pub type : Ty
+    pub has : Has at a type
+    pub fit : TakesFit at target type
+
+  pub record NewFits (at : Surroundings) (target : Target) (class : Text) : Type 0 where
+    pub type : Ty
+    pub is : TypeOf class type
+    pub fit : TakesFit at target type
+
+  -- the left side of a ghost assignment is a ghost variable of the kind of the right side
+  pub record GhostFits (is_static : Bool) (x : Text) (v : ValueTree) (y : Member) : Type 0 where
+    pub ghost : IsGhost y is_static
+    pub text : y.text ≡ x
+    pub kind : tree_sort v ≡ sort_of y.kind
+    pub states : IsOfStates v
+
+  -- and one of an object, with its class
+  pub record GhostFieldFits (class : Text) (x : Text) (a : TermTree) (v : ValueTree) (y : Member) : Type 0 where
+    pub fits : GhostFits false x v y
+    pub of_class : y.class ≡ class
+    pub receiver : IsOfStates (t.of_object a)
+
+  -- what is in scope behind a statement
+  abbrev pub declaring : Surroundings → Target → Surroundings
+  declaring at (c.to_new x) = record at { locals = x ∷ at.locals }
+  declaring at _ = at
+
+  abbrev pub scope_behind : Surroundings → Stmt → Surroundings
+  scope_behind at (c.assign target a) = declaring at target
+  scope_behind at (c.new_object q target class) = declaring at target
+  scope_behind at (c.call q target r place m args) = declaring at target
+  scope_behind at _ = at
+
+  module _ (result : Ty) where
+    abbrev mutual
+      pub StmtFits : Stmt → Surroundings → Type 0
+      StmtFits c.empty at = Unit {0}
+      StmtFits (c.block body) at = StmtsFit body at
+      StmtFits (c.assign target a) at = AssignFits at target a
+      StmtFits (c.new_object q target class) at = NewFits at target class
+      StmtFits (c.call q target receiver place m args) at = CallFits at target receiver m args
+      StmtFits (c.branch q e a b) at = StmtFits a at × StmtsFit b at
+      StmtFits (c.loop q invariants e body) at = AreOfStates invariants × StmtFits body at
+      StmtFits c.return_nothing at = result ≡ ty.Void
+      StmtFits (c.return_value a) at = Fits at a result
+      StmtFits (c.assert claim) at = IsOfStates (t.of_truth claim.formula)
+      StmtFits (c.note claim) at = IsOfStates (t.of_truth claim.formula)
+      StmtFits (c.ghost x v) at = (y : Member) × GhostFits true x v y
+      StmtFits (c.ghost_at q class f a v) at = (y : Member) × GhostFieldFits class f a v y
+
+      pub StmtsFit : Stmts → Surroundings → Type 0
+      StmtsFit c.none at = Unit {0}
+      StmtsFit (c.more s ss) at = StmtFits s at × StmtsFit ss (scope_behind at s)
+
+-- whether a statement always returns
+abbrev mutual
+  pub is_closed : Stmt → Bool
+  is_closed (c.block body) = ends_closed body
+  is_closed (c.branch q e a b) = is_closed a && is_closed_part b
+  is_closed c.return_nothing = true
+  is_closed (c.return_value a) = true
+  is_closed _ = false
+
+  -- whether the last of a list is closed
+  pub ends_closed : Stmts → Bool
+  ends_closed c.none = false
+  ends_closed (c.more s c.none) = is_closed s
+  ends_closed (c.more s (c.more u ss)) = ends_closed (c.more u ss)
+
+  -- whether there is a second part and it is closed
+  pub is_closed_part : Stmts → Bool
+  is_closed_part c.none = false
+  is_closed_part (c.more s ss) = is_closed s
+
+-- each parameter may be declared where those before it are
+abbrev pub ParamsFit : Option ℕ → List Local → List Local → Type 0
+ParamsFit this before [] = Unit {0}
+ParamsFit this before (x ∷ xs) = MayDeclare (record { this = this; params = before; locals = [] }) x.text × ParamsFit this (before ++ (x ∷ [])) xs
+
+abbrev pub listed : Option Claim → List Claim
+listed None = []
+listed (Some claim) = claim ∷ []
+
+-- A method fits: its body does, and one with a result doesn't end without `return`.
+pub record MethodFits (p : Program) (m : Method) : Type 0 where
+  pub params : ParamsFit m.this [] m.params
+  pub body : StmtsFit p m.result m.body (record { this = m.this; params = m.params; locals = [] })
+  pub end : (m.result ≡ ty.Void) ⊎ (ends_closed m.body ≡ true)
+  pub contract : AreOfStates (listed m.requires ++ listed m.ensures)
+
+-- The names of the state are told apart: the classes from one another, from `alloc` and from `Object`, the members from one another by
+-- their texts, which have a dot.
+pub record NamesFit (p : Program) : Type 0 where
+  pub classes : (n k : ℕ) (x : Text) → slice_get (codes "alloc" ∷ all_classes p.classes) n ≡ Some x → slice_get (codes "alloc" ∷ all_classes p.classes) k ≡ Some x → n ≡ k
+  pub members : (n k : ℕ) (x y : Member) → slice_get p.members n ≡ Some x → slice_get p.members k ≡ Some y → x.text ≡ y.text → n ≡ k
+  pub dots : (x : Member) → Contains p.members x → has_dot x.text ≡ true
+  pub of_class : (x : Member) → Contains p.members x → Contains p.classes x.class
+
+pub record ProgramFits (p : Program) : Type 0 where
+  pub names : NamesFit p
+  pub methods : (m : Callee) (x : Method) → p.method m ≡ Some x → MethodFits p x
+  pub invariants : AreOfStates p.invariants
