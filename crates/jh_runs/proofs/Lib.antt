@@ -5,3 +5,4 @@ mod Inside
 mod Whole
 mod Cases
 mod Sources
+mod Unsound

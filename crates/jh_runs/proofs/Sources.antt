@@ -57,7 +57,7 @@ abbrev method : Word → Bool → JType → List Param → StmtTrees → MethodP
 method w fixed result params body =
     record { name = w; is_public = false; fixed = fixed; result = result; params = params; pre = None; modifies = []; post = None; body = body; end = at 99 1 }
 
-abbrev callee : List ℕ → Callee
+abbrev pub callee : List ℕ → Callee
 callee x = record { class = 0; name = x }
 
 -- class A {
@@ -67,15 +67,18 @@ callee x = record { class = 0; name = x }
 abbrev object : ℕ → ℕ → JType
 object l n = j.Class (word (codes "Object") l n)
 
-abbrev swap : ProgramTree
+abbrev pub swap_part : MethodPart
+swap_part = method (word (codes "swap") 3 15) true j.Void [] (
+    s.more (s.local (at 3 24) (param (word (codes "t") 3 31) (object 3 24)) (Some (s.value (name (codes "a") 3 35))))
+    (s.more (s.assign (at 3 38) (name (codes "a") 3 38) (s.value (name (codes "b") 3 42)))
+    (s.more (s.assign (at 3 45) (name (codes "b") 3 45) (s.value (name (codes "t") 3 49))) s.none)))
+
+abbrev pub swap : ProgramTree
 swap = record {
   classes = record {
     name = word (codes "A") 1 7;
     fields = field (word (codes "a") 2 17) (object 2 10) true ∷ field (word (codes "b") 2 34) (object 2 27) true ∷ [];
-    methods = method (word (codes "swap") 3 15) true j.Void [] (
-        s.more (s.local (at 3 24) (param (word (codes "t") 3 31) (object 3 24)) (Some (s.value (name (codes "a") 3 35))))
-        (s.more (s.assign (at 3 38) (name (codes "a") 3 38) (s.value (name (codes "b") 3 42)))
-        (s.more (s.assign (at 3 45) (name (codes "b") 3 45) (s.value (name (codes "t") 3 49))) s.none))) ∷ [];
+    methods = swap_part ∷ [];
     vars = [];
     defs = [];
     invariants = [];
@@ -99,7 +102,7 @@ unfolding halves first_named class_from def_in front_before rest_behind merged c
 swap-has = refl
 
 -- a is 1 and b is 2
-abbrev two : State
+abbrev pub two : State
 two = record chain { object = λ x. if name_equal x (named (codes "A.a")) then 1 else (if name_equal x (named (codes "A.b")) then 2 else 0) }
 
 abbrev swapped : ℕ → Outcome
@@ -152,7 +155,10 @@ count_body =
 abbrev second_body : StmtTrees
 second_body = s.more (s.return (at 6 26) (Some (e.member (at 6 33) (e.member (at 6 33) (name (codes "Node") 6 33) (word (codes "top") 6 38)) (word (codes "next") 6 42)))) s.none
 
-abbrev nodes : ProgramTree
+abbrev pub second_part : MethodPart
+second_part = method (word (codes "second") 6 15) true (node_type 6 10) [] second_body
+
+abbrev pub nodes : ProgramTree
 nodes = record {
   classes = record {
     name = word (codes "Node") 1 7;
@@ -160,7 +166,7 @@ nodes = record {
     methods =
         method (word (codes "mark") 4 8) false j.Void [] mark_body
         ∷ method (word (codes "count") 5 14) true j.Int (param (word (codes "x") 5 25) (node_type 5 20) ∷ []) count_body
-        ∷ method (word (codes "second") 6 15) true (node_type 6 10) [] second_body ∷ [];
+        ∷ second_part ∷ [];
     vars = record { name = word (codes "seen") 3 28; kind = k.Bool; fixed = false; is_ghost = true; init = None } ∷ [];
     defs = [];
     invariants = [];
