@@ -116,8 +116,8 @@ module _ (f g : Callee → ℕ → List Datum → Configuration → Progress) (f
     same-exec (c.return_value e) u i = refl
     same-exec (c.assert claim) u i = refl
     same-exec (c.note claim) u i = refl
-    same-exec (c.ghost x v) u i = refl
-    same-exec (c.ghost_at p class x a v) u i = refl
+    same-exec (c.ghost x q v) u i = refl
+    same-exec (c.ghost_at p class x a q v) u i = refl
 
     same-all : (ss : Stmts) → SameTo k (exec_all f ss) (exec_all g ss)
     same-all c.none u i = refl

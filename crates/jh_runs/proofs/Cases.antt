@@ -193,7 +193,7 @@ abbrev length_body : Stmts
 length_body =
     c.branch (at 1 1) (c.same_object (c.object (codes "x")) c.null) (c.return_value (c.a_number (c.const (pos 0)))) c.none
     then c.call (at 2 1) (c.to_new (record { text = codes "rest"; type = ty.Int })) None (at 2 12) (callee (codes "n")) (c.an_object (next (c.object (codes "x")) (at 2 14)) ∷ [])
-    then c.return_value (c.a_number (c.add (c.number (codes "rest")) (c.const (pos 1)))) then c.none
+    then c.return_value (c.a_number (c.add (at 3 8) (c.number (codes "rest")) (c.const (pos 1)))) then c.none
 
 abbrev length_from : Datum → ℕ → Outcome
 length_from start steps = run (program (method [] c.none) (method (node (codes "x") ∷ []) length_body)) (callee (codes "n")) chain 0 (start ∷ []) [] steps
@@ -230,7 +230,7 @@ either-is-guarded = refl
 
 -- "x..seen" := "True", of a static and of a local that is null
 abbrev mark_seen : Text → Stmts
-mark_seen x = c.ghost_at (at 1 5) (codes "Node") (codes "Node.seen") (t.free_object (named x)) (t.of_truth t.true_formula) then c.none
+mark_seen x = c.ghost_at (at 1 5) (codes "Node") (codes "Node.seen") (t.free_object (named x)) (at 1 17) (t.of_truth t.true_formula) then c.none
 
 ghost-is-stored : seen_after (run_of (mark_seen (codes "Node.top")) chain 2) 1 ≡ Some true
 unfolding name_equal
@@ -246,7 +246,7 @@ ghost-outside-its-class = refl
 
 -- A set that a ghost variable holds has no members but objects: v := UNIV.
 abbrev all_objects : Stmts
-all_objects = c.ghost (codes "Node.v") (t.of_set t.univ) then c.none
+all_objects = c.ghost (codes "Node.v") (at 1 10) (t.of_set t.univ) then c.none
 
 universe-is-in-it : set_after (run_of all_objects chain 2) (codes "Node.v") 3 ≡ Some true
 unfolding name_equal

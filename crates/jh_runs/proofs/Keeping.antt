@@ -109,8 +109,8 @@ module _ (P : Configuration → Type 0) (R : Configuration → Option Datum → 
       exec-keeps (c.call q target receiver p m args) f r h = f r h
       exec-keeps c.return_nothing f r h = f r h
       exec-keeps (c.return_value e) f r h = f r h
-      exec-keeps (c.ghost x v) f r h = f r h
-      exec-keeps (c.ghost_at p class x a v) f r h = f r h
+      exec-keeps (c.ghost x q v) f r h = f r h
+      exec-keeps (c.ghost_at p class x a q v) f r h = f r h
 
       pub all-keep : (ss : Stmts) → AllSimpleKeep ss → (r : Configuration) → P r → Ends P R (exec_all call ss r)
       all-keep c.none f r h = h

@@ -186,7 +186,7 @@ unfolding halves first_named class_from def_in states_from declared all_declared
 second-is = refl
 
 mark-is : body_of ((program_of nodes).method (callee (codes "mark"))) ≡ Some (
-    c.more (c.ghost_at (at 4 21) (codes "Node") (codes "Node.seen") (t.free_object (named (codes "this"))) (t.of_truth t.true_formula))
+    c.more (c.ghost_at (at 4 21) (codes "Node") (codes "Node.seen") (t.free_object (named (codes "this"))) (at 4 29) (t.of_truth t.true_formula))
     (c.more (c.branch (at 4 39)
     (c.both (c.negation (c.same_object (c.read_object (codes "Node.next") c.this (at 4 43)) c.null)) (c.negation (c.same_object (c.read_object (codes "Node.next") c.this (at 4 59)) c.this)))
     (c.call (at 4 73) c.nowhere (Some (c.read_object (codes "Node.next") c.this (at 4 73))) (at 4 73) (callee (codes "mark")) []) c.none) c.none))

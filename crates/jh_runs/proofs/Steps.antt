@@ -78,8 +78,8 @@ module _ (k : ℕ) where
       simple-left (c.return_value e) = λ r h. pay-left r (λ u. with_value (value_of e u.now) (λ d. returns u (Some d))) h (λ u g. keeps-any (Left k) (LeftWith k) (paid k) (value_of e u.now) (λ d. returns u (Some d)) (λ d. g))
       simple-left (c.assert claim) = tt
       simple-left (c.note claim) = tt
-      simple-left (c.ghost x v) = λ r h. pay-left r (λ u. goes_on_in u (stored u.now x (datum v (shown u.now u.entry) []))) h (λ u g. g)
-      simple-left (c.ghost_at p class f a v) = λ r h.
+      simple-left (c.ghost x q v) = λ r h. pay-left r (λ u. goes_on_in u (stored u.now x (datum v (shown u.now u.entry) []))) h (λ u g. g)
+      simple-left (c.ghost_at p class f a q v) = λ r h.
           pay-left r (λ u. ghost_stored p class f (term_value a (shown u.now u.entry) []) (datum v (shown u.now u.entry) []) u) h (λ u g.
           keeps-if (Left k) (LeftWith k) (paid k) (u.now.set (named class) (term_value a (shown u.now u.entry) []))
           (goes_on_in u (stored_at u.now f (term_value a (shown u.now u.entry) []) (datum v (shown u.now u.entry) []))) _ (λ e. g) tt)

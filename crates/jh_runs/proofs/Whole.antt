@@ -112,10 +112,10 @@ module _ (n : ℕ) where
           keeps-value (Stands n) (StandsWith n) paid (IsInside n) (value_of e u.now) (λ d. returns u (Some d)) (value-lies n e u.now g.now) (λ d i. (g, i)))
       simple-whole (c.assert claim) = tt
       simple-whole (c.note claim) = tt
-      simple-whole (c.ghost x v) = λ r h.
+      simple-whole (c.ghost x q v) = λ r h.
           pay-whole r (λ u. goes_on_in u (stored u.now x (datum v (shown u.now u.entry) []))) h (λ u g.
           goes-on-in u (stored u.now x (datum v (shown u.now u.entry) [])) g (stored-lies n u.now x (datum v (shown u.now u.entry) []) g.now (datum-lies n u.now u.entry g.now g.entry v)))
-      simple-whole (c.ghost_at p class f a v) = λ r h.
+      simple-whole (c.ghost_at p class f a q v) = λ r h.
           pay-whole r (λ u. ghost_stored p class f (term_value a (shown u.now u.entry) []) (datum v (shown u.now u.entry) []) u) h (λ u g.
           let o : ℕ = term_value a (shown u.now u.entry) [] in
           let d : Datum = datum v (shown u.now u.entry) [] in

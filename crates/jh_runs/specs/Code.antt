@@ -12,7 +12,7 @@ abbrev pub Text : Type 0
 Text = List ℕ
 
 -- Expressions by the type of their values. `object`, `number` and `truth` are a parameter, a local or a static. A read has its
--- field, its receiver and the place of the receiver's first token.
+-- field, its receiver and the place of the receiver's first token; arithmetic has the place of its own first token.
 mutual
   pub data ObjectCode : Type 0 where
     null : ObjectCode
@@ -24,10 +24,10 @@ mutual
     const : ℤ → NumberCode
     number : Text → NumberCode
     read_number : Text → ObjectCode → Place → NumberCode
-    add : NumberCode → NumberCode → NumberCode
-    sub : NumberCode → NumberCode → NumberCode
-    minus : NumberCode → NumberCode
-    times : ℤ → NumberCode → NumberCode
+    add : Place → NumberCode → NumberCode → NumberCode
+    sub : Place → NumberCode → NumberCode → NumberCode
+    minus : Place → NumberCode → NumberCode
+    times : Place → ℤ → NumberCode → NumberCode
 
   pub data TruthCode : Type 0 where
     literal : Bool → TruthCode
@@ -70,8 +70,8 @@ pub record Claim : Type 0 where
   pub formula : FormulaTree
 
 -- Statements; those of which something is said elsewhere have their place. A call has its own place too, which is that of its
--- receiver where it has one. A new object joins the class of a text. A ghost assignment to a field has the class of the field,
--- and the place of its left side.
+-- receiver where it has one. A new object joins the class of a text. A ghost assignment has the place of its right side; one
+-- to a field has the place of its left side too, and the class of the field.
 mutual
   pub data Stmt : Type 0 where
     empty : Stmt
@@ -85,8 +85,8 @@ mutual
     return_value : AnyCode → Stmt
     assert : Claim → Stmt
     note : Claim → Stmt
-    ghost : Text → ValueTree → Stmt
-    ghost_at : Place → Text → Text → TermTree → ValueTree → Stmt
+    ghost : Text → Place → ValueTree → Stmt
+    ghost_at : Place → Text → Text → TermTree → Place → ValueTree → Stmt
 
   -- the statements of a block; the second part of a branch is one or none
   pub data Stmts : Type 0 where

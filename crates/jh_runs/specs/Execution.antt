@@ -72,8 +72,8 @@ module _ (call : Callee → ℕ → List Datum → Configuration → Progress) w
     exec (c.return_value e) r = pay r (λ r. with_value (value_of e r.now) (λ d. returns r (Some d)))
     exec (c.assert claim) r = pay r (λ r. asked claim r)
     exec (c.note claim) r = pay r (λ r. asked claim r)
-    exec (c.ghost x v) r = pay r (λ r. goes_on_in r (stored r.now x (datum v (shown r.now r.entry) [])))
-    exec (c.ghost_at p class f a v) r = pay r (λ r. ghost_stored p class f (term_value a (shown r.now r.entry) []) (datum v (shown r.now r.entry) []) r)
+    exec (c.ghost x q v) r = pay r (λ r. goes_on_in r (stored r.now x (datum v (shown r.now r.entry) [])))
+    exec (c.ghost_at p class f a q v) r = pay r (λ r. ghost_stored p class f (term_value a (shown r.now r.entry) []) (datum v (shown r.now r.entry) []) r)
 
     pub exec_all : Stmts → Configuration → Progress
     exec_all c.none r = goes_on r

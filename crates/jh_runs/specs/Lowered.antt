@@ -66,24 +66,24 @@ literal (e.minus q a) = option_map neg_ℤ (plain_literal a)
 literal _ = None
 
 -- a product, whose factor is the literal; of two the left one
-abbrev pub product : Option ℤ → Option ℤ → NumberCode → NumberCode → NumberCode
-product (Some z) y a b = c.times z b
-product None (Some z) a b = c.times z a
-product None None a b = a
+abbrev pub product : Place → Option ℤ → Option ℤ → NumberCode → NumberCode → NumberCode
+product q (Some z) y a b = c.times q z b
+product q None (Some z) a b = c.times q z a
+product q None None a b = a
 
--- two operands with an operator between them, each with the number that it is as a literal
-abbrev pub binary_code : Op → Option ℤ → AnyCode → Option ℤ → AnyCode → AnyCode
-binary_code op.Or y a z b = a_truth (c.either (as_truth a) (as_truth b))
-binary_code op.And y a z b = a_truth (c.both (as_truth a) (as_truth b))
-binary_code op.Equal y a z b = a_truth (equal_code a b)
-binary_code op.NotEqual y a z b = a_truth (c.negation (equal_code a b))
-binary_code op.Less y a z b = a_truth (c.less (as_number a) (as_number b))
-binary_code op.LessEq y a z b = a_truth (c.less_equal (as_number a) (as_number b))
-binary_code op.Greater y a z b = a_truth (c.greater (as_number a) (as_number b))
-binary_code op.GreaterEq y a z b = a_truth (c.greater_equal (as_number a) (as_number b))
-binary_code op.Add y a z b = a_number (c.add (as_number a) (as_number b))
-binary_code op.Sub y a z b = a_number (c.sub (as_number a) (as_number b))
-binary_code op.Mul y a z b = a_number (product y z (as_number a) (as_number b))
+-- two operands with an operator between them, at the place of the first token; each with the number that it is as a literal
+abbrev pub binary_code : Place → Op → Option ℤ → AnyCode → Option ℤ → AnyCode → AnyCode
+binary_code q op.Or y a z b = a_truth (c.either (as_truth a) (as_truth b))
+binary_code q op.And y a z b = a_truth (c.both (as_truth a) (as_truth b))
+binary_code q op.Equal y a z b = a_truth (equal_code a b)
+binary_code q op.NotEqual y a z b = a_truth (c.negation (equal_code a b))
+binary_code q op.Less y a z b = a_truth (c.less (as_number a) (as_number b))
+binary_code q op.LessEq y a z b = a_truth (c.less_equal (as_number a) (as_number b))
+binary_code q op.Greater y a z b = a_truth (c.greater (as_number a) (as_number b))
+binary_code q op.GreaterEq y a z b = a_truth (c.greater_equal (as_number a) (as_number b))
+binary_code q op.Add y a z b = a_number (c.add q (as_number a) (as_number b))
+binary_code q op.Sub y a z b = a_number (c.sub q (as_number a) (as_number b))
+binary_code q op.Mul y a z b = a_number (product q y z (as_number a) (as_number b))
 
 -- the kind of a static or field
 abbrev pub field_kind : FieldEntry → Kind
@@ -133,5 +133,5 @@ module _ (p : ProgramTree) where
   expr_code (e.name q w) at = word_code at w
   expr_code (e.member q a w) at = dotted_code at (class_spelled (declared_in p) at a) a (expr_code a at) w
   expr_code (e.negation q a) at = a_truth (c.negation (as_truth (expr_code a at)))
-  expr_code (e.minus q a) at = a_number (c.minus (as_number (expr_code a at)))
-  expr_code (e.binary q o a b) at = binary_code o (literal a) (expr_code a at) (literal b) (expr_code b at)
+  expr_code (e.minus q a) at = a_number (c.minus q (as_number (expr_code a at)))
+  expr_code (e.binary q o a b) at = binary_code q o (literal a) (expr_code a at) (literal b) (expr_code b at)

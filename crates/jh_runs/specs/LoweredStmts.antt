@@ -67,10 +67,10 @@ of_kind k.Set v = t.of_set (as_set v)
 abbrev pub class_before_dot : Text → Text
 class_before_dot x = option_map_or (λ h. h.0) (halves x) []
 
-abbrev pub ghost_code : Place → GhostTarget → ValueTree → Stmt
-ghost_code q (a_name kind x) v = c.ghost x.text (of_kind kind v)
-ghost_code q (a_read kind x a) v = c.ghost_at q (class_before_dot x.text) x.text a (of_kind kind v)
-ghost_code q no_target v = c.empty
+abbrev pub ghost_code : Place → GhostTarget → Place → ValueTree → Stmt
+ghost_code q (a_name kind x) r v = c.ghost x.text r (of_kind kind v)
+ghost_code q (a_read kind x a) r v = c.ghost_at q (class_before_dot x.text) x.text a r (of_kind kind v)
+ghost_code q no_target r v = c.empty
 
 module _ (p : ProgramTree) where
   -- the type that a type word names
@@ -161,7 +161,7 @@ module _ (p : ProgramTree) where
     stmt_code (s.return q r) at = return_code at r
     stmt_code (s.assert q l) at = c.assert (labelled_claim l)
     stmt_code (s.note q l) at = c.note (labelled_claim l)
-    stmt_code (s.ghost q l r) at = ghost_code l.place (ghost_target (spec_value l)) (spec_value r)
+    stmt_code (s.ghost q l r) at = ghost_code l.place (ghost_target (spec_value l)) r.place (spec_value r)
 
     -- each where the declarations before it are in scope
     pub stmts_code : StmtTrees → Scope → Stmts

@@ -172,8 +172,8 @@ module _ (p : Program) where
       StmtFits (c.return_value a) at = Fits at a result
       StmtFits (c.assert claim) at = IsOfStates (t.of_truth claim.formula)
       StmtFits (c.note claim) at = IsOfStates (t.of_truth claim.formula)
-      StmtFits (c.ghost x v) at = (y : Member) × GhostFits true x v y
-      StmtFits (c.ghost_at q class f a v) at = (y : Member) × GhostFieldFits class f a v y
+      StmtFits (c.ghost x q v) at = (y : Member) × GhostFits true x v y
+      StmtFits (c.ghost_at q class f a place v) at = (y : Member) × GhostFieldFits class f a v y
 
       pub StmtsFit : Stmts → Surroundings → Type 0
       StmtsFit c.none at = Unit {0}

@@ -42,10 +42,10 @@ abbrev pub number_of : NumberCode → State → Value ℤ
 number_of (c.const z) s = value z
 number_of (c.number x) s = value (s.number (named x))
 number_of (c.read_number f r p) s = read_at r p (object_of r s) (s.field (named f)).numbers
-number_of (c.add a b) s = both_values (number_of a s) (number_of b s) (λ x y. x +ℤ y)
-number_of (c.sub a b) s = both_values (number_of a s) (number_of b s) (λ x y. x -ℤ y)
-number_of (c.minus a) s = then_value (number_of a s) (λ x. value (neg_ℤ x))
-number_of (c.times z a) s = then_value (number_of a s) (λ x. value (z *ℤ x))
+number_of (c.add q a b) s = both_values (number_of a s) (number_of b s) (λ x y. x +ℤ y)
+number_of (c.sub q a b) s = both_values (number_of a s) (number_of b s) (λ x y. x -ℤ y)
+number_of (c.minus q a) s = then_value (number_of a s) (λ x. value (neg_ℤ x))
+number_of (c.times q z a) s = then_value (number_of a s) (λ x. value (z *ℤ x))
 
 abbrev pub truth_of : TruthCode → State → Value Bool
 truth_of (c.literal b) s = value b
