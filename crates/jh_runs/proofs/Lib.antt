@@ -6,3 +6,4 @@ mod Whole
 mod Cases
 mod Sources
 mod Unsound
+mod HeapCases

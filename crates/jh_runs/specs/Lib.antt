@@ -15,3 +15,4 @@ pub mod LoweredStmts
 pub mod LoweredProgram
 pub mod Laws
 pub mod Typed
+pub mod Heaps
