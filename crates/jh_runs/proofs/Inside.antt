@@ -65,7 +65,7 @@ field-of : (n : ℕ) (f g : Fields) (test : Bool) → FieldLies n f → FieldLie
 field-of n f g true h k = h
 field-of n f g false h k = k
 
-assigned-lies : (n : ℕ) (s : State) (y : Name) (d : Datum) → Lies n s → DatumLies n d → Lies n (assigned s y d)
+pub assigned-lies : (n : ℕ) (s : State) (y : Name) (d : Datum) → Lies n s → DatumLies n d → Lies n (assigned s y d)
 assigned-lies n s y (an_object v) l h = record { last = l.last; object = λ z. object-of n v (s.object z) (name_equal z y) h (l.object z); set = λ z. l.set z; field = λ z. l.field z }
 assigned-lies n s y (a_number v) l h = record { last = l.last; object = λ z. l.object z; set = λ z. l.set z; field = λ z. l.field z }
 assigned-lies n s y (a_truth v) l h = record { last = l.last; object = λ z. l.object z; set = λ z. l.set z; field = λ z. l.field z }

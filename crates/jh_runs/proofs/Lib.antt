@@ -6,4 +6,6 @@ mod Whole
 mod Cases
 mod Sources
 mod Unsound
+mod Growth
+mod HeapsWhole
 mod HeapCases

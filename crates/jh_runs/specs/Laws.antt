@@ -1,14 +1,17 @@
 -- What the definition of runs comes to.
-use Rattle.std.specs.Prelude.{◌≡◌, ◌<◌, ℕ, suc, List, [], ◌∷◌, Option, None, Some}
+use Rattle.std.specs.Prelude.{◌≡◌, ◌<◌, ℕ, suc, true, false, List, [], ◌∷◌, Option, None, Some}
 use Rattle.std.specs.Option.{option_map_or}
-use Rattle.jh_tree.specs.Meaning.{Datum, an_object}
+use Rattle.jh_tree.specs.Meaning.{Datum, an_object, a_set}
 use Rattle.jh_vars.specs.Written.{Callee}
-use Rattle.jh_runs.specs.Code.{TruthCode, Stmt}
+use Rattle.jh_runs.specs.Code.{Text, TruthCode, Stmt}
 use Rattle.jh_runs.specs.Program.{Program, Method}
-use Rattle.jh_runs.specs.State.{State, IsWhole}
+use Rattle.jh_runs.specs.State.{State, IsWhole, named}
+use Rattle.jh_runs.specs.Locals.{has_dot}
 use Rattle.jh_runs.specs.Values.{truth_of}
 use Rattle.jh_runs.specs.Progress.{Configuration, Progress, goes_on, then_run, pay, with_value, choose, Outcome, returned, stopped}
 use Rattle.jh_runs.specs.Execution.{turns, loop, exec, exec_all, at_entry, calls, call, run}
+use Rattle.jh_runs.specs.Typed.{ProgramFits}
+use Rattle.jh_runs.specs.Heaps.{Heap, IsHeap, state_of}
 
 -- the statement in a run of the program
 abbrev pub runs : Program → Stmt → Configuration → Progress
@@ -54,3 +57,30 @@ abbrev pub RunsStayWhole : Program → Type 0
 RunsStayWhole p =
     (m : Callee) (first : State) (this : ℕ) (args : List Datum) → IsWhole first → this < suc first.last → AreInside first.last args →
     (picks : List ℕ) (k : ℕ) → EndsWhole first.last (run p m first this args picks k)
+
+-- The state that a heap lists is whole.
+abbrev pub HeapsAreWhole : Type 0
+HeapsAreWhole = (p : Program) (h : Heap) → IsHeap p h → IsWhole (state_of p h)
+
+-- no set
+abbrev pub IsPlain : Datum → Type 0
+IsPlain (a_set v) = ⊥
+IsPlain d = Unit {0}
+
+abbrev pub ArePlain : List Datum → Type 0
+ArePlain [] = Unit {0}
+ArePlain (d ∷ ds) = IsPlain d × ArePlain ds
+
+-- a state has all that another has in the sets `alloc` and of the classes, which are those without a dot
+abbrev pub Grew : State → State → Type 0
+Grew first last = (x : Text) → has_dot x ≡ false → (a : ℕ) → first.set (named x) a ≡ true → last.set (named x) a ≡ true
+
+abbrev pub EndsGrown : State → Outcome → Type 0
+EndsGrown first (returned last result) = Grew first last
+EndsGrown first (stopped why) = Unit {0}
+
+-- Runs of a program that the type rules leave only add to `alloc` and to the classes.
+abbrev pub RunsOnlyAdd : Program → Type 0
+RunsOnlyAdd p =
+    ProgramFits p → (m : Callee) (first : State) (this : ℕ) (args : List Datum) → ArePlain args → (picks : List ℕ) (k : ℕ) →
+    EndsGrown first (run p m first this args picks k)

@@ -1,5 +1,5 @@
 ghost use Rattle.jh_runs.specs.Program.{Program};
-ghost use Rattle.jh_runs.specs.Laws.{BoundsEndNoRun, LoopsUnfold, CallsUnfold, RunsStayWhole};
+ghost use Rattle.jh_runs.specs.Laws.{BoundsEndNoRun, LoopsUnfold, CallsUnfold, RunsStayWhole, HeapsAreWhole, RunsOnlyAdd};
 
 /// The bounds on the turns of loops and on the depth of calls, which the definition of runs has, end no run: with
 /// greater ones all runs are the same. It is a law, and does nothing.
@@ -21,4 +21,14 @@ pub fn calls_are_bodies()
 /// ends in such a state, of the same objects. It is a law, and does nothing.
 pub fn runs_stay_whole()
     ensures { (p : Program) → RunsStayWhole p }
+{}
+
+/// The state that a heap lists is one in which nothing but the objects 0 to N is. It is a law, and does nothing.
+pub fn heaps_are_whole()
+    ensures { HeapsAreWhole }
+{}
+
+/// Runs of a program that the type rules leave only add to `alloc` and to the classes. It is a law, and does nothing.
+pub fn runs_only_add()
+    ensures { (p : Program) → RunsOnlyAdd p }
 {}

@@ -4,4 +4,7 @@
 
 mod laws;
 
-pub use laws::{bounds_end_no_run, calls_are_bodies, loops_are_turns, runs_stay_whole};
+pub use laws::{
+    bounds_end_no_run, calls_are_bodies, heaps_are_whole, loops_are_turns, runs_only_add,
+    runs_stay_whole,
+};
