@@ -5,6 +5,7 @@ mod Inside
 mod Whole
 mod Cases
 mod Sources
+mod Constructs
 mod Unsound
 mod Growth
 mod HeapsWhole

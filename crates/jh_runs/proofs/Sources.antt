@@ -38,19 +38,19 @@ use Rattle.jh_runs.specs.LoweredStmts.{stmt_code}
 use Rattle.jh_runs.specs.LoweredProgram.{program_of}
 use Rattle.jh_runs.proofs.Cases.{at, chain, object_after, seen_after, result_after}
 
-abbrev word : List ℕ → ℕ → ℕ → Word
+abbrev pub word : List ℕ → ℕ → ℕ → Word
 word x l n = record { text = record { text = x; turn = 0 }; place = at l n }
 
 abbrev name : List ℕ → ℕ → ℕ → ExprTree
 name x l n = e.name (at l n) (word x l n)
 
-abbrev spec : Place → ℕ → FormTree → SpecPart
+abbrev pub spec : Place → ℕ → FormTree → SpecPart
 spec p n a = record { place = p; number = n; form = a }
 
-abbrev param : Word → JType → Param
+abbrev pub param : Word → JType → Param
 param w x = record { name = w; jtype = x }
 
-abbrev field : Word → JType → Bool → FieldPart
+abbrev pub field : Word → JType → Bool → FieldPart
 field w x fixed = record { name = w; jtype = x; fixed = fixed; init = None }
 
 abbrev method : Word → Bool → JType → List Param → StmtTrees → MethodPart
@@ -85,7 +85,7 @@ swap = record {
   } ∷ [];
 }
 
-abbrev body_of : Option Method → Option Stmts
+abbrev pub body_of : Option Method → Option Stmts
 body_of m = option_map (λ (x : Method). x.body) m
 
 swap-is : body_of ((program_of swap).method (callee (codes "swap"))) ≡ Some (
