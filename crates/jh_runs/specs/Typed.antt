@@ -1,8 +1,8 @@
 -- What the type rules give of code, as far as runs hang on it: each object that is stored, passed or returned fits its target, the
 -- receiver of what is written is of the class with that field, and ghost assignments write ghost variables. Numbers and truths need
 -- nothing, since each lies in its type. Nobody has to believe this notion: it is one for proofs that runs keep states well formed.
-use Rattle.std.specs.Prelude.{◌≡◌, ℕ, nat_lt, ◌<◌, length, ◌⊎◌, ◌&&◌, slice_get, Bool, true, false, List, [], ◌∷◌, ◌++◌, Option, None, Some, codes}
-use Rattle.std.specs.List.{Contains, list_any}
+use Rattle.std.specs.Prelude.{◌≡◌, ℕ, nat_lt, ◌⊎◌, ◌&&◌, slice_get, Bool, true, false, List, [], ◌∷◌, ◌++◌, Option, None, Some, codes}
+use Rattle.std.specs.List.{Contains}
 use Rattle.jh_name.specs.declared.place.Kind.TheVariants as k
 use Rattle.jh_name.specs.declared.place.Place.{Place}
 use Rattle.jh_tree.specs.Tree.{ValueTree, TermTree}
@@ -13,7 +13,6 @@ use Rattle.jh_tree.specs.Sorts.{tree_sort}
 use Rattle.jh_rules.specs.declared.types.Ty.{Ty}
 use Rattle.jh_rules.specs.declared.types.Ty.TheVariants as ty
 use Rattle.jh_rules.specs.Kinds.{fits, kind_of}
-use Rattle.jh_rules.specs.Words.{same_text}
 use Rattle.jh_vars.specs.Written.{Callee}
 use Rattle.jh_runs.specs.Code.{Text, ObjectCode, NumberCode, TruthCode, AnyCode, Local, Target, Claim, Stmt, Stmts}
 use Rattle.jh_runs.specs.Code as c
@@ -37,17 +36,19 @@ abbrev pub AreOfStates : List Claim → Type 0
 AreOfStates [] = Unit {0}
 AreOfStates (claim ∷ more) = IsOfStates (t.of_truth claim.formula) × AreOfStates more
 
--- whether there is a parameter or local of that text
-abbrev pub is_among : Text → List Local → Bool
-is_among x locals = list_any (λ (y : Local). same_text y.text x) locals
-
--- the text of a parameter or local: no state has such a name, nor is it `this` or one that is in scope
-pub record MayDeclare (at : Surroundings) (x : Text) : Type 0 where
-  pub no_state : has_dot x ≡ false
-  pub not_this : same_text x (codes "this") ≡ false
-  pub is_new : is_among x (at.params ++ at.locals) ≡ false
-
 module _ (p : Program) where
+  -- the class of a type is one of the program
+  abbrev pub IsType : Ty → Type 0
+  IsType (ty.Class n) = Contains p.classes (class_at p.classes n)
+  IsType _ = Unit {0}
+
+  -- A parameter or local may be declared: no state has its name, nor is it `this` or one of those in scope.
+  pub record MayDeclare (at : Surroundings) (x : Local) : Type 0 where
+    pub no_state : has_dot x.text ≡ false
+    pub not_this : x.text ≡ codes "this" → ⊥
+    pub is_new : (y : Local) → Contains (at.params ++ at.locals) y → y.text ≡ x.text → ⊥
+    pub type_fits : IsType x.type
+
   -- a field or static of the code, of a type
   pub record IsMember (x : Member) (is_static : Bool) (type : Ty) : Type 0 where
     pub stands : Contains p.members x
@@ -91,7 +92,7 @@ module _ (p : Program) where
 
   -- what a value of a type may be assigned to: a parameter is never assigned
   pub data Takes (at : Surroundings) : Target → Ty → Type 0 where
-    new_local : (x : Local) → MayDeclare at x.text → Takes at (c.to_new x) x.type
+    new_local : (x : Local) → MayDeclare at x → Takes at (c.to_new x) x.type
     old_local : (x : Local) → Contains at.locals x → Takes at (c.to_name x.text) x.type
     a_static : (x : Member) (type : Ty) → IsMember x true type → Takes at (c.to_name x.text) type
     a_field : (x : Member) (type : Ty) → IsMember x false type → (r : ObjectCode) (place : Place) (n : ℕ) → ObjectHas at r (ty.Class n) → class_at p.classes n ≡ x.class → Takes at (c.to_field x.text r place) type
@@ -104,7 +105,7 @@ module _ (p : Program) where
   -- the type of a class by its text; `Object` is that of the plain objects
   pub data TypeOf : Text → Ty → Type 0 where
     plain_objects : TypeOf (codes "Object") ty.Object
-    objects_of : (n : ℕ) → n < length p.classes → TypeOf (class_at p.classes n) (ty.Class n)
+    objects_of : (n : ℕ) → Contains p.classes (class_at p.classes n) → TypeOf (class_at p.classes n) (ty.Class n)
 
   -- a call has its receiver where it is one of an instance method
   abbrev pub ReceiverFits : Surroundings → Option ObjectCode → Option ℕ → Type 0
@@ -200,9 +201,9 @@ abbrev mutual
   is_closed_part (c.more s ss) = is_closed s
 
 -- each parameter may be declared where those before it are
-abbrev pub ParamsFit : Option ℕ → List Local → List Local → Type 0
-ParamsFit this before [] = Unit {0}
-ParamsFit this before (x ∷ xs) = MayDeclare (record { this = this; params = before; locals = [] }) x.text × ParamsFit this (before ++ (x ∷ [])) xs
+abbrev pub ParamsFit : Program → Option ℕ → List Local → List Local → Type 0
+ParamsFit p of_class before [] = Unit {0}
+ParamsFit p of_class before (x ∷ xs) = MayDeclare p (record { this = of_class; params = before; locals = [] }) x × ParamsFit p of_class (before ++ (x ∷ [])) xs
 
 abbrev pub listed : Option Claim → List Claim
 listed None = []
@@ -210,18 +211,23 @@ listed (Some claim) = claim ∷ []
 
 -- A method fits: its body does, and one with a result doesn't end without `return`.
 pub record MethodFits (p : Program) (m : Method) : Type 0 where
-  pub params : ParamsFit m.this [] m.params
+  pub of_class : (n : ℕ) → m.this ≡ Some n → Contains p.classes (class_at p.classes n)
+  pub params : ParamsFit p m.this [] m.params
   pub body : StmtsFit p m.result m.body (record { this = m.this; params = m.params; locals = [] })
   pub end : (m.result ≡ ty.Void) ⊎ (ends_closed m.body ≡ true)
   pub contract : AreOfStates (listed m.requires ++ listed m.ensures)
 
--- The names of the state are told apart: the classes from one another, from `alloc` and from `Object`, the members from one another by
--- their texts, which have a dot.
+-- The names of the state are told apart: no class has a dot in its text or is `alloc`, no two classes have one text, and no two members
+-- have; the text of a member has a dot, its class is one of the program, and its kind is that of its type.
 pub record NamesFit (p : Program) : Type 0 where
-  pub classes : (n k : ℕ) (x : Text) → slice_get (codes "alloc" ∷ all_classes p.classes) n ≡ Some x → slice_get (codes "alloc" ∷ all_classes p.classes) k ≡ Some x → n ≡ k
-  pub members : (n k : ℕ) (x y : Member) → slice_get p.members n ≡ Some x → slice_get p.members k ≡ Some y → x.text ≡ y.text → n ≡ k
+  pub dotless : (c : Text) → Contains (all_classes p.classes) c → has_dot c ≡ false
+  pub not_alloc : (c : Text) → Contains (all_classes p.classes) c → c ≡ codes "alloc" → ⊥
+  pub classes : (n k : ℕ) (c : Text) → slice_get (all_classes p.classes) n ≡ Some c → slice_get (all_classes p.classes) k ≡ Some c → n ≡ k
+  pub members : (x y : Member) → Contains p.members x → Contains p.members y → x.text ≡ y.text → x ≡ y
   pub dots : (x : Member) → Contains p.members x → has_dot x.text ≡ true
   pub of_class : (x : Member) → Contains p.members x → Contains p.classes x.class
+  pub types : (x : Member) (type : Ty) → Contains p.members x → x.type ≡ Some type → IsType p type
+  pub kinds : (x : Member) (type : Ty) → Contains p.members x → x.type ≡ Some type → kind_of type ≡ x.kind
 
 pub record ProgramFits (p : Program) : Type 0 where
   pub names : NamesFit p
