@@ -52,7 +52,7 @@ more-set v w a b false e h = h
 joining-sets : (s : State) (set : Name) (a : ℕ) → Grew s (joining s set a)
 joining-sets s set a x h b i = more-set (s.set set) (s.set (named x)) a b (name_equal (named x) set) (λ e. ap (λ (z : Name). s.set z) (name_equal-true (named x) set e)) i
 
-created-sets : (s : State) (class : Text) (a : ℕ) → Grew s (created s class a)
+pub created-sets : (s : State) (class : Text) (a : ℕ) → Grew s (created s class a)
 created-sets s class a x h b i = joining-sets (joining s alloc_name a) (named class) a x h b (joining-sets s alloc_name a x h b i)
 
 args-sets : (xs : List Local) (ds : List Datum) (s : State) → ArePlain ds → Grew s (with_args xs ds s)

@@ -8,5 +8,6 @@ mod Sources
 mod Constructs
 mod Unsound
 mod Growth
+mod Formed
 mod HeapsWhole
 mod HeapCases
