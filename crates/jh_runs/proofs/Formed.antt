@@ -55,7 +55,7 @@ module _ (p : Program) where
     pub defaults : (x : Member) → Contains p.members x → x.is_static ≡ false → (a : ℕ) → a < suc s.last → s.set (named x.class) a ≡ false → IsDefault s.last x.kind (s.field (named x.text)) a
 
   module _ (names : NamesFit p) where
-    class-of : (c : Text) → Contains p.classes c → IsClass c
+    pub class-of : (c : Text) → Contains p.classes c → IsClass c
     class-of c h = Contains-append_left p.classes (codes "Object" ∷ []) c h
 
     -- types stay where sets grow
@@ -252,7 +252,7 @@ module _ (p : Program) where
             by_test (inr g) = inr (ap (λ (x : Text). s.set (named x) b) q ∙ g)
     class-cases s c d a b i j false e h = inr (sym (created-other s c d a b j (λ q. true≢false (sym (name_equal-same (named d) (named c) (ap named q)) ∙ e))) ∙ h)
 
-    default-lies : (type : Ty) (kind : Kind) (n : ℕ) (f : Fields) (a : ℕ) (u : State) → kind_of type ≡ kind → IsDefault n kind f a → ObjectLies type u (f.objects a)
+    pub default-lies : (type : Ty) (kind : Kind) (n : ℕ) (f : Fields) (a : ℕ) (u : State) → kind_of type ≡ kind → IsDefault n kind f a → ObjectLies type u (f.objects a)
     default-lies type kind n f a u e h = of_kind type (subst (λ (x : Kind). IsDefault n x f a) (sym e) h)
       where
         of_kind : (type : Ty) → IsDefault n (kind_of type) f a → ObjectLies type u (f.objects a)

@@ -9,5 +9,6 @@ mod Constructs
 mod Unsound
 mod Growth
 mod Formed
+mod Typing
 mod HeapsWhole
 mod HeapCases
