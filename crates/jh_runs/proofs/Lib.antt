@@ -10,5 +10,6 @@ mod Unsound
 mod Growth
 mod Formed
 mod Typing
+mod Storing
 mod HeapsWhole
 mod HeapCases
