@@ -1,6 +1,7 @@
 -- Where typed values are stored, a well-formed state stays well formed.
 use Rattle.std.proofs.Common.{◌≡◌, refl, sym, ap, subst, ◌∙◌, ℕ, zero, suc, ◌<◌, ◌⊎◌, inl, inr, Bool, true, false, if◌then◌else◌, List, [], ◌∷◌, ◌++◌, Option, None, Some, codes, arith, slice_index_or, length}
 use Rattle.std.specs.List.{Contains}
+use Rattle.std.specs.Option.{option_map_or}
 use Rattle.std.proofs.lemmas.Bool.{true≢false}
 use Rattle.std.proofs.lemmas.List.Elements.{Contains-append_left, Contains-append_right, Contains-append_cases}
 use Rattle.jh_name.specs.declared.naming.Name.{Name}
@@ -17,7 +18,7 @@ use Rattle.jh_runs.specs.State.{State, named, this_name, stored, stored_at}
 use Rattle.jh_runs.specs.Locals.{has_dot}
 use Rattle.jh_runs.specs.Values.{Value, value, null_at, dereferenced, object_of}
 use Rattle.jh_runs.specs.Objects.{target_of, put}
-use Rattle.jh_runs.specs.Progress.{Configuration, Progress, goes_on_in}
+use Rattle.jh_runs.specs.Progress.{Configuration, Progress, goes_on_in, with_value}
 use Rattle.jh_runs.specs.Typed.{Surroundings, IsType, NamesFit, IsMember, ObjectHas, of_null, of_this, of_name, of_read, MayDeclare, Takes, new_local, old_local, a_static, a_field, declaring}
 use Rattle.jh_runs.specs.Typed as typed
 use Rattle.jh_runs.specs.Laws.{Grew}
@@ -149,3 +150,90 @@ module _ (p : Program) (names : NamesFit p) where
   in-class (c.object x) q class s (suc a) h = not-null s class a h
   in-class (c.read_object f r i) q class s zero h = tt
   in-class (c.read_object f r i) q class s (suc a) h = not-null s class a h
+
+  -- a list with one more
+  only-one : (x y : Local) → Contains (x ∷ []) y → y ≡ x
+  only-one x y h = at_place h.0 h.1 h.2
+    where
+      at_place : (k : ℕ) → k < length (x ∷ []) → slice_index_or (x ∷ []) k y ≡ y → y ≡ x
+      at_place zero l e = sym e
+      at_place (suc k) l e = absurd (beyond l)
+        where
+          beyond : suc k < 1 → ⊥
+          beyond l = omega (l, arith)
+
+  pub split-off : (before : List Local) (x : Local) (after : List Local) (y : Local) → Contains (before ++ (x ∷ after)) y → (y ≡ x) ⊎ Contains (before ++ after) y
+  split-off before x after y h = first (Contains-append_cases before (x ∷ after) y h)
+    where
+      second : Contains (x ∷ []) y ⊎ Contains after y → (y ≡ x) ⊎ Contains (before ++ after) y
+      second (inl i) = inl (only-one x y i)
+      second (inr i) = inr (Contains-append_right before after y i)
+      first : Contains before y ⊎ Contains (x ∷ after) y → (y ≡ x) ⊎ Contains (before ++ after) y
+      first (inl i) = inr (Contains-append_left before after y i)
+      first (inr i) = second (Contains-append_cases (x ∷ []) after y i)
+
+  dot-or-none : {X : Type 0} (x y : Text) → has_dot x ≡ true → has_dot y ≡ false → x ≡ y → X
+  dot-or-none x y h i e = absurd (true≢false (sym h ∙ (ap has_dot e ∙ i)))
+
+  -- where it goes on, the state is well formed and what is in scope lies in its types
+  abbrev pub FormedIn : Surroundings → Configuration → Type 0
+  FormedIn at r = Formed p r.now × ScopeLies p names at r.now
+
+  abbrev Anything : Configuration → Option Datum → Type 0
+  Anything r v = Unit {0}
+
+  some-type : (t u : Ty) → ◌≡◌ {A = Option Ty} (Some t) (Some u) → t ≡ u
+  some-type t u e = ap (λ (x : Option Ty). option_map_or (λ z. z) x ty.Int) e
+
+  new-formed : (at : Surroundings) (x : Local) (d : Datum) (s : State) → MayDeclare p at x → ScopeFits p names at → Formed p s → ScopeLies p names at s → DatumLies p names x.type s d →
+      Formed p (stored s x.text d) × ScopeLies p names (record at { locals = x ∷ at.locals }) (stored s x.text d)
+  new-formed at x d s may fit f l h = (
+      stored-formed s x.text d x.type h f (λ y t i g e q. dot-or-none y.text x.text (names.dots y i) may.no_state q),
+      stored-scope (record at { locals = x ∷ at.locals }) s x.text d x.type h
+        (λ y i. type-of y (split-off at.params x at.locals y i))
+        (λ y i q. old y q (split-off at.params x at.locals y i))
+        (λ n e. l.this n e) (λ q. may.not_this (sym q))
+        (λ y i q. same y q (split-off at.params x at.locals y i)))
+    where
+      type-of : (y : Local) → (y ≡ x) ⊎ Contains (at.params ++ at.locals) y → IsType p y.type
+      type-of y (inl e) = subst (λ (z : Local). IsType p z.type) (sym e) may.type_fits
+      type-of y (inr i) = fit.types y i
+      old : (y : Local) → (y.text ≡ x.text → ⊥) → (y ≡ x) ⊎ Contains (at.params ++ at.locals) y → ObjectLies p y.type s (s.object (named y.text))
+      old y q (inl e) = absurd (q (ap (λ (z : Local). z.text) e))
+      old y q (inr i) = l.locals y i
+      same : (y : Local) → y.text ≡ x.text → (y ≡ x) ⊎ Contains (at.params ++ at.locals) y → y.type ≡ x.type
+      same y q (inl e) = ap (λ (z : Local). z.type) e
+      same y q (inr i) = absurd (may.is_new y i q)
+
+  suits-of : (x : Member) (t : Ty) (s : State) (d : Datum) → x.type ≡ Some t → DatumLies p names t s d → Suits p names x s d
+  suits-of x t s (an_object v) e h = λ u i. subst (λ (z : Ty). ObjectLies p z s v) (some-type t u (sym e ∙ i)) h
+  suits-of x t s (a_number z) e h = tt
+  suits-of x t s (a_truth b) e h = tt
+  suits-of x t s (a_set v) e h = tt
+  suits-of x t s (a_field g) e h = tt
+
+  -- what is in scope lies in its types where other fields are
+  scope-of-field : (at : Surroundings) (s : State) (f : Text) (a : ℕ) (d : Datum) → ScopeFits p names at → ScopeLies p names at s → ScopeLies p names at (stored_at s f a d)
+  scope-of-field at s f a d fit l = record {
+    locals = λ x i. lies-grow p names x.type s (stored_at s f a d) (s.object (named x.text)) (fit.types x i) (λ z n b m. m) (l.locals x i);
+    this = λ n e. l.this n e;
+  }
+
+  pub put-formed : (at : Surroundings) (target : Target) (t : Ty) (a : ℕ) (d : Datum) (r : Configuration) → Takes p at target t → ScopeFits p names at → FormedIn at r → TargetLies target r.now a → DatumLies p names t r.now d →
+      Ends (FormedIn (declaring p at target)) Anything (put target a d r)
+  put-formed at _ _ a d r (new_local x may) fit g l h = new-formed at x d r.now may fit g.0 g.1 h
+  put-formed at _ _ a d r (old_local x i) fit g l h = (
+      stored-formed r.now x.text d x.type h g.0 (λ y t j e m q. dot-or-none y.text x.text (names.dots y j) (fit.no_state x (Contains-append_right at.params at.locals x i)) q),
+      stored-scope at r.now x.text d x.type h fit.types (λ y j q. (g.1).locals y j) (λ n e. (g.1).this n e) (λ q. fit.not_this x (Contains-append_right at.params at.locals x i) (sym q))
+        (λ y j q. fit.one y x j (Contains-append_right at.params at.locals x i) q))
+  put-formed at _ _ a d r (a_static x t m) fit g l h = (
+      stored-formed r.now x.text d t h g.0 (λ y u j e i q. some-type u t (sym i ∙ (ap (λ (z : Member). z.type) (names.members y x j m.stands q) ∙ m.has))),
+      stored-scope at r.now x.text d t h fit.types (λ y j q. (g.1).locals y j) (λ n e. (g.1).this n e) (λ q. dot-or-none x.text (codes "this") (names.dots x m.stands) refl (sym q))
+        (λ y j q. dot-or-none x.text y.text (names.dots x m.stands) (fit.no_state y j) (sym q)))
+  put-formed at _ _ a d r (a_field x t m f q n has e) fit g l h =
+      value-ends (dereferenced f q a) (λ b. goes_on_in r (stored_at r.now x.text b d)) (in-class f q x.class r.now a (l x m.stands refl)) (λ b i.
+      (field-formed p names r.now x b d m.stands m.sort i (suits-of x t r.now d m.has h) g.0, scope-of-field at r.now x.text b d fit g.1))
+    where
+      value-ends : (v : Value ℕ) (next : ℕ → Progress) → IsOf (λ b. r.now.set (named x.class) b ≡ true) v → ((b : ℕ) → r.now.set (named x.class) b ≡ true → Ends (FormedIn at) Anything (next b)) → Ends (FormedIn at) Anything (with_value v next)
+      value-ends (value b) next i k = k b i
+      value-ends (null_at j) next i k = tt
