@@ -211,11 +211,11 @@ module _ (p : Program) where
     text-of : (x y : Text) → named x ≡ named y → x ≡ y
     text-of x y e = ap (λ (z : Name). z.text) e
 
-    created-alloc : (s : State) (c : Text) (a b : ℕ) → IsClass c → (created s c a).set alloc_name b ≡ (s.set alloc_name b || (b == a))
+    pub created-alloc : (s : State) (c : Text) (a b : ℕ) → IsClass c → (created s c a).set alloc_name b ≡ (s.set alloc_name b || (b == a))
     created-alloc s c a b i =
         joining-other (joining s alloc_name a) (named c) alloc_name a b (λ e. names.not_alloc c i (sym (text-of (codes "alloc") c e))) ∙ joining-same s alloc_name a b
 
-    created-class : (s : State) (c : Text) (a b : ℕ) → IsClass c → (created s c a).set (named c) b ≡ (s.set (named c) b || (b == a))
+    pub created-class : (s : State) (c : Text) (a b : ℕ) → IsClass c → (created s c a).set (named c) b ≡ (s.set (named c) b || (b == a))
     created-class s c a b i =
         joining-same (joining s alloc_name a) (named c) a b ∙ ap (λ (t : Bool). t || (b == a)) (joining-other s alloc_name (named c) a b (λ e. names.not_alloc c i (text-of c (codes "alloc") e)))
 
@@ -236,7 +236,7 @@ module _ (p : Program) where
     not-there true b a h = absurd (true≢false h)
     not-there false b a h = refl
 
-    now-there : (v : Bool) (b a : ℕ) → b ≡ a → (v || (b == a)) ≡ true
+    pub now-there : (v : Bool) (b a : ℕ) → b ≡ a → (v || (b == a)) ≡ true
     now-there true b a e = refl
     now-there false b a e = eq-eqb b a e
 

@@ -65,12 +65,12 @@ then-plain : {X : Type 0} (v : Value X) (f : X → Datum) → ((x : X) → IsPla
 then-plain (value x) f h = h x
 then-plain (null_at p) f h = tt
 
-value-plain : (e : AnyCode) (s : State) → IsOf IsPlain (value_of e s)
+pub value-plain : (e : AnyCode) (s : State) → IsOf IsPlain (value_of e s)
 value-plain (c.an_object a) s = then-plain (object_of a s) an_object (λ x. tt)
 value-plain (c.a_number a) s = then-plain (number_of a s) a_number (λ x. tt)
 value-plain (c.a_truth a) s = then-plain (truth_of a s) a_truth (λ x. tt)
 
-abbrev PlainResult : Option Datum → Type 0
+abbrev pub PlainResult : Option Datum → Type 0
 PlainResult None = Unit {0}
 PlainResult (Some d) = IsPlain d
 
@@ -79,13 +79,13 @@ result-plain None h = tt
 result-plain (Some d) h = h
 
 module _ (first : State) where
-  abbrev Grown : Configuration → Type 0
+  abbrev pub Grown : Configuration → Type 0
   Grown r = Grew first r.now
 
-  abbrev GrownWith : Configuration → Option Datum → Type 0
+  abbrev pub GrownWith : Configuration → Option Datum → Type 0
   GrownWith r v = Grew first r.now × PlainResult v
 
-  abbrev Adds : Progress → Type 0
+  abbrev pub Adds : Progress → Type 0
   Adds x = Ends Grown GrownWith x
 
   paid : (r : Configuration) (k : ℕ) → suc k ≡ r.steps → Grown r → Grown (record r { steps = k })
@@ -110,7 +110,7 @@ module _ (first : State) where
   values-add (e ∷ es) s next f =
       keeps-value Grown GrownWith paid IsPlain (value_of e s) (λ d. with_values es s (λ ds. next (d ∷ ds))) (value-plain e s) (λ d i. values-add es s (λ ds. next (d ∷ ds)) (λ ds j. f (d ∷ ds) (i, j)))
 
-  abbrev CallsAdd : (Callee → ℕ → List Datum → Configuration → Progress) → Type 0
+  abbrev pub CallsAdd : (Callee → ℕ → List Datum → Configuration → Progress) → Type 0
   CallsAdd call = (m : Callee) (this : ℕ) (args : List Datum) (r : Configuration) → Grown r → ArePlain args → Adds (call m this args r)
 
   module _ (p : Program) (fits : ProgramFits p) (call : Callee → ℕ → List Datum → Configuration → Progress) (adds : CallsAdd call) (result : Ty) where
@@ -165,7 +165,7 @@ module _ (first : State) where
       all-keep Grown GrownWith paid call y.body (all-add p fits call adds y.result y.body (record { this = y.this; params = y.params; locals = [] }) (fits.methods m y e).body) (at_entry y this args r)
       (λ x g a j. args-sets y.params args _ i x g a (h x g a j))
 
-  calls-add : (p : Program) (fits : ProgramFits p) (depth : ℕ) → CallsAdd (calls depth p)
+  pub calls-add : (p : Program) (fits : ProgramFits p) (depth : ℕ) → CallsAdd (calls depth p)
   calls-add p fits zero m this args r h i = tt
   calls-add p fits (suc depth) m this args r h i =
       keeps-pay Grown GrownWith paid r (λ u. option_map_or (λ (x : Method). exec_all (calls depth p) x.body (at_entry x this args u)) (p.method m) (goes_on u)) h

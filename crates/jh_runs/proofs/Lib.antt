@@ -11,5 +11,6 @@ mod Growth
 mod Formed
 mod Typing
 mod Storing
+mod TypedRuns
 mod HeapsWhole
 mod HeapCases

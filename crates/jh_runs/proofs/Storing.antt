@@ -179,9 +179,6 @@ module _ (p : Program) (names : NamesFit p) where
   abbrev pub FormedIn : Surroundings → Configuration → Type 0
   FormedIn at r = Formed p r.now × ScopeLies p names at r.now
 
-  abbrev Anything : Configuration → Option Datum → Type 0
-  Anything r v = Unit {0}
-
   some-type : (t u : Ty) → ◌≡◌ {A = Option Ty} (Some t) (Some u) → t ≡ u
   some-type t u e = ap (λ (x : Option Ty). option_map_or (λ z. z) x ty.Int) e
 
@@ -219,21 +216,22 @@ module _ (p : Program) (names : NamesFit p) where
     this = λ n e. l.this n e;
   }
 
-  pub put-formed : (at : Surroundings) (target : Target) (t : Ty) (a : ℕ) (d : Datum) (r : Configuration) → Takes p at target t → ScopeFits p names at → FormedIn at r → TargetLies target r.now a → DatumLies p names t r.now d →
-      Ends (FormedIn (declaring p at target)) Anything (put target a d r)
-  put-formed at _ _ a d r (new_local x may) fit g l h = new-formed at x d r.now may fit g.0 g.1 h
-  put-formed at _ _ a d r (old_local x i) fit g l h = (
+  -- (a store never returns from the method, so anything may be asked of a return)
+  pub put-formed : (R : Configuration → Option Datum → Type 0) (at : Surroundings) (target : Target) (t : Ty) (a : ℕ) (d : Datum) (r : Configuration) → Takes p at target t → ScopeFits p names at → FormedIn at r → TargetLies target r.now a → DatumLies p names t r.now d →
+      Ends (FormedIn (declaring p at target)) R (put target a d r)
+  put-formed R at _ _ a d r (new_local x may) fit g l h = new-formed at x d r.now may fit g.0 g.1 h
+  put-formed R at _ _ a d r (old_local x i) fit g l h = (
       stored-formed r.now x.text d x.type h g.0 (λ y t j e m q. dot-or-none y.text x.text (names.dots y j) (fit.no_state x (Contains-append_right at.params at.locals x i)) q),
       stored-scope at r.now x.text d x.type h fit.types (λ y j q. (g.1).locals y j) (λ n e. (g.1).this n e) (λ q. fit.not_this x (Contains-append_right at.params at.locals x i) (sym q))
         (λ y j q. fit.one y x j (Contains-append_right at.params at.locals x i) q))
-  put-formed at _ _ a d r (a_static x t m) fit g l h = (
+  put-formed R at _ _ a d r (a_static x t m) fit g l h = (
       stored-formed r.now x.text d t h g.0 (λ y u j e i q. some-type u t (sym i ∙ (ap (λ (z : Member). z.type) (names.members y x j m.stands q) ∙ m.has))),
       stored-scope at r.now x.text d t h fit.types (λ y j q. (g.1).locals y j) (λ n e. (g.1).this n e) (λ q. dot-or-none x.text (codes "this") (names.dots x m.stands) refl (sym q))
         (λ y j q. dot-or-none x.text y.text (names.dots x m.stands) (fit.no_state y j) (sym q)))
-  put-formed at _ _ a d r (a_field x t m f q n has e) fit g l h =
+  put-formed R at _ _ a d r (a_field x t m f q n has e) fit g l h =
       value-ends (dereferenced f q a) (λ b. goes_on_in r (stored_at r.now x.text b d)) (in-class f q x.class r.now a (l x m.stands refl)) (λ b i.
       (field-formed p names r.now x b d m.stands m.sort i (suits-of x t r.now d m.has h) g.0, scope-of-field at r.now x.text b d fit g.1))
     where
-      value-ends : (v : Value ℕ) (next : ℕ → Progress) → IsOf (λ b. r.now.set (named x.class) b ≡ true) v → ((b : ℕ) → r.now.set (named x.class) b ≡ true → Ends (FormedIn at) Anything (next b)) → Ends (FormedIn at) Anything (with_value v next)
+      value-ends : (v : Value ℕ) (next : ℕ → Progress) → IsOf (λ b. r.now.set (named x.class) b ≡ true) v → ((b : ℕ) → r.now.set (named x.class) b ≡ true → Ends (FormedIn at) R (next b)) → Ends (FormedIn at) R (with_value v next)
       value-ends (value b) next i k = k b i
       value-ends (null_at j) next i k = tt

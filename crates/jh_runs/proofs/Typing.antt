@@ -19,7 +19,7 @@ use Rattle.jh_runs.specs.State.{State, named, this_name, alloc_name, stored, sto
 use Rattle.jh_runs.specs.Locals.{has_dot}
 use Rattle.jh_runs.specs.Values.{Value, value, null_at, then_value, dereferenced, object_of, number_of, truth_of, value_of}
 use Rattle.jh_runs.specs.Typed.{Surroundings, IsType, NamesFit, Named, as_local, as_static, ObjectHas, of_null, of_this, of_name, of_read, IsMember, Has, Fits, MayDeclare}
-use Rattle.jh_runs.specs.Laws.{Grew}
+use Rattle.jh_runs.specs.Laws.{Grew, IsInside}
 use Rattle.jh_runs.proofs.Keeping.{IsOf}
 use Rattle.jh_runs.proofs.Inside.{Lies, Below, object-lies}
 use Rattle.jh_runs.proofs.Formed.{IsClass, ObjectLies, Formed, lies-grow, default-lies, class-of}
@@ -87,12 +87,7 @@ module _ (p : Program) (names : NamesFit p) where
   fits-boolean ty.Object e = absurd (true≢false (sym e))
   fits-boolean (ty.Class m) e = absurd (true≢false (sym e))
 
-  -- an object of the universe
-  abbrev pub ValueBelow : ℕ → Datum → Type 0
-  ValueBelow n (an_object v) = v < suc n
-  ValueBelow n d = Unit {0}
-
-  pub fits-datum : (t u : Ty) (s : State) (d : Datum) → Formed p s → ValueBelow s.last d → IsType p t → fits t u ≡ true → DatumLies t s d → DatumLies u s d
+  pub fits-datum : (t u : Ty) (s : State) (d : Datum) → Formed p s → IsInside s.last d → IsType p t → fits t u ≡ true → DatumLies t s d → DatumLies u s d
   fits-datum t u s (an_object v) f l i e h = fits-object t u s v f l i e h
   fits-datum t u s (a_number z) f l i e h = fits-int u (sym (ap (λ (x : Ty). fits x u) h) ∙ e)
   fits-datum t u s (a_truth b) f l i e h = fits-boolean u (sym (ap (λ (x : Ty). fits x u) h) ∙ e)

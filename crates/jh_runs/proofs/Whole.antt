@@ -35,7 +35,7 @@ module _ (n : ℕ) where
   goes-on-in : (r : Configuration) (s : State) → Stands n r → Lies n s → Whole n (goes_on_in r s)
   goes-on-in r s h l = record { now = l; entry = h.entry }
 
-  put-whole : (target : Target) (a : ℕ) (d : Datum) (r : Configuration) → Stands n r → a < suc n → IsInside n d → Whole n (put target a d r)
+  pub put-whole : (target : Target) (a : ℕ) (d : Datum) (r : Configuration) → Stands n r → a < suc n → IsInside n d → Whole n (put target a d r)
   put-whole c.nowhere a d r h l i = h
   put-whole (c.to_new x) a d r h l i = goes-on-in r (stored r.now x.text d) h (stored-lies n r.now x.text d h.now i)
   put-whole (c.to_name x) a d r h l i = goes-on-in r (stored r.now x d) h (stored-lies n r.now x d h.now i)
@@ -43,7 +43,7 @@ module _ (n : ℕ) where
       keeps-any (Stands n) (StandsWith n) paid (dereferenced e p a) (λ b. goes_on_in r (stored_at r.now f b d)) (λ b.
       goes-on-in r (stored_at r.now f b d) h (stored-at-lies n r.now f b d h.now i))
 
-  target-lies : (target : Target) (s : State) → Lies n s → IsOf (Below n) (target_of target s)
+  pub target-lies : (target : Target) (s : State) → Lies n s → IsOf (Below n) (target_of target s)
   target-lies c.nowhere s l = omega arith
   target-lies (c.to_new x) s l = omega arith
   target-lies (c.to_name x) s l = omega arith
@@ -53,7 +53,7 @@ module _ (n : ℕ) where
   result-lies None h = omega arith
   result-lies (Some d) h = h
 
-  returned-to : (caller r : Configuration) → Stands n caller → Stands n r → Stands n (record r { now = with_locals_of r.now caller.now; entry = caller.entry })
+  pub returned-to : (caller r : Configuration) → Stands n caller → Stands n r → Stands n (record r { now = with_locals_of r.now caller.now; entry = caller.entry })
   returned-to caller r h g = record { now = back-lies n r.now caller.now g.now h.now; entry = h.entry }
 
   back-whole : (caller : Configuration) (target : Target) (a : ℕ) (x : Progress) → Stands n caller → a < suc n → Whole n x → Whole n (back caller target a x)
@@ -61,17 +61,17 @@ module _ (n : ℕ) where
   back-whole caller target a (returns r v) h l g = put-whole target a (result_of v) (record r { now = with_locals_of r.now caller.now; entry = caller.entry }) (returned-to caller r h g.0) l (result-lies v g.1)
   back-whole caller target a (stops why) h l g = tt
 
-  values-whole : (es : List AnyCode) (s : State) (next : List Datum → Progress) → Lies n s → ((ds : List Datum) → AreInside n ds → Whole n (next ds)) → Whole n (with_values es s next)
+  pub values-whole : (es : List AnyCode) (s : State) (next : List Datum → Progress) → Lies n s → ((ds : List Datum) → AreInside n ds → Whole n (next ds)) → Whole n (with_values es s next)
   values-whole [] s next l f = f [] tt
   values-whole (e ∷ es) s next l f =
       keeps-value (Stands n) (StandsWith n) paid (IsInside n) (value_of e s) (λ d. with_values es s (λ ds. next (d ∷ ds))) (value-lies n e s l) (λ d i.
       values-whole es s (λ ds. next (d ∷ ds)) l (λ ds j. f (d ∷ ds) (i, j)))
 
-  receiver-lies : (e : Option ObjectCode) (s : State) → Lies n s → IsOf (Below n) (receiver_of e s)
+  pub receiver-lies : (e : Option ObjectCode) (s : State) → Lies n s → IsOf (Below n) (receiver_of e s)
   receiver-lies None s l = omega arith
   receiver-lies (Some e) s l = object-lies n e s l
 
-  called-lies : (e : Option ObjectCode) (p : Place) (a : ℕ) → a < suc n → IsOf (Below n) (called_on e p a)
+  pub called-lies : (e : Option ObjectCode) (p : Place) (a : ℕ) → a < suc n → IsOf (Below n) (called_on e p a)
   called-lies None p a l = l
   called-lies (Some e) p a l = dereferenced-lies n e p a l
 
@@ -126,7 +126,7 @@ module _ (n : ℕ) where
       all-whole c.none = tt
       all-whole (c.more s ss) = (simple-whole s, all-whole ss)
 
-  entry-stands : (m : Method) (this : ℕ) (args : List Datum) (r : Configuration) → Stands n r → this < suc n → AreInside n args → Stands n (at_entry m this args r)
+  pub entry-stands : (m : Method) (this : ℕ) (args : List Datum) (r : Configuration) → Stands n r → this < suc n → AreInside n args → Stands n (at_entry m this args r)
   entry-stands m this args r h l i = record { now = entered-lies n m this args r.now h.now l i; entry = h.now }
 
   -- the body of a method, where there is one
