@@ -17,9 +17,10 @@ use Rattle.jh_rules.specs.Names.{first_named, class_from, def_in, states_from}
 use Rattle.jh_rules.specs.Scopes.{with_all_declared, declared, all_declared, labels_in, all_labels_in, declare_all}
 use Rattle.jh_rules.specs.Exprs.{expr_type, arguments}
 use Rattle.jh_rules.specs.Formulas.{equations}
-use Rattle.jh_vars.specs.Written.{Callee, front_before, rest_behind, merged}
+use Rattle.jh_vars.specs.Written.{method_in, Callee, front_before, rest_behind, merged}
 use Rattle.jh_vars.specs.Resolved.{own, resolved, union_of, bound_as, field_list, quantified}
-use Rattle.jh_vars.specs.Opened.{meant, uses_this, one_uses_this, in_stmt, in_stmts, in_method, in_class, in_classes, found_in}
+use Rattle.jh_vars.specs.Statements.{inner_statements, all_statements}
+use Rattle.jh_vars.specs.Opened.{meant, uses_this, one_uses_this, in_method, in_class, in_classes, found_in}
 use Rattle.jh_walk.specs.Mapped.{mapped_value, mapped_term}
 use Rattle.jh_state.specs.States.{class_sets, members}
 use Rattle.jh_runs.specs.Code.{Text, ObjectCode, NumberCode, TruthCode, Local, Stmt, Stmts}
@@ -84,7 +85,7 @@ exprs-is : body_of ((program_of each).method (callee (codes "exprs"))) ≡ Some 
     then set_truth (c.negation (c.same_object (c.read_object (codes "A.next") c.this (at 8 84)) (c.read_object (codes "A.o") c.this (at 8 99))))
     then c.return_value (c.a_number (c.read_number (codes "A.k") c.this (at 9 12)))
     then c.none)
-unfolding halves first_named class_from def_in states_from declared all_declared labels_in all_labels_in with_all_declared declare_all equations expr_type arguments front_before rest_behind merged resolved union_of bound_as field_list quantified mapped_value mapped_term meant uses_this one_uses_this in_stmt in_stmts in_method in_class in_classes found_in class_sets members expr_code stmt_code
+unfolding halves first_named class_from def_in method_in states_from declared all_declared labels_in all_labels_in with_all_declared declare_all equations expr_type arguments front_before rest_behind merged resolved union_of bound_as field_list quantified mapped_value mapped_term meant uses_this one_uses_this inner_statements all_statements in_method in_class in_classes found_in class_sets members expr_code stmt_code
 exprs-is = refl
 
 abbrev local : Text → Ty → Local
@@ -119,7 +120,7 @@ targets-is : body_of ((program_of each).method (callee (codes "targets"))) ≡ S
     ∷ record { label = None; place = at 14 65; from = []; formula = t.eq_object (t.free_object (own (codes "x") 0)) t.null } ∷ []) (c.truth (codes "A.b")) (c.block c.none)
     then c.return_nothing
     then c.none)
-unfolding halves first_named class_from def_in states_from declared all_declared labels_in all_labels_in with_all_declared declare_all equations expr_type arguments front_before rest_behind merged resolved union_of bound_as field_list quantified mapped_value mapped_term meant uses_this one_uses_this in_stmt in_stmts in_method in_class in_classes found_in class_sets members expr_code stmt_code
+unfolding halves first_named class_from def_in method_in states_from declared all_declared labels_in all_labels_in with_all_declared declare_all equations expr_type arguments front_before rest_behind merged resolved union_of bound_as field_list quantified mapped_value mapped_term meant uses_this one_uses_this inner_statements all_statements in_method in_class in_classes found_in class_sets members expr_code stmt_code
 targets-is = refl
 
 abbrev next_of_this : TermTree
@@ -142,14 +143,14 @@ run-is : (program_of each).method (callee (codes "run")) ≡ Some (record {
       then c.ghost_at (at 17 109) (codes "A") (codes "A.g") next_of_this (at 17 122) (t.of_object t.null)
       then c.none;
 })
-unfolding halves first_named class_from def_in states_from declared all_declared labels_in all_labels_in with_all_declared declare_all equations expr_type arguments front_before rest_behind merged resolved union_of bound_as field_list quantified mapped_value mapped_term meant uses_this one_uses_this in_stmt in_stmts in_method in_class in_classes found_in class_sets members expr_code stmt_code
+unfolding halves first_named class_from def_in method_in states_from declared all_declared labels_in all_labels_in with_all_declared declare_all equations expr_type arguments front_before rest_behind merged resolved union_of bound_as field_list quantified mapped_value mapped_term meant uses_this one_uses_this inner_statements all_statements in_method in_class in_classes found_in class_sets members expr_code stmt_code
 run-is = refl
 
 -- an invariant that uses `this` speaks of every object of its class
 invariants-are : (program_of each).invariants ≡
     record { label = Some (own (codes "Up") 0); place = at 5 68; from = []; formula = t.less_equal (t.const (pos 0)) (t.free_number (own (codes "A.n") 0)) }
     ∷ record { label = None; place = at 5 88; from = []; formula = t.all (t.implies (t.member (t.bound 0) (t.free_set (own (codes "A") 0))) (t.eq_number (t.read_number (t.free_field (own (codes "A.k") 0)) (t.bound 0)) (t.const (pos 0)))) } ∷ []
-unfolding halves first_named class_from def_in states_from declared all_declared labels_in all_labels_in with_all_declared declare_all equations expr_type arguments front_before rest_behind merged resolved union_of bound_as field_list quantified mapped_value mapped_term meant uses_this one_uses_this in_stmt in_stmts in_method in_class in_classes found_in class_sets members expr_code stmt_code
+unfolding halves first_named class_from def_in method_in states_from declared all_declared labels_in all_labels_in with_all_declared declare_all equations expr_type arguments front_before rest_behind merged resolved union_of bound_as field_list quantified mapped_value mapped_term meant uses_this one_uses_this inner_statements all_statements in_method in_class in_classes found_in class_sets members expr_code stmt_code
 invariants-are = refl
 
 classes-are : (program_of each).classes ≡ codes "A" ∷ codes "B" ∷ []
@@ -168,5 +169,5 @@ members-are : (program_of each).members ≡
     ∷ record { text = codes "A.s"; class = codes "A"; kind = k.Set; is_static = true; type = None }
     ∷ record { text = codes "A.i"; class = codes "A"; kind = k.Int; is_static = false; type = None }
     ∷ record { text = codes "B.m"; class = codes "B"; kind = k.Int; is_static = true; type = Some ty.Int } ∷ []
-unfolding halves first_named class_from def_in states_from declared all_declared labels_in all_labels_in with_all_declared declare_all equations expr_type arguments front_before rest_behind merged resolved union_of bound_as field_list quantified mapped_value mapped_term meant uses_this one_uses_this in_stmt in_stmts in_method in_class in_classes found_in class_sets members expr_code stmt_code
+unfolding halves first_named class_from def_in method_in states_from declared all_declared labels_in all_labels_in with_all_declared declare_all equations expr_type arguments front_before rest_behind merged resolved union_of bound_as field_list quantified mapped_value mapped_term meant uses_this one_uses_this inner_statements all_statements in_method in_class in_classes found_in class_sets members expr_code stmt_code
 members-are = refl

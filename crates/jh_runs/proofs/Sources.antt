@@ -22,9 +22,10 @@ use Rattle.jh_rules.specs.Words.{halves}
 use Rattle.jh_rules.specs.Names.{first_named, class_from, def_in, states_from}
 use Rattle.jh_rules.specs.Scopes.{with_all_declared, declared, all_declared, labels_in, all_labels_in, declare_all}
 use Rattle.jh_rules.specs.Exprs.{expr_type, arguments}
-use Rattle.jh_vars.specs.Written.{Callee, front_before, rest_behind, merged}
+use Rattle.jh_vars.specs.Written.{method_in, Callee, front_before, rest_behind, merged}
 use Rattle.jh_vars.specs.Resolved.{resolved, bound_as}
-use Rattle.jh_vars.specs.Opened.{meant, in_stmt, in_stmts, in_method, in_class, in_classes, found_in}
+use Rattle.jh_vars.specs.Statements.{inner_statements, all_statements}
+use Rattle.jh_vars.specs.Opened.{meant, in_method, in_class, in_classes, found_in}
 use Rattle.jh_walk.specs.Mapped.{mapped_value, mapped_term}
 use Rattle.jh_state.specs.States.{class_sets, members}
 use Rattle.jh_runs.specs.Code.{Text, Stmts}
@@ -177,12 +178,12 @@ nodes-has : (program_of nodes).members ≡
     record { text = codes "Node.top"; class = codes "Node"; kind = k.Obj; is_static = true; type = Some (ty.Class 0) }
     ∷ record { text = codes "Node.next"; class = codes "Node"; kind = k.Obj; is_static = false; type = Some (ty.Class 0) }
     ∷ record { text = codes "Node.seen"; class = codes "Node"; kind = k.Bool; is_static = false; type = None } ∷ []
-unfolding halves first_named class_from def_in states_from declared all_declared labels_in all_labels_in with_all_declared declare_all expr_type arguments front_before rest_behind merged resolved bound_as mapped_value mapped_term meant in_stmt in_stmts in_method in_class in_classes found_in class_sets members expr_code stmt_code name_equal
+unfolding halves first_named class_from def_in method_in states_from declared all_declared labels_in all_labels_in with_all_declared declare_all expr_type arguments front_before rest_behind merged resolved bound_as mapped_value mapped_term meant inner_statements all_statements in_method in_class in_classes found_in class_sets members expr_code stmt_code name_equal
 nodes-has = refl
 
 second-is : body_of ((program_of nodes).method (callee (codes "second"))) ≡ Some (
     c.more (c.return_value (c.an_object (c.read_object (codes "Node.next") (c.object (codes "Node.top")) (at 6 33)))) c.none)
-unfolding halves first_named class_from def_in states_from declared all_declared labels_in all_labels_in with_all_declared declare_all expr_type arguments front_before rest_behind merged resolved bound_as mapped_value mapped_term meant in_stmt in_stmts in_method in_class in_classes found_in class_sets members expr_code stmt_code name_equal
+unfolding halves first_named class_from def_in method_in states_from declared all_declared labels_in all_labels_in with_all_declared declare_all expr_type arguments front_before rest_behind merged resolved bound_as mapped_value mapped_term meant inner_statements all_statements in_method in_class in_classes found_in class_sets members expr_code stmt_code name_equal
 second-is = refl
 
 mark-is : body_of ((program_of nodes).method (callee (codes "mark"))) ≡ Some (
@@ -190,7 +191,7 @@ mark-is : body_of ((program_of nodes).method (callee (codes "mark"))) ≡ Some (
     (c.more (c.branch (at 4 39)
     (c.both (c.negation (c.same_object (c.read_object (codes "Node.next") c.this (at 4 43)) c.null)) (c.negation (c.same_object (c.read_object (codes "Node.next") c.this (at 4 59)) c.this)))
     (c.call (at 4 73) c.nowhere (Some (c.read_object (codes "Node.next") c.this (at 4 73))) (at 4 73) (callee (codes "mark")) []) c.none) c.none))
-unfolding halves first_named class_from def_in states_from declared all_declared labels_in all_labels_in with_all_declared declare_all expr_type arguments front_before rest_behind merged resolved bound_as mapped_value mapped_term meant in_stmt in_stmts in_method in_class in_classes found_in class_sets members expr_code stmt_code name_equal
+unfolding halves first_named class_from def_in method_in states_from declared all_declared labels_in all_labels_in with_all_declared declare_all expr_type arguments front_before rest_behind merged resolved bound_as mapped_value mapped_term meant inner_statements all_statements in_method in_class in_classes found_in class_sets members expr_code stmt_code name_equal
 mark-is = refl
 
 -- the nodes are 1 and 2, and `next` leads from 1 to 2
@@ -198,25 +199,25 @@ abbrev marked : ℕ → Outcome
 marked steps = run (program_of nodes) (callee (codes "mark")) chain 1 [] [] steps
 
 mark-sees-the-second : seen_after (marked 7) 2 ≡ Some true
-unfolding halves first_named class_from def_in states_from declared all_declared labels_in all_labels_in with_all_declared declare_all expr_type arguments front_before rest_behind merged resolved bound_as mapped_value mapped_term meant in_stmt in_stmts in_method in_class in_classes found_in class_sets members expr_code stmt_code name_equal
+unfolding halves first_named class_from def_in method_in states_from declared all_declared labels_in all_labels_in with_all_declared declare_all expr_type arguments front_before rest_behind merged resolved bound_as mapped_value mapped_term meant inner_statements all_statements in_method in_class in_classes found_in class_sets members expr_code stmt_code name_equal
 mark-sees-the-second = refl
 
 mark-sees-the-first : seen_after (marked 7) 1 ≡ Some true
-unfolding halves first_named class_from def_in states_from declared all_declared labels_in all_labels_in with_all_declared declare_all expr_type arguments front_before rest_behind merged resolved bound_as mapped_value mapped_term meant in_stmt in_stmts in_method in_class in_classes found_in class_sets members expr_code stmt_code name_equal
+unfolding halves first_named class_from def_in method_in states_from declared all_declared labels_in all_labels_in with_all_declared declare_all expr_type arguments front_before rest_behind merged resolved bound_as mapped_value mapped_term meant inner_statements all_statements in_method in_class in_classes found_in class_sets members expr_code stmt_code name_equal
 mark-sees-the-first = refl
 
 mark-wants-seven-steps : marked 6 ≡ stopped steps_out
-unfolding halves first_named class_from def_in states_from declared all_declared labels_in all_labels_in with_all_declared declare_all expr_type arguments front_before rest_behind merged resolved bound_as mapped_value mapped_term meant in_stmt in_stmts in_method in_class in_classes found_in class_sets members expr_code stmt_code name_equal
+unfolding halves first_named class_from def_in method_in states_from declared all_declared labels_in all_labels_in with_all_declared declare_all expr_type arguments front_before rest_behind merged resolved bound_as mapped_value mapped_term meant inner_statements all_statements in_method in_class in_classes found_in class_sets members expr_code stmt_code name_equal
 mark-wants-seven-steps = refl
 
 count-is-four : result_after (run (program_of nodes) (callee (codes "count")) chain 0 (an_object 1 ∷ []) [] 13) ≡ Some (Some (a_number (pos 4)))
-unfolding halves first_named class_from def_in states_from declared all_declared labels_in all_labels_in with_all_declared declare_all expr_type arguments front_before rest_behind merged resolved bound_as mapped_value mapped_term meant in_stmt in_stmts in_method in_class in_classes found_in class_sets members expr_code stmt_code name_equal
+unfolding halves first_named class_from def_in method_in states_from declared all_declared labels_in all_labels_in with_all_declared declare_all expr_type arguments front_before rest_behind merged resolved bound_as mapped_value mapped_term meant inner_statements all_statements in_method in_class in_classes found_in class_sets members expr_code stmt_code name_equal
 count-is-four = refl
 
 second-is-two : result_after (run (program_of nodes) (callee (codes "second")) chain 0 [] [] 2) ≡ Some (Some (an_object 2))
-unfolding halves first_named class_from def_in states_from declared all_declared labels_in all_labels_in with_all_declared declare_all expr_type arguments front_before rest_behind merged resolved bound_as mapped_value mapped_term meant in_stmt in_stmts in_method in_class in_classes found_in class_sets members expr_code stmt_code name_equal
+unfolding halves first_named class_from def_in method_in states_from declared all_declared labels_in all_labels_in with_all_declared declare_all expr_type arguments front_before rest_behind merged resolved bound_as mapped_value mapped_term meant inner_statements all_statements in_method in_class in_classes found_in class_sets members expr_code stmt_code name_equal
 second-is-two = refl
 
 second-of-none : run (program_of nodes) (callee (codes "second")) (record chain { object = λ x. 0 }) 0 [] [] 2 ≡ stopped (null_dereferenced (at 6 33))
-unfolding halves first_named class_from def_in states_from declared all_declared labels_in all_labels_in with_all_declared declare_all expr_type arguments front_before rest_behind merged resolved bound_as mapped_value mapped_term meant in_stmt in_stmts in_method in_class in_classes found_in class_sets members expr_code stmt_code name_equal
+unfolding halves first_named class_from def_in method_in states_from declared all_declared labels_in all_labels_in with_all_declared declare_all expr_type arguments front_before rest_behind merged resolved bound_as mapped_value mapped_term meant inner_statements all_statements in_method in_class in_classes found_in class_sets members expr_code stmt_code name_equal
 second-of-none = refl

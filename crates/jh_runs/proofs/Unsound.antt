@@ -13,9 +13,10 @@ use Rattle.jh_rules.specs.Names.{first_named, class_from, def_in, states_from}
 use Rattle.jh_rules.specs.Scopes.{with_all_declared, declared, all_declared, labels_in, all_labels_in, declare_all}
 use Rattle.jh_rules.specs.Exprs.{expr_type, arguments}
 use Rattle.jh_vars.specs.States as States
-use Rattle.jh_vars.specs.Written.{Written, front_before, rest_behind, merged, Names, plainly, through}
+use Rattle.jh_vars.specs.Written.{method_in, Written, front_before, rest_behind, merged, Names, plainly, through}
 use Rattle.jh_vars.specs.Resolved.{resolved, bound_as}
-use Rattle.jh_vars.specs.Opened.{meant, in_stmt, in_stmts, in_method, in_class, in_classes, found_in}
+use Rattle.jh_vars.specs.Statements.{inner_statements, all_statements}
+use Rattle.jh_vars.specs.Opened.{meant, in_method, in_class, in_classes, found_in}
 use Rattle.jh_walk.specs.Mapped.{mapped_value, mapped_term}
 use Rattle.jh_state.specs.States.{class_sets, members}
 use Rattle.jh_runs.specs.Program.{Member}
@@ -57,7 +58,7 @@ abbrev no_top : State
 no_top = record chain { object = λ x. 0 }
 
 second-may-run : Entry (program_of nodes) (method_code nodes 0 second_part) no_top 0 []
-unfolding halves first_named class_from def_in states_from declared all_declared labels_in all_labels_in with_all_declared declare_all expr_type arguments front_before rest_behind merged resolved bound_as mapped_value mapped_term meant in_stmt in_stmts in_method in_class in_classes found_in class_sets members expr_code stmt_code name_equal
+unfolding halves first_named class_from def_in method_in states_from declared all_declared labels_in all_labels_in with_all_declared declare_all expr_type arguments front_before rest_behind merged resolved bound_as mapped_value mapped_term meant inner_statements all_statements in_method in_class in_classes found_in class_sets members expr_code stmt_code name_equal
 second-may-run = record {
   whole = chain-whole (λ x. 0) (λ x. omega arith);
   well_formed = refl;
@@ -68,7 +69,7 @@ second-may-run = record {
 }
 
 nodes-is-unsound : IsSound nodes → ⊥
-unfolding halves first_named class_from def_in states_from declared all_declared labels_in all_labels_in with_all_declared declare_all expr_type arguments front_before rest_behind merged resolved bound_as mapped_value mapped_term meant in_stmt in_stmts in_method in_class in_classes found_in class_sets members expr_code stmt_code name_equal
+unfolding halves first_named class_from def_in method_in states_from declared all_declared labels_in all_labels_in with_all_declared declare_all expr_type arguments front_before rest_behind merged resolved bound_as mapped_value mapped_term meant inner_statements all_statements in_method in_class in_classes found_in class_sets members expr_code stmt_code name_equal
 nodes-is-unsound sound = sound (callee (codes "second")) (method_code nodes 0 second_part) refl no_top 0 [] second-may-run [] 2
 
 -- `swap` changes a, which it doesn't name in `modifies`: of the plain objects 1 and 2 it puts 2 there for 1.
@@ -76,7 +77,7 @@ abbrev plain_two : State
 plain_two = record two { set = λ x a. if name_equal x (named (codes "alloc")) || name_equal x (named (codes "Object")) then ((a == 1) || (a == 2)) else false }
 
 swap-may-run : Entry (program_of swap) (method_code swap 0 swap_part) plain_two 0 []
-unfolding halves first_named class_from def_in states_from declared all_declared labels_in all_labels_in with_all_declared declare_all expr_type arguments front_before rest_behind merged resolved bound_as mapped_value mapped_term meant in_stmt in_stmts in_method in_class in_classes found_in class_sets members expr_code stmt_code name_equal
+unfolding halves first_named class_from def_in method_in states_from declared all_declared labels_in all_labels_in with_all_declared declare_all expr_type arguments front_before rest_behind merged resolved bound_as mapped_value mapped_term meant inner_statements all_statements in_method in_class in_classes found_in class_sets members expr_code stmt_code name_equal
 swap-may-run = record {
   whole = record {
     objects = record {
@@ -95,7 +96,7 @@ swap-may-run = record {
 
 -- in the state of the nodes it may not run: they are no objects of its classes
 swap-wants-its-objects : truth (well_formed (program_of swap) [] None) (shown two two) [] ≡ false
-unfolding halves first_named class_from def_in states_from declared all_declared labels_in all_labels_in with_all_declared declare_all expr_type arguments front_before rest_behind merged resolved bound_as mapped_value mapped_term meant in_stmt in_stmts in_method in_class in_classes found_in class_sets members expr_code stmt_code name_equal
+unfolding halves first_named class_from def_in method_in states_from declared all_declared labels_in all_labels_in with_all_declared declare_all expr_type arguments front_before rest_behind merged resolved bound_as mapped_value mapped_term meant inner_statements all_statements in_method in_class in_classes found_in class_sets members expr_code stmt_code name_equal
 swap-wants-its-objects = refl
 
 nothing-in-it : {X : Type 0} (x : X) → Contains [] x → ⊥
@@ -103,16 +104,16 @@ nothing-in-it x h = omega (h.1, arith)
 
 nothing-named : (xs : List States.State) (w : Written) → xs ≡ [] → Names swap xs w → ⊥
 nothing-named xs w e (plainly named x h d) = nothing-in-it x (subst (λ ys. Contains ys x) e h)
-nothing-named xs w e (through named x y h r d) = nothing-in-it x (subst (λ ys. Contains ys x) e h)
+nothing-named xs w e (through named x y h f r d) = nothing-in-it x (subst (λ ys. Contains ys x) e h)
 
 abbrev static_a : Member
 static_a = record { text = codes "A.a"; class = codes "A"; kind = k.Obj; is_static = true; type = Some ty.Object }
 
 swap-has-a : Contains (program_of swap).members static_a
-unfolding halves first_named class_from def_in states_from declared all_declared labels_in all_labels_in with_all_declared declare_all expr_type arguments front_before rest_behind merged resolved bound_as mapped_value mapped_term meant in_stmt in_stmts in_method in_class in_classes found_in class_sets members expr_code stmt_code name_equal
+unfolding halves first_named class_from def_in method_in states_from declared all_declared labels_in all_labels_in with_all_declared declare_all expr_type arguments front_before rest_behind merged resolved bound_as mapped_value mapped_term meant inner_statements all_statements in_method in_class in_classes found_in class_sets members expr_code stmt_code name_equal
 swap-has-a = (0, omega arith, refl)
 
 swap-is-unsound : IsSound swap → ⊥
-unfolding halves first_named class_from def_in states_from declared all_declared labels_in all_labels_in with_all_declared declare_all expr_type arguments front_before rest_behind merged resolved bound_as mapped_value mapped_term meant in_stmt in_stmts in_method in_class in_classes found_in class_sets members expr_code stmt_code name_equal
+unfolding halves first_named class_from def_in method_in states_from declared all_declared labels_in all_labels_in with_all_declared declare_all expr_type arguments front_before rest_behind merged resolved bound_as mapped_value mapped_term meant inner_statements all_statements in_method in_class in_classes found_in class_sets members expr_code stmt_code name_equal
 swap-is-unsound sound = two-is-not-one
     ((sound (callee (codes "swap")) (method_code swap 0 swap_part) refl plain_two 0 [] swap-may-run [] 4).frame.members static_a swap-has-a (λ m. nothing-named [] m.state refl m.is_named))

@@ -11,7 +11,7 @@ use Rattle.jh_rules.specs.Words.{text_of}
 use Rattle.jh_rules.specs.Names.{declared_in, own_name}
 use Rattle.jh_vars.specs.States.{class_text}
 use Rattle.jh_vars.specs.Written.{Written, Callee, part_of, Names, named_by, written_name}
-use Rattle.jh_vars.specs.Opened.{entry_scope}
+use Rattle.jh_vars.specs.Statements.{entry_scope}
 use Rattle.jh_state.specs.declared.state.StateName.{StateName}
 use Rattle.jh_state.specs.States.{state_list}
 use Rattle.jh_runs.specs.Code.{Text, Claim}
