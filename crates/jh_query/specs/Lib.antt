@@ -1,0 +1,6 @@
+pub mod Tree
+pub mod Bare
+pub mod Sizing
+pub mod Truth
+pub mod Fitting
+pub mod Linear

@@ -1,0 +1,11 @@
+//! Queries about sets, elements and numbers of which only sizes matter: what they are, what makes them true, and how
+//! large they are.
+#![tactic(auto)]
+
+mod inside;
+mod query;
+mod reading;
+mod sizes;
+
+pub use query::{Cond, Num, Query, SetExpr};
+pub use sizes::{Sizes, Spot, Whole};
