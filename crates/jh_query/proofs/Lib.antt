@@ -1,2 +1,4 @@
 pub mod Steps
 pub mod Fitting
+pub mod Digits
+pub mod Values

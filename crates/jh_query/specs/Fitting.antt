@@ -30,3 +30,9 @@ checked_number m (t.sub a b) = both_fitted (λ x y. x -ℤ y) (checked_number m 
 checked_number m (t.neg a) = fitted_of neg_ℤ (checked_number m a)
 checked_number m (t.scale k a) = fitted_of (λ x. k *ℤ x) (checked_number m a)
 checked_number m (t.card s) = fitted (m.card s)
+
+-- a test of two numbers, where there are both
+abbrev pub both_of : (ℤ → ℤ → Bool) → Option ℤ → Option ℤ → Option Bool
+both_of test None b = None
+both_of test (Some x) None = None
+both_of test (Some x) (Some y) = Some (test x y)

@@ -4,3 +4,4 @@ pub mod Sizing
 pub mod Truth
 pub mod Fitting
 pub mod Linear
+pub mod Comparing

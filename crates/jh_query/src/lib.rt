@@ -2,10 +2,13 @@
 //! large they are.
 #![tactic(auto)]
 
+mod counting;
+mod holding;
 mod inside;
 mod query;
 mod reading;
 mod sizes;
 
+pub use holding::is_true;
 pub use query::{Cond, Num, Query, SetExpr};
 pub use sizes::{Sizes, Spot, Whole};
