@@ -2,3 +2,4 @@ pub mod Steps
 pub mod Fitting
 pub mod Digits
 pub mod Values
+pub mod Others

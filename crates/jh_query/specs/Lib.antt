@@ -5,3 +5,5 @@ pub mod Truth
 pub mod Fitting
 pub mod Linear
 pub mod Comparing
+pub mod Same
+pub mod Size

@@ -3,8 +3,10 @@
 #![tactic(auto)]
 
 mod counting;
+mod demands;
 mod holding;
 mod inside;
+mod matching;
 mod query;
 mod reading;
 mod sizes;
