@@ -3,3 +3,4 @@ pub mod Fitting
 pub mod Digits
 pub mod Values
 pub mod Others
+pub mod Seeking

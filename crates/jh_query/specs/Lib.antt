@@ -6,4 +6,5 @@ pub mod Fitting
 pub mod Linear
 pub mod Comparing
 pub mod Same
+pub mod Seek
 pub mod Size

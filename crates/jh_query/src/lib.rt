@@ -2,6 +2,7 @@
 //! large they are.
 #![tactic(auto)]
 
+mod atoms;
 mod counting;
 mod demands;
 mod holding;
