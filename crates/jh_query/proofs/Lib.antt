@@ -3,4 +3,9 @@ pub mod Fitting
 pub mod Digits
 pub mod Values
 pub mod Others
-pub mod Seeking
+pub mod Ceilings
+pub mod Below
+pub mod Standing
+pub mod Tallying
+pub mod Parts
+pub mod Measures

@@ -6,5 +6,7 @@ pub mod Fitting
 pub mod Linear
 pub mod Comparing
 pub mod Same
-pub mod Seek
 pub mod Size
+pub mod Sides
+pub mod Later
+pub mod Tallies

@@ -8,10 +8,17 @@ use Rattle.jh_query.specs.declared.demands.Demand.{Demand}
 use Rattle.jh_query.specs.declared.demands.Demand.TheVariants.{True, False, Loose}
 use Rattle.jh_query.specs.Tree.{SetExprTree, NumTree, CondTree, QueryTree}
 use Rattle.jh_query.specs.Tree as t
-use Rattle.jh_query.specs.Truth.{read_number, sum_below}
+use Rattle.jh_query.specs.Truth.{Reading, read_number, sum_below}
 use Rattle.jh_query.specs.Fitting.{checked_number}
 use Rattle.jh_query.specs.Linear.{rest_factor, number_factor, constant_part}
 use Rattle.jh_query.specs.Same.{same_atom}
+
+-- the greatest count, and a count that stays there where it would be greater
+abbrev pub count_max : ℕ
+count_max = 2 ^ 128 - 1
+
+abbrev pub capped : ℕ → ℕ
+capped n = min n count_max
 
 -- the atoms of a condition, from the left
 abbrev pub atoms : CondTree → List CondTree
@@ -101,19 +108,27 @@ card_weight (t.neg a) = card_weight a
 card_weight (t.scale k a) = unsigned_abs k * card_weight a
 card_weight (t.card s) = 1
 
+-- neither the factor of part i of a number nor that of an operand leaves `i128`
+abbrev pub fits_at : (ℕ → Reading) → NumTree → ℕ → Bool
+fits_at m a i = is_some (checked_number (m i) a)
+
+-- the absolute value of the factor of part i
+abbrev pub weight_at : (ℕ → Reading) → NumTree → ℕ → ℕ
+weight_at m a i = unsigned_abs (read_number (m i) a)
+
 -- no part of a number has a factor or a constant that leaves `i128`
 abbrev pub is_small : QueryTree → NumTree → Bool
 is_small q a =
-    all_below (2 ^ q.sets) (λ r. is_some (checked_number (rest_factor r) a))
-    && (all_below q.numbers (λ l. is_some (checked_number (number_factor l) a))
+    all_below (2 ^ q.sets) (fits_at rest_factor a)
+    && (all_below q.numbers (fits_at number_factor a)
     && is_some (checked_number constant_part a))
 
 -- the sums of the absolute values of its factors
 abbrev pub rest_weight : ℕ → NumTree → ℕ
-rest_weight sets a = sum_below (2 ^ sets) (λ r. unsigned_abs (read_number (rest_factor r) a))
+rest_weight sets a = sum_below (2 ^ sets) (weight_at rest_factor a)
 
 abbrev pub number_weight : ℕ → NumTree → ℕ
-number_weight numbers a = sum_below numbers (λ l. unsigned_abs (read_number (number_factor l) a))
+number_weight numbers a = sum_below numbers (weight_at number_factor a)
 
 -- How many remainders the row of a number has at most, where h is what its case adds: twice the most that its right
 -- side and twice its factors come to, and one.
@@ -148,11 +163,7 @@ places sets (suc n) = places sets n * (2 ^ sets + n)
 
 -- a column for the rest of each region, two for each number, and those that atoms add
 abbrev pub column_count : QueryTree → ℕ
-column_count q = 2 ^ q.sets + 2 * q.numbers + sum_by slacks (distinct (atoms_of q))
-
--- the greatest count, at which greater ones stay
-abbrev pub count_max : ℕ
-count_max = 2 ^ 128 - 1
+column_count q = 2 ^ q.sets + (2 * q.numbers + sum_by slacks (distinct (atoms_of q)))
 
 abbrev pub full_size : QueryTree → ℕ
 full_size q = places q.sets q.elements * product_by (atom_weight q) (distinct (atoms_of q)) * (column_count q + 1)
@@ -161,4 +172,4 @@ abbrev pub is_countable : QueryTree → Bool
 is_countable q = not (nat_lt 16 q.sets) && list_all (is_small_atom q) (distinct (atoms_of q))
 
 abbrev pub query_size : QueryTree → ℕ
-query_size q = if is_countable q then min (full_size q) count_max else count_max
+query_size q = if is_countable q then capped (full_size q) else count_max

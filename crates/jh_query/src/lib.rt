@@ -3,15 +3,19 @@
 #![tactic(auto)]
 
 mod atoms;
+mod capped;
 mod counting;
 mod demands;
 mod holding;
 mod inside;
 mod matching;
+mod measuring;
 mod query;
 mod reading;
+mod rows;
 mod sizes;
 
 pub use holding::is_true;
+pub use measuring::size;
 pub use query::{Cond, Num, Query, SetExpr};
 pub use sizes::{Sizes, Spot, Whole};
