@@ -1,5 +1,5 @@
 -- Tests of all numbers below a bound, and weights of parts.
-use Rattle.std.proofs.Common.{◌≡◌, refl, ℕ, zero, suc, ◌+◌, ◌<◌, ◌≤◌, ◌^◌, Bool, true, false, ◌&&◌, Option, Some, None, ℤ, ap, sym, ◌∙◌, ⊎_elim, add-one, arith}
+use Rattle.std.proofs.Common.{◌≡◌, refl, ℕ, zero, suc, ◌+◌, ◌<◌, ◌≤◌, ◌^◌, Bool, true, false, ◌&&◌, Option, Some, ℤ, ap, sym, ◌∙◌, ⊎_elim, add-one, arith}
 use Rattle.std.specs.Prelude.{is_some, unsigned_abs}
 use Rattle.std.proofs.lemmas.Bool.{cases_lt}
 use Rattle.jh_tree.specs.Meaning.{all_below}

@@ -9,3 +9,5 @@ pub mod Standing
 pub mod Tallying
 pub mod Parts
 pub mod Measures
+mod Figures
+pub mod Regions

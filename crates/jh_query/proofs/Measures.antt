@@ -1,11 +1,11 @@
 -- The size of a query, from what its parts come to.
-use Rattle.std.proofs.Common.{◌≡◌, refl, ℕ, ◌+◌, ◌*◌, ◌^◌, ◌%◌, ◌<◌, ◌≤◌, nat_lt, Bool, true, arith}
+use Rattle.std.proofs.Common.{◌≡◌, refl, ℕ, ◌+◌, ◌*◌, ◌^◌, ◌%◌, ◌<◌, ◌≤◌, true, arith}
 use Rattle.std.specs.List.{list_all, sum_by}
 use Rattle.std.proofs.Math.Nat.{pow-le-pow_right}
 use Rattle.std.proofs.lemmas.Bool.{le-ltb}
 use Rattle.std.proofs.lemmas.Nat.{one_shl}
 use Rattle.jh_query.specs.Tree.{QueryTree}
-use Rattle.jh_query.specs.Size.{atom_weight, atoms_of, capped, column_count, distinct, is_countable, is_small_atom, full_size, places, product_by, query_size, slacks}
+use Rattle.jh_query.specs.Size.{atom_weight, atoms_of, capped, column_count, distinct, is_countable, is_small_atom, places, product_by, query_size, slacks}
 use Rattle.jh_query.proofs.Ceilings.{plus-capped, times-capped, fits-capped}
 
 few_regions : (s : ℕ) → s ≤ 16 → 2 ^ s ≤ 2 ^ 16

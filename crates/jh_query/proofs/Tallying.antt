@@ -1,12 +1,12 @@
 -- Tallies of lists of atoms, one after the other.
-use Rattle.std.proofs.Common.{◌≡◌, refl, ℕ, ◌+◌, ◌*◌, Bool, true, false, ◌&&◌, ◌||◌, if◌then◌else◌, List, [], ◌∷◌, ◌++◌, Option, Some, None, append_assoc, ap, sym, ◌∙◌, arith}
-use Rattle.std.specs.List.{list_all, list_any, sum_by}
+use Rattle.std.proofs.Common.{◌≡◌, refl, ℕ, ◌*◌, Bool, true, false, ◌&&◌, if◌then◌else◌, List, [], ◌∷◌, ◌++◌, Option, Some, None, append_assoc, ap, ◌∙◌, arith}
+use Rattle.std.specs.List.{list_all, list_any}
 use Rattle.std.proofs.lemmas.List.{append-nil}
 use Rattle.std.proofs.lemmas.List.Sums.{sum_by-append}
 use Rattle.jh_query.specs.declared.measuring.Tally.{Tally}
 use Rattle.jh_query.specs.Tree.{CondTree, QueryTree}
 use Rattle.jh_query.specs.Same.{same_atom}
-use Rattle.jh_query.specs.Size.{atom_weight, capped, distinct, is_small_atom, product_by, slacks}
+use Rattle.jh_query.specs.Size.{atom_weight, distinct, is_small_atom, product_by, slacks}
 use Rattle.jh_query.specs.Tallies.{IsTally, fresh, joined}
 use Rattle.jh_query.proofs.Ceilings.{plus-capped, times-capped}
 

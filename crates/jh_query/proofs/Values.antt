@@ -1,6 +1,5 @@
 -- What is made of values is the value of what is made of them.
-use Rattle.std.proofs.Common.{◌≡◌, ℤ, ◌+ℤ◌, ◌-ℤ◌, ◌*ℤ◌, neg_ℤ, Option, Some, None, Bool, true, false, IfSome, int_lt, option_map, refl, ap, sym, ◌∙◌}
-use Rattle.std.specs.Ordering.{int_eq}
+use Rattle.std.proofs.Common.{◌≡◌, ℤ, ◌+ℤ◌, ◌-ℤ◌, ◌*ℤ◌, neg_ℤ, Option, Some, None, Bool, true, false, IfSome, option_map, refl, ap}
 use Rattle.jh_tree.specs.Meaning.{divides_number}
 use Rattle.jh_query.specs.Fitting.{is_wide, fitted, fitted_of, both_fitted, both_of}
 

@@ -1,5 +1,5 @@
 -- Numbers of which no part leaves `i128`.
-use Rattle.std.specs.Prelude.{◌<◌, ◌^◌, nat_lt, Bool, if◌then◌else◌, ℤ, pos, negsuc, ◌+ℤ◌, ◌-ℤ◌, ◌*ℤ◌, neg_ℤ, Option, Some, None}
+use Rattle.std.specs.Prelude.{◌^◌, nat_lt, Bool, if◌then◌else◌, ℤ, pos, negsuc, ◌+ℤ◌, ◌-ℤ◌, ◌*ℤ◌, neg_ℤ, Option, Some, None}
 use Rattle.jh_query.specs.Tree.{NumTree}
 use Rattle.jh_query.specs.Tree as t
 use Rattle.jh_query.specs.Truth.{Reading}

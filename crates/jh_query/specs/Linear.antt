@@ -1,8 +1,7 @@
 -- A number as a sum over the rests of regions and over numbers.
-use Rattle.std.specs.Prelude.{ℕ, ◌==◌, if◌then◌else◌, ℤ, pos}
+use Rattle.std.specs.Prelude.{ℕ, ◌==◌, if◌then◌else◌, pos}
 use Rattle.jh_query.specs.declared.reading.Part.{Part}
 use Rattle.jh_query.specs.declared.reading.Part.TheVariants.{Rest, Number, Constant}
-use Rattle.jh_query.specs.Tree.{SetExprTree}
 use Rattle.jh_query.specs.Truth.{Reading, rest_lies}
 
 -- the factor of the rest of region r: a set that the rest lies inside counts its objects once

@@ -1,5 +1,5 @@
 -- Whether two atoms are the same.
-use Rattle.std.specs.Prelude.{ℕ, ◌==◌, Bool, true, false, ◌&&◌, ℤ}
+use Rattle.std.specs.Prelude.{◌==◌, Bool, true, false, ◌&&◌}
 use Rattle.std.specs.Ordering.{int_eq}
 use Rattle.jh_query.specs.Tree.{SetExprTree, NumTree, CondTree}
 use Rattle.jh_query.specs.Tree as t

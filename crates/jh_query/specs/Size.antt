@@ -1,8 +1,7 @@
 -- The size of a query: what bounds the work of deciding it. It is the number of places of the elements, times the
 -- cases of the atoms, times the nodes that a digit system of the query has at most.
-use Rattle.std.specs.Prelude.{ℕ, zero, suc, ◌+◌, ◌*◌, ◌-◌, ◌^◌, ◌==◌, nat_lt, min, max, Bool, true, false, not, ◌&&◌, ◌||◌, if◌then◌else◌, List, [], ◌∷◌, ◌++◌, Option, Some, None, ℤ, pos, unsigned_abs, is_some}
+use Rattle.std.specs.Prelude.{ℕ, zero, suc, ◌+◌, ◌*◌, ◌-◌, ◌^◌, nat_lt, min, max, Bool, true, false, not, ◌&&◌, ◌||◌, if◌then◌else◌, List, [], ◌∷◌, ◌++◌, unsigned_abs, is_some}
 use Rattle.std.specs.List.{list_all, list_any, flat_map, sum_by}
-use Rattle.std.specs.Ordering.{int_eq}
 use Rattle.jh_tree.specs.Meaning.{all_below}
 use Rattle.jh_query.specs.declared.demands.Demand.{Demand}
 use Rattle.jh_query.specs.declared.demands.Demand.TheVariants.{True, False, Loose}

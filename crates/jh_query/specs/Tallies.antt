@@ -1,5 +1,5 @@
 -- What the different atoms of a part of a query come to.
-use Rattle.std.specs.Prelude.{◌≡◌, ◌+◌, ◌*◌, Bool, true, false, if◌then◌else◌, List, [], ◌∷◌, ◌++◌, Option, Some, None, MatchOption}
+use Rattle.std.specs.Prelude.{◌≡◌, ◌+◌, ◌*◌, true, false, if◌then◌else◌, List, [], ◌∷◌, ◌++◌, Option, Some, None, MatchOption}
 use Rattle.std.specs.List.{list_all, list_any, sum_by}
 use Rattle.jh_query.specs.declared.measuring.Tally.{Tally}
 use Rattle.jh_query.specs.Tree.{CondTree, QueryTree}

@@ -79,7 +79,7 @@ pub(crate) fn number_at(numbers: &[Whole], number: u32) -> Option<i128>
 }
 
 /// Whether no element before this one is of its class.
-fn is_first(spots: &[Spot], element: usize) -> bool
+pub fn is_first(spots: &[Spot], element: usize) -> bool
     ensures { result ≡ is_first spots.now element }
 {
     let class = spot_of(spots, element).class;

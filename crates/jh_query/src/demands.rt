@@ -10,7 +10,7 @@ use crate::{Cond, Query};
 
 /// What a query wants of an atom.
 #[derive(Clone, Copy, Debug)]
-pub(crate) enum Demand {
+pub enum Demand {
     True,
     False,
     /// Either.
@@ -60,7 +60,7 @@ fn is_wanted(query: &Query, atom: &Cond, truth: bool) -> bool
 }
 
 /// What a query wants of an atom.
-pub(crate) fn demanded(query: &Query, atom: &Cond) -> Demand
+pub fn demanded(query: &Query, atom: &Cond) -> Demand
     ensures { result ≡ demanded (query_tree query.now) (cond_tree atom.now) }
 {
     if is_wanted(query, atom, true) {

@@ -7,14 +7,14 @@ ghost use Rattle.jh_query.specs.Truth.{class_lies, is_in, is_of, lies, nowhere, 
 use crate::{SetExpr, Spot};
 
 /// Whether a region lies in a set.
-pub(crate) fn is_in(region: u64, set: u32) -> bool
+fn is_in(region: u64, set: u32) -> bool
     ensures { result ≡ is_in region set }
 {
     set < 64 && (region >> set) % 2 == 1
 }
 
 /// Where an element stands; what is no element stands nowhere.
-pub(crate) fn spot_of(spots: &[Spot], element: usize) -> Spot
+pub fn spot_of(spots: &[Spot], element: usize) -> Spot
     ensures { result ≡ spot_of spots.now element }
 {
     match spots.get(element) {
@@ -60,7 +60,7 @@ fn lies(set: &SetExpr, region: u64, class: Option<u32>, spots: &[Spot]) -> bool
 }
 
 /// Whether the class of an element lies inside a set.
-pub(crate) fn class_lies(set: &SetExpr, element: usize, spots: &[Spot]) -> bool
+pub fn class_lies(set: &SetExpr, element: usize, spots: &[Spot]) -> bool
     ensures { result ≡ class_lies spots.now element (set_tree set.now) }
 {
     let spot = spot_of(spots, element);
@@ -68,7 +68,7 @@ pub(crate) fn class_lies(set: &SetExpr, element: usize, spots: &[Spot]) -> bool
 }
 
 /// Whether the objects of a region that are no element lie inside a set.
-pub(crate) fn rest_lies(set: &SetExpr, region: u64) -> bool
+pub fn rest_lies(set: &SetExpr, region: u64) -> bool
     ensures { result ≡ rest_lies region (set_tree set.now) }
 {
     lies(set, region, None, &[])

@@ -13,9 +13,17 @@ mod measuring;
 mod query;
 mod reading;
 mod rows;
+mod shaping;
 mod sizes;
 
+pub use counting::is_first;
+pub use demands::{Demand, demanded};
 pub use holding::is_true;
+pub use inside::{class_lies, rest_lies, spot_of};
+pub use matching::same_atom;
 pub use measuring::size;
 pub use query::{Cond, Num, Query, SetExpr};
+pub use reading::{Part, part_of};
+pub use rows::{Side, part_of_side};
+pub use shaping::fits;
 pub use sizes::{Sizes, Spot, Whole};

@@ -91,7 +91,7 @@ fn same_num(left: &Num, right: &Num) -> bool
 }
 
 /// Whether two atoms are written in the same way. What is no atom is the same as nothing.
-pub(crate) fn same_atom(left: &Cond, right: &Cond) -> bool
+pub fn same_atom(left: &Cond, right: &Cond) -> bool
     ensures { result ≡ same_atom (cond_tree left.now) (cond_tree right.now) }
 {
     match left {

@@ -10,7 +10,7 @@ use crate::{Num, SetExpr};
 
 /// What is picked of a number that is a sum over the rests of regions and over numbers.
 #[derive(Clone, Copy, Debug)]
-pub(crate) enum Part {
+pub enum Part {
     /// The factor of the rest of a region.
     Rest(u64),
     /// The factor of a number.
@@ -85,7 +85,7 @@ fn of_card(part: Part, set: &SetExpr) -> Option<i128>
 }
 
 /// A part of a number, or `None` where it or the same part of an operand leaves `i128`.
-pub(crate) fn part_of(number: &Num, part: Part) -> Option<i128>
+pub fn part_of(number: &Num, part: Part) -> Option<i128>
     ensures { result ≡ checked_number (picked part) (num_tree number.now) }
 {
     match number {

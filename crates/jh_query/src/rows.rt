@@ -15,13 +15,13 @@ use crate::{Cond, Num, Query};
 
 /// A number atom brought to one side.
 #[derive(Clone, Copy, Debug)]
-pub(crate) enum Side<'a> {
+pub enum Side<'a> {
     Alone(&'a Num),
     Difference(&'a Num, &'a Num),
 }
 
 /// A part of a side, or `None` where it or the same part of an operand leaves `i128`.
-fn part_of_side(side: &Side<'_>, part: Part) -> Option<i128>
+pub fn part_of_side(side: &Side<'_>, part: Part) -> Option<i128>
     ensures { result ≡ checked_number (picked part) (side_tree side.now) }
 {
     match side {

@@ -1,4 +1,4 @@
-use Rattle.std.proofs.Common.{◌≡◌, ap, ◌∙◌, not}
+use Rattle.std.proofs.Common.{ap, ◌∙◌, not}
 use Rattle.jh_query.proofs.Digits.{nought}
 use Rattle.jh_query.proofs.counting.is_nought.Goals as goal
 
