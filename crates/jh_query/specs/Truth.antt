@@ -57,11 +57,15 @@ abbrev pub sum_below : ℕ → (ℕ → ℕ) → ℕ
 sum_below zero f = 0
 sum_below (suc n) f = sum_below n f + f n
 
+-- how many classes lie inside a set
+abbrev pub classes_in : List Spot → SetExprTree → ℕ
+classes_in spots s = count_below (length spots) (λ i. is_first spots i && class_lies spots i s)
+
 -- how many objects are in a set: the sum of the rests inside it, and the number of the classes inside it
 abbrev pub set_size : Sizing → SetExprTree → ℕ
 set_size z s =
     sum_below (length z.rest) (λ r. if rest_lies r s then rest_of z r else 0)
-    + count_below (length z.spots) (λ i. is_first z.spots i && class_lies z.spots i s)
+    + classes_in z.spots s
 
 -- each class and each rest with an object passes a test of whether it lies inside one set and inside the other
 abbrev pub compares : Sizing → (Bool → Bool → Bool) → SetExprTree → SetExprTree → Bool

@@ -6,7 +6,7 @@ ghost use Rattle.jh_tree.specs.Meaning.{all_below, count_below};
 ghost use Rattle.jh_query.specs.Bare.{set_tree};
 ghost use Rattle.jh_query.specs.Comparing.{test_of};
 ghost use Rattle.jh_query.specs.Sizing.{sizing_of, spelled, whole_value};
-ghost use Rattle.jh_query.specs.Truth.{class_lies, compares, is_first, rest_lies, set_size, sum_below};
+ghost use Rattle.jh_query.specs.Truth.{class_lies, classes_in, compares, is_first, rest_lies, set_size, sum_below};
 
 use crate::inside::{class_lies, rest_lies, spot_of};
 use crate::{SetExpr, Sizes, Spot, Whole};
@@ -91,8 +91,8 @@ pub fn is_first(spots: &[Spot], element: usize) -> bool
 }
 
 /// How many classes lie inside a set.
-fn classes_inside(set: &SetExpr, spots: &[Spot]) -> usize
-    ensures value { result ≡ count_below (length spots.now) (λ i. is_first spots.now i && class_lies spots.now i (set_tree set.now)) }
+pub fn classes_inside(set: &SetExpr, spots: &[Spot]) -> usize
+    ensures value { result ≡ classes_in spots.now (set_tree set.now) }
     ensures bound { result ≤ length spots.now }
 {
     let mut count = 0usize;

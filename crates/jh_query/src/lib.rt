@@ -16,7 +16,7 @@ mod rows;
 mod shaping;
 mod sizes;
 
-pub use counting::is_first;
+pub use counting::{classes_inside, is_first};
 pub use demands::{Demand, demanded};
 pub use holding::is_true;
 pub use inside::{class_lies, rest_lies, spot_of};

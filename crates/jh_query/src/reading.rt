@@ -5,18 +5,21 @@ ghost use Rattle.jh_query.specs.Bare.{num_tree, set_tree};
 ghost use Rattle.jh_query.specs.Fitting.{fitted, both_fitted, fitted_of, checked_number};
 ghost use Rattle.jh_query.specs.Linear.{picked};
 
+use crate::counting::classes_inside;
 use crate::inside::rest_lies;
-use crate::{Num, SetExpr};
+use crate::{Num, SetExpr, Spot};
 
 /// What is picked of a number that is a sum over the rests of regions and over numbers.
 #[derive(Clone, Copy, Debug)]
-pub enum Part {
+pub enum Part<'a> {
     /// The factor of the rest of a region.
     Rest(u64),
     /// The factor of a number.
     Number(u32),
-    /// What is left where all rests and numbers are 0.
+    /// What is left where all rests and numbers are 0, and there are no elements.
     Constant,
+    /// What is left where all rests and numbers are 0, and the elements stand here.
+    Placed(&'a [Spot]),
 }
 
 /// A sum.
@@ -55,18 +58,18 @@ fn one_if(is_so: bool) -> i128
 }
 
 /// The part of a constant.
-fn of_constant(part: Part, constant: i64) -> Option<i128>
-    ensures { result ≡ fitted ((picked part).constant constant) }
+fn of_constant(part: Part<'_>, constant: i64) -> Option<i128>
+    ensures { result ≡ fitted ((picked part.entry).constant constant) }
 {
     match part {
-        Part::Constant => Some(i128::from(constant)),
-        _ => Some(0),
+        Part::Constant | Part::Placed(_) => Some(i128::from(constant)),
+        Part::Rest(_) | Part::Number(_) => Some(0),
     }
 }
 
 /// The part of a number.
-fn of_number(part: Part, number: u32) -> Option<i128>
-    ensures { result ≡ fitted ((picked part).number number) }
+fn of_number(part: Part<'_>, number: u32) -> Option<i128>
+    ensures { result ≡ fitted ((picked part.entry).number number) }
 {
     match part {
         Part::Number(other) => Some(one_if(number == other)),
@@ -75,18 +78,19 @@ fn of_number(part: Part, number: u32) -> Option<i128>
 }
 
 /// The part of the number of objects in a set.
-fn of_card(part: Part, set: &SetExpr) -> Option<i128>
-    ensures { result ≡ fitted ((picked part).card (set_tree set.now)) }
+fn of_card(part: Part<'_>, set: &SetExpr) -> Option<i128>
+    ensures { result ≡ fitted ((picked part.entry).card (set_tree set.now)) }
 {
     match part {
         Part::Rest(region) => Some(one_if(rest_lies(set, region))),
-        _ => Some(0),
+        Part::Placed(spots) => Some(classes_inside(set, spots) as i128),
+        Part::Number(_) | Part::Constant => Some(0),
     }
 }
 
 /// A part of a number, or `None` where it or the same part of an operand leaves `i128`.
-pub fn part_of(number: &Num, part: Part) -> Option<i128>
-    ensures { result ≡ checked_number (picked part) (num_tree number.now) }
+pub fn part_of(number: &Num, part: Part<'_>) -> Option<i128>
+    ensures { result ≡ checked_number (picked part.entry) (num_tree number.now) }
 {
     match number {
         Num::Const(constant) => of_constant(part, *constant),

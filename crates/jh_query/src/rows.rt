@@ -21,8 +21,8 @@ pub enum Side<'a> {
 }
 
 /// A part of a side, or `None` where it or the same part of an operand leaves `i128`.
-pub fn part_of_side(side: &Side<'_>, part: Part) -> Option<i128>
-    ensures { result ≡ checked_number (picked part) (side_tree side.now) }
+pub fn part_of_side(side: &Side<'_>, part: Part<'_>) -> Option<i128>
+    ensures { result ≡ checked_number (picked part.entry) (side_tree side.now) }
 {
     match side {
         Side::Alone(number) => part_of(number, part),
@@ -56,9 +56,9 @@ fn side_card_weight(side: &Side<'_>) -> u128
 }
 
 /// The absolute value of a part of a side, or `None` as `part_of_side` has it.
-fn part_weight(side: &Side<'_>, part: Part) -> Option<u128>
-    ensures { MatchOption result (is_some (checked_number (picked part) (side_tree side.now)) ≡ false)
-        (λ weight. (is_some (checked_number (picked part) (side_tree side.now)) ≡ true) × (weight ≡ capped (unsigned_abs (read_number (picked part) (side_tree side.now))))) }
+fn part_weight(side: &Side<'_>, part: Part<'_>) -> Option<u128>
+    ensures { MatchOption result (is_some (checked_number (picked part.entry) (side_tree side.now)) ≡ false)
+        (λ weight. (is_some (checked_number (picked part.entry) (side_tree side.now)) ≡ true) × (weight ≡ capped (unsigned_abs (read_number (picked part.entry) (side_tree side.now))))) }
 {
     Some(part_of_side(side, part)?.unsigned_abs())
 }
