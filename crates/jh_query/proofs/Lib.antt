@@ -11,3 +11,5 @@ pub mod Parts
 pub mod Measures
 mod Figures
 pub mod Regions
+pub mod Linearities
+pub mod Products

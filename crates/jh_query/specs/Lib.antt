@@ -10,3 +10,4 @@ pub mod Size
 pub mod Sides
 pub mod Later
 pub mod Tallies
+pub mod Linearity
