@@ -13,3 +13,5 @@ mod Figures
 pub mod Regions
 pub mod Linearities
 pub mod Products
+pub mod Bounds
+pub mod Equalities

@@ -1,5 +1,5 @@
 -- A number is a sum over the rests of regions and over numbers.
-use Rattle.std.proofs.Common.{◌≡◌, refl, ℕ, zero, suc, ◌+◌, ◌==◌, ◌<◌, ◌≤◌, Bool, true, false, if◌then◌else◌, List, [], ◌∷◌, length, get_or, ℤ, pos, negsuc, ◌+ℤ◌, ◌-ℤ◌, ◌*ℤ◌, neg_ℤ, ap, sym, ◌∙◌, ⊎_elim, arith}
+use Rattle.std.proofs.Common.{◌≡◌, refl, ℕ, zero, suc, ◌==◌, ◌<◌, ◌≤◌, Bool, true, false, if◌then◌else◌, List, length, get_or, ℤ, pos, negsuc, ◌+ℤ◌, ◌-ℤ◌, ◌*ℤ◌, neg_ℤ, ap, sym, ◌∙◌, ⊎_elim, arith}
 use Rattle.std.proofs.lemmas.Int.{ints}
 use Rattle.std.proofs.lemmas.Bool.{cases_lt, eq-eqb}
 use Rattle.std.proofs.lemmas.List.{get_or_past}
@@ -7,7 +7,7 @@ use Rattle.std.proofs.Math.IntN.{zero-*ℤ, *ℤ-zero}
 use Rattle.jh_query.specs.Tree.{NumTree, SetExprTree}
 use Rattle.jh_query.specs.Tree as t
 use Rattle.jh_query.specs.Sizing.{Sizing}
-use Rattle.jh_query.specs.Truth.{number_value, read_number, rest_of, rest_lies, classes_in, set_size, sum_below}
+use Rattle.jh_query.specs.Truth.{read_number, rest_of, rest_lies, sum_below}
 use Rattle.jh_query.specs.Linear.{rest_factor, number_factor, placed_part}
 use Rattle.jh_query.specs.Linearity.{whole_sum, IsLinear}
 use Rattle.jh_query.proofs.Products.{add-times, times-add, neg-times, times-times}

@@ -1,5 +1,5 @@
 -- A number as a sum over the rests of regions and over numbers.
-use Rattle.std.specs.Prelude.{ℕ, ◌==◌, if◌then◌else◌, List, ℤ, pos}
+use Rattle.std.specs.Prelude.{ℕ, ◌==◌, if◌then◌else◌, List, pos}
 use Rattle.jh_query.specs.declared.reading.Part.{Part}
 use Rattle.jh_query.specs.declared.reading.Part.TheVariants.{Rest, Number, Constant, Placed}
 use Rattle.jh_query.specs.declared.sizes.Spot.{Spot}

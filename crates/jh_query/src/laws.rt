@@ -1,9 +1,26 @@
-ghost use Rattle.jh_query.specs.Tree.{NumTree};
+ghost use Rattle.std.specs.Prelude.{◌≡◌, ◌≤◌, ◌+◌, ◌*◌, List, length, true, unsigned_abs};
+ghost use Rattle.jh_query.specs.declared.sizes.Spot.{Spot};
+ghost use Rattle.jh_query.specs.Tree.{CondTree, NumTree};
 ghost use Rattle.jh_query.specs.Sizing.{Sizing};
+ghost use Rattle.jh_query.specs.Truth.{read_number};
+ghost use Rattle.jh_query.specs.Linear.{constant_part, placed_part};
 ghost use Rattle.jh_query.specs.Linearity.{IsLinear};
+ghost use Rattle.jh_query.specs.Same.{same_atom};
+ghost use Rattle.jh_query.specs.Size.{card_weight};
 
 /// Under sizes a number is the sum of its factors times the rests and times the numbers, and of what is
 /// left where these are 0. It is a law, and does nothing.
 pub fn numbers_are_linear()
     ensures { (z : Sizing) (a : NumTree) → IsLinear z a }
+{}
+
+/// What is left of a number under a placement is no farther from 0 than its constant, and once the number
+/// of elements for each size of a set in it, times the factor of that. It is a law, and does nothing.
+pub fn placements_are_bounded()
+    ensures { (spots : List Spot) (a : NumTree) → unsigned_abs (read_number (placed_part spots) a) ≤ unsigned_abs (read_number constant_part a) + length spots * card_weight a }
+{}
+
+/// Two atoms are the same only where their trees are equal. It is a law, and does nothing.
+pub fn same_atoms_are_equal()
+    ensures { (a b : CondTree) → same_atom a b ≡ true → a ≡ b }
 {}
