@@ -1,0 +1,7 @@
+pub mod Unmarkings
+mod Cases
+mod Truths
+mod Equations
+mod Openings
+mod Soundness
+pub mod Trees

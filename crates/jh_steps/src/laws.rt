@@ -1,0 +1,12 @@
+ghost use Rattle.jh_steps.specs.Laws.{ClosesGivesValid, ClosesOrFails};
+
+/// A derivation that closes a sequent shows that it is valid. It is a law, and does nothing.
+pub fn closing_shows_validity()
+    ensures { ClosesGivesValid }
+{}
+
+/// A derivation that closes has no first step that fails, and one that doesn't close fails at one step alone. It is
+/// a law, and does nothing.
+pub fn closing_is_exact()
+    ensures { ClosesOrFails }
+{}
