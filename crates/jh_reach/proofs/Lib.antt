@@ -1,0 +1,13 @@
+mod Paths
+mod Counts
+mod Shortening
+mod Forests
+mod Changes
+mod Logic
+mod Along
+mod Held
+mod Updated
+mod Sound
+pub mod NodeSteps
+pub mod Standings
+pub mod Basing

@@ -1,0 +1,58 @@
+-- Written by tools/reach.py.
+use Rattle.std.proofs.Common.{ap, ◌∙◌, Some, slice_get}
+use Rattle.jh_tree.specs.Tree.{of_object, of_field, of_truth}
+use Rattle.jh_tree.specs.Tree as t
+use Rattle.jh_table.specs.Entries.{the_field, the_object}
+use Rattle.jh_table.specs.Nodes.{nodes}
+use Rattle.jh_table.proofs.NodeSteps.{fits-Bound, tree-Bound, fits-Iff, tree-Iff}
+use Rattle.jh_table.proofs.Listed.{extends-trans}
+use Rattle.jh_reach.specs.Axioms.{listed, differ, way, leaves_out}
+use Rattle.jh_reach.specs.Standing.{list_at}
+use Rattle.jh_enter.proofs.Fields.{fits-listed-Reach, tree-listed-Reach}
+use Rattle.jh_reach.proofs.NodeSteps.{list-there, list-of, list-grows, unlisted, holds-field, holds-object, holds-formula}
+use Rattle.jh_reach.proofs.updates.told_by_several.Goals as goal
+
+pub make-requires : goal.make-requires
+make-requires c = fits-Bound c.args.table.now.pools (nodes c.args.table.now) 1
+
+pub returns-in_err-from-clause-grows : goal.returns-in_err-from-clause-grows
+returns-in_err-from-clause-grows c = c.make.ensures.grows
+
+pub make-requires-2 : goal.make-requires-2
+make-requires-2 c = fits-Bound c.make.new.self.pools (nodes c.make.new.self) 0
+
+pub returns-in_err-to-clause-grows : goal.returns-in_err-to-clause-grows
+returns-in_err-to-clause-grows c = (extends-trans c.args.table.now c.make.new.self c.make-2.new.self c.make.ensures.grows c.make-2.ensures.grows)
+
+pub make-requires-3 : goal.make-requires-3
+make-requires-3 c = fits-listed-Reach c.make-2.new.self c.args.new c.in_ok-from.from c.in_ok-to.to (listed (unlisted (list_at c.args.table.now c.args.new))) (t.bound 1) (t.bound 0) (list-grows c.make.new.self c.make-2.new.self c.args.new (listed (unlisted (list_at c.args.table.now c.args.new))) c.make-2.ensures.grows (list-grows c.args.table.now c.make.new.self c.args.new (listed (unlisted (list_at c.args.table.now c.args.new))) c.make.ensures.grows (list-of c.args.table.now c.args.new c.requires.new))) (c.make-2.ensures.grows.nodes.keeps c.in_ok-from.from (of_object (t.bound 1)) (c.in_ok-from.ensures.node ∙ ap (λ z. Some z) (tree-Bound c.args.table.now.pools (nodes c.args.table.now) 1))) (c.in_ok-to.ensures.node ∙ ap (λ z. Some z) (tree-Bound c.make.new.self.pools (nodes c.make.new.self) 0))
+
+pub returns-in_err-on-clause-grows : goal.returns-in_err-on-clause-grows
+returns-in_err-on-clause-grows c = (extends-trans c.args.table.now c.make-2.new.self c.make-3.new.self (extends-trans c.args.table.now c.make.new.self c.make-2.new.self c.make.ensures.grows c.make-2.ensures.grows) c.make-3.ensures.grows)
+
+pub ways_around-requires : goal.ways_around-requires
+ways_around-requires c = record { list = list-there c.make-3.new.self c.args.old (listed (unlisted (list_at c.args.table.now c.args.old))) (list-grows c.make-2.new.self c.make-3.new.self c.args.old (listed (unlisted (list_at c.args.table.now c.args.old))) c.make-3.ensures.grows (list-grows c.make.new.self c.make-2.new.self c.args.old (listed (unlisted (list_at c.args.table.now c.args.old))) c.make-2.ensures.grows (list-grows c.args.table.now c.make.new.self c.args.old (listed (unlisted (list_at c.args.table.now c.args.old))) c.make.ensures.grows (list-of c.args.table.now c.args.old c.requires.old)))); field = holds-field (slice_get (nodes c.make-3.new.self) c.args.field) (the_field (slice_get (nodes c.args.table.now) c.args.field)) (c.make-3.ensures.grows.nodes.keeps c.args.field (of_field (the_field (slice_get (nodes c.args.table.now) c.args.field))) (c.make-2.ensures.grows.nodes.keeps c.args.field (of_field (the_field (slice_get (nodes c.args.table.now) c.args.field))) (c.make.ensures.grows.nodes.keeps c.args.field (of_field (the_field (slice_get (nodes c.args.table.now) c.args.field))) c.requires.field))); at = holds-object (slice_get (nodes c.make-3.new.self) c.args.at) (the_object (slice_get (nodes c.args.table.now) c.args.at)) (c.make-3.ensures.grows.nodes.keeps c.args.at (of_object (the_object (slice_get (nodes c.args.table.now) c.args.at))) (c.make-2.ensures.grows.nodes.keeps c.args.at (of_object (the_object (slice_get (nodes c.args.table.now) c.args.at))) (c.make.ensures.grows.nodes.keeps c.args.at (of_object (the_object (slice_get (nodes c.args.table.now) c.args.at))) c.requires.at))); value = holds-object (slice_get (nodes c.make-3.new.self) c.args.value) (the_object (slice_get (nodes c.args.table.now) c.args.value)) (c.make-3.ensures.grows.nodes.keeps c.args.value (of_object (the_object (slice_get (nodes c.args.table.now) c.args.value))) (c.make-2.ensures.grows.nodes.keeps c.args.value (of_object (the_object (slice_get (nodes c.args.table.now) c.args.value))) (c.make.ensures.grows.nodes.keeps c.args.value (of_object (the_object (slice_get (nodes c.args.table.now) c.args.value))) c.requires.value))); from = holds-object (slice_get (nodes c.make-3.new.self) c.in_ok-from.from) (t.bound 1) (c.make-3.ensures.grows.nodes.keeps c.in_ok-from.from (of_object (t.bound 1)) (c.make-2.ensures.grows.nodes.keeps c.in_ok-from.from (of_object (t.bound 1)) (c.in_ok-from.ensures.node ∙ ap (λ z. Some z) (tree-Bound c.args.table.now.pools (nodes c.args.table.now) 1)))); to = holds-object (slice_get (nodes c.make-3.new.self) c.in_ok-to.to) (t.bound 0) (c.make-3.ensures.grows.nodes.keeps c.in_ok-to.to (of_object (t.bound 0)) (c.in_ok-to.ensures.node ∙ ap (λ z. Some z) (tree-Bound c.make.new.self.pools (nodes c.make.new.self) 0))) }
+
+pub returns-in_err-ways-clause-grows : goal.returns-in_err-ways-clause-grows
+returns-in_err-ways-clause-grows c = (extends-trans c.args.table.now c.make-3.new.self c.ways_around.new.table (extends-trans c.args.table.now c.make-2.new.self c.make-3.new.self (extends-trans c.args.table.now c.make.new.self c.make-2.new.self c.make.ensures.grows c.make-2.ensures.grows) c.make-3.ensures.grows) c.ways_around.ensures.grows)
+
+pub make-requires-4 : goal.make-requires-4
+make-requires-4 c = fits-Iff c.ways_around.new.table.pools (nodes c.ways_around.new.table) c.in_ok-on.on c.in_ok-ways.ways (t.reach (listed (unlisted (list_at c.args.table.now c.args.new))) (t.bound 1) (t.bound 0)) (t.or (leaves_out (unlisted (list_at c.args.table.now c.args.old)) (the_field (slice_get (nodes c.args.table.now) c.args.field)) (the_object (slice_get (nodes c.args.table.now) c.args.at)) (t.bound 1) (t.bound 0)) (t.and (way (unlisted (list_at c.args.table.now c.args.old)) (t.bound 1) (the_object (slice_get (nodes c.args.table.now) c.args.at))) (t.and (differ (the_object (slice_get (nodes c.args.table.now) c.args.value)) t.null) (leaves_out (unlisted (list_at c.args.table.now c.args.old)) (the_field (slice_get (nodes c.args.table.now) c.args.field)) (the_object (slice_get (nodes c.args.table.now) c.args.at)) (the_object (slice_get (nodes c.args.table.now) c.args.value)) (t.bound 0))))) (c.ways_around.ensures.grows.nodes.keeps c.in_ok-on.on (of_truth (t.reach (listed (unlisted (list_at c.args.table.now c.args.new))) (t.bound 1) (t.bound 0))) (c.in_ok-on.ensures.node ∙ ap (λ z. Some z) (tree-listed-Reach c.make-2.new.self c.args.new c.in_ok-from.from c.in_ok-to.to (listed (unlisted (list_at c.args.table.now c.args.new))) (t.bound 1) (t.bound 0) (list-grows c.make.new.self c.make-2.new.self c.args.new (listed (unlisted (list_at c.args.table.now c.args.new))) c.make-2.ensures.grows (list-grows c.args.table.now c.make.new.self c.args.new (listed (unlisted (list_at c.args.table.now c.args.new))) c.make.ensures.grows (list-of c.args.table.now c.args.new c.requires.new))) (c.make-2.ensures.grows.nodes.keeps c.in_ok-from.from (of_object (t.bound 1)) (c.in_ok-from.ensures.node ∙ ap (λ z. Some z) (tree-Bound c.args.table.now.pools (nodes c.args.table.now) 1))) (c.in_ok-to.ensures.node ∙ ap (λ z. Some z) (tree-Bound c.make.new.self.pools (nodes c.make.new.self) 0))))) (c.in_ok-ways.ensures.node (unlisted (list_at c.args.table.now c.args.old)) (the_field (slice_get (nodes c.args.table.now) c.args.field)) (the_object (slice_get (nodes c.args.table.now) c.args.at)) (the_object (slice_get (nodes c.args.table.now) c.args.value)) (t.bound 1) (t.bound 0) (list-grows c.make-2.new.self c.make-3.new.self c.args.old (listed (unlisted (list_at c.args.table.now c.args.old))) c.make-3.ensures.grows (list-grows c.make.new.self c.make-2.new.self c.args.old (listed (unlisted (list_at c.args.table.now c.args.old))) c.make-2.ensures.grows (list-grows c.args.table.now c.make.new.self c.args.old (listed (unlisted (list_at c.args.table.now c.args.old))) c.make.ensures.grows (list-of c.args.table.now c.args.old c.requires.old)))) (c.make-3.ensures.grows.nodes.keeps c.args.field (of_field (the_field (slice_get (nodes c.args.table.now) c.args.field))) (c.make-2.ensures.grows.nodes.keeps c.args.field (of_field (the_field (slice_get (nodes c.args.table.now) c.args.field))) (c.make.ensures.grows.nodes.keeps c.args.field (of_field (the_field (slice_get (nodes c.args.table.now) c.args.field))) c.requires.field))) (c.make-3.ensures.grows.nodes.keeps c.args.at (of_object (the_object (slice_get (nodes c.args.table.now) c.args.at))) (c.make-2.ensures.grows.nodes.keeps c.args.at (of_object (the_object (slice_get (nodes c.args.table.now) c.args.at))) (c.make.ensures.grows.nodes.keeps c.args.at (of_object (the_object (slice_get (nodes c.args.table.now) c.args.at))) c.requires.at))) (c.make-3.ensures.grows.nodes.keeps c.args.value (of_object (the_object (slice_get (nodes c.args.table.now) c.args.value))) (c.make-2.ensures.grows.nodes.keeps c.args.value (of_object (the_object (slice_get (nodes c.args.table.now) c.args.value))) (c.make.ensures.grows.nodes.keeps c.args.value (of_object (the_object (slice_get (nodes c.args.table.now) c.args.value))) c.requires.value))) (c.make-3.ensures.grows.nodes.keeps c.in_ok-from.from (of_object (t.bound 1)) (c.make-2.ensures.grows.nodes.keeps c.in_ok-from.from (of_object (t.bound 1)) (c.in_ok-from.ensures.node ∙ ap (λ z. Some z) (tree-Bound c.args.table.now.pools (nodes c.args.table.now) 1)))) (c.make-3.ensures.grows.nodes.keeps c.in_ok-to.to (of_object (t.bound 0)) (c.in_ok-to.ensures.node ∙ ap (λ z. Some z) (tree-Bound c.make.new.self.pools (nodes c.make.new.self) 0))))
+
+pub returns-in_err-end-clause-grows : goal.returns-in_err-end-clause-grows
+returns-in_err-end-clause-grows c = (extends-trans c.args.table.now c.ways_around.new.table c.make-4.new.self (extends-trans c.args.table.now c.make-3.new.self c.ways_around.new.table (extends-trans c.args.table.now c.make-2.new.self c.make-3.new.self (extends-trans c.args.table.now c.make.new.self c.make-2.new.self c.make.ensures.grows c.make-2.ensures.grows) c.make-3.ensures.grows) c.ways_around.ensures.grows) c.make-4.ensures.grows)
+
+pub not_null-requires : goal.not_null-requires
+not_null-requires c = record { object = holds-object (slice_get (nodes c.make-4.new.self) c.in_ok-to.to) (t.bound 0) (c.make-4.ensures.grows.nodes.keeps c.in_ok-to.to (of_object (t.bound 0)) (c.ways_around.ensures.grows.nodes.keeps c.in_ok-to.to (of_object (t.bound 0)) (c.make-3.ensures.grows.nodes.keeps c.in_ok-to.to (of_object (t.bound 0)) (c.in_ok-to.ensures.node ∙ ap (λ z. Some z) (tree-Bound c.make.new.self.pools (nodes c.make.new.self) 0))))) }
+
+pub returns-in_err-premise-clause-grows : goal.returns-in_err-premise-clause-grows
+returns-in_err-premise-clause-grows c = (extends-trans c.args.table.now c.make-4.new.self c.not_null.new.table (extends-trans c.args.table.now c.ways_around.new.table c.make-4.new.self (extends-trans c.args.table.now c.make-3.new.self c.ways_around.new.table (extends-trans c.args.table.now c.make-2.new.self c.make-3.new.self (extends-trans c.args.table.now c.make.new.self c.make-2.new.self c.make.ensures.grows c.make-2.ensures.grows) c.make-3.ensures.grows) c.ways_around.ensures.grows) c.make-4.ensures.grows) c.not_null.ensures.grows)
+
+pub follows_for_two-requires : goal.follows_for_two-requires
+follows_for_two-requires c = record { premise = holds-formula (slice_get (nodes c.not_null.new.table) c.in_ok-premise.premise) (differ (t.bound 0) t.null) (c.in_ok-premise.ensures.node (t.bound 0) (c.make-4.ensures.grows.nodes.keeps c.in_ok-to.to (of_object (t.bound 0)) (c.ways_around.ensures.grows.nodes.keeps c.in_ok-to.to (of_object (t.bound 0)) (c.make-3.ensures.grows.nodes.keeps c.in_ok-to.to (of_object (t.bound 0)) (c.in_ok-to.ensures.node ∙ ap (λ z. Some z) (tree-Bound c.make.new.self.pools (nodes c.make.new.self) 0)))))); end = holds-formula (slice_get (nodes c.not_null.new.table) c.in_ok-end.end) (t.iff (t.reach (listed (unlisted (list_at c.args.table.now c.args.new))) (t.bound 1) (t.bound 0)) (t.or (leaves_out (unlisted (list_at c.args.table.now c.args.old)) (the_field (slice_get (nodes c.args.table.now) c.args.field)) (the_object (slice_get (nodes c.args.table.now) c.args.at)) (t.bound 1) (t.bound 0)) (t.and (way (unlisted (list_at c.args.table.now c.args.old)) (t.bound 1) (the_object (slice_get (nodes c.args.table.now) c.args.at))) (t.and (differ (the_object (slice_get (nodes c.args.table.now) c.args.value)) t.null) (leaves_out (unlisted (list_at c.args.table.now c.args.old)) (the_field (slice_get (nodes c.args.table.now) c.args.field)) (the_object (slice_get (nodes c.args.table.now) c.args.at)) (the_object (slice_get (nodes c.args.table.now) c.args.value)) (t.bound 0)))))) (c.not_null.ensures.grows.nodes.keeps c.in_ok-end.end (of_truth (t.iff (t.reach (listed (unlisted (list_at c.args.table.now c.args.new))) (t.bound 1) (t.bound 0)) (t.or (leaves_out (unlisted (list_at c.args.table.now c.args.old)) (the_field (slice_get (nodes c.args.table.now) c.args.field)) (the_object (slice_get (nodes c.args.table.now) c.args.at)) (t.bound 1) (t.bound 0)) (t.and (way (unlisted (list_at c.args.table.now c.args.old)) (t.bound 1) (the_object (slice_get (nodes c.args.table.now) c.args.at))) (t.and (differ (the_object (slice_get (nodes c.args.table.now) c.args.value)) t.null) (leaves_out (unlisted (list_at c.args.table.now c.args.old)) (the_field (slice_get (nodes c.args.table.now) c.args.field)) (the_object (slice_get (nodes c.args.table.now) c.args.at)) (the_object (slice_get (nodes c.args.table.now) c.args.value)) (t.bound 0))))))) (c.in_ok-end.ensures.node ∙ ap (λ z. Some z) (tree-Iff c.ways_around.new.table.pools (nodes c.ways_around.new.table) c.in_ok-on.on c.in_ok-ways.ways (t.reach (listed (unlisted (list_at c.args.table.now c.args.new))) (t.bound 1) (t.bound 0)) (t.or (leaves_out (unlisted (list_at c.args.table.now c.args.old)) (the_field (slice_get (nodes c.args.table.now) c.args.field)) (the_object (slice_get (nodes c.args.table.now) c.args.at)) (t.bound 1) (t.bound 0)) (t.and (way (unlisted (list_at c.args.table.now c.args.old)) (t.bound 1) (the_object (slice_get (nodes c.args.table.now) c.args.at))) (t.and (differ (the_object (slice_get (nodes c.args.table.now) c.args.value)) t.null) (leaves_out (unlisted (list_at c.args.table.now c.args.old)) (the_field (slice_get (nodes c.args.table.now) c.args.field)) (the_object (slice_get (nodes c.args.table.now) c.args.at)) (the_object (slice_get (nodes c.args.table.now) c.args.value)) (t.bound 0))))) (c.ways_around.ensures.grows.nodes.keeps c.in_ok-on.on (of_truth (t.reach (listed (unlisted (list_at c.args.table.now c.args.new))) (t.bound 1) (t.bound 0))) (c.in_ok-on.ensures.node ∙ ap (λ z. Some z) (tree-listed-Reach c.make-2.new.self c.args.new c.in_ok-from.from c.in_ok-to.to (listed (unlisted (list_at c.args.table.now c.args.new))) (t.bound 1) (t.bound 0) (list-grows c.make.new.self c.make-2.new.self c.args.new (listed (unlisted (list_at c.args.table.now c.args.new))) c.make-2.ensures.grows (list-grows c.args.table.now c.make.new.self c.args.new (listed (unlisted (list_at c.args.table.now c.args.new))) c.make.ensures.grows (list-of c.args.table.now c.args.new c.requires.new))) (c.make-2.ensures.grows.nodes.keeps c.in_ok-from.from (of_object (t.bound 1)) (c.in_ok-from.ensures.node ∙ ap (λ z. Some z) (tree-Bound c.args.table.now.pools (nodes c.args.table.now) 1))) (c.in_ok-to.ensures.node ∙ ap (λ z. Some z) (tree-Bound c.make.new.self.pools (nodes c.make.new.self) 0))))) (c.in_ok-ways.ensures.node (unlisted (list_at c.args.table.now c.args.old)) (the_field (slice_get (nodes c.args.table.now) c.args.field)) (the_object (slice_get (nodes c.args.table.now) c.args.at)) (the_object (slice_get (nodes c.args.table.now) c.args.value)) (t.bound 1) (t.bound 0) (list-grows c.make-2.new.self c.make-3.new.self c.args.old (listed (unlisted (list_at c.args.table.now c.args.old))) c.make-3.ensures.grows (list-grows c.make.new.self c.make-2.new.self c.args.old (listed (unlisted (list_at c.args.table.now c.args.old))) c.make-2.ensures.grows (list-grows c.args.table.now c.make.new.self c.args.old (listed (unlisted (list_at c.args.table.now c.args.old))) c.make.ensures.grows (list-of c.args.table.now c.args.old c.requires.old)))) (c.make-3.ensures.grows.nodes.keeps c.args.field (of_field (the_field (slice_get (nodes c.args.table.now) c.args.field))) (c.make-2.ensures.grows.nodes.keeps c.args.field (of_field (the_field (slice_get (nodes c.args.table.now) c.args.field))) (c.make.ensures.grows.nodes.keeps c.args.field (of_field (the_field (slice_get (nodes c.args.table.now) c.args.field))) c.requires.field))) (c.make-3.ensures.grows.nodes.keeps c.args.at (of_object (the_object (slice_get (nodes c.args.table.now) c.args.at))) (c.make-2.ensures.grows.nodes.keeps c.args.at (of_object (the_object (slice_get (nodes c.args.table.now) c.args.at))) (c.make.ensures.grows.nodes.keeps c.args.at (of_object (the_object (slice_get (nodes c.args.table.now) c.args.at))) c.requires.at))) (c.make-3.ensures.grows.nodes.keeps c.args.value (of_object (the_object (slice_get (nodes c.args.table.now) c.args.value))) (c.make-2.ensures.grows.nodes.keeps c.args.value (of_object (the_object (slice_get (nodes c.args.table.now) c.args.value))) (c.make.ensures.grows.nodes.keeps c.args.value (of_object (the_object (slice_get (nodes c.args.table.now) c.args.value))) c.requires.value))) (c.make-3.ensures.grows.nodes.keeps c.in_ok-from.from (of_object (t.bound 1)) (c.make-2.ensures.grows.nodes.keeps c.in_ok-from.from (of_object (t.bound 1)) (c.in_ok-from.ensures.node ∙ ap (λ z. Some z) (tree-Bound c.args.table.now.pools (nodes c.args.table.now) 1)))) (c.make-3.ensures.grows.nodes.keeps c.in_ok-to.to (of_object (t.bound 0)) (c.in_ok-to.ensures.node ∙ ap (λ z. Some z) (tree-Bound c.make.new.self.pools (nodes c.make.new.self) 0))))))) }
+
+pub returns-clause-node : goal.returns-clause-node
+returns-clause-node c = λ fs gs f a v h_new h_old h_field h_at h_value. c.follows_for_two.ensures.node (differ (t.bound 0) t.null) (t.iff (t.reach (listed fs) (t.bound 1) (t.bound 0)) (t.or (leaves_out gs f a (t.bound 1) (t.bound 0)) (t.and (way gs (t.bound 1) a) (t.and (differ v t.null) (leaves_out gs f a v (t.bound 0)))))) (c.in_ok-premise.ensures.node (t.bound 0) (c.make-4.ensures.grows.nodes.keeps c.in_ok-to.to (of_object (t.bound 0)) (c.ways_around.ensures.grows.nodes.keeps c.in_ok-to.to (of_object (t.bound 0)) (c.make-3.ensures.grows.nodes.keeps c.in_ok-to.to (of_object (t.bound 0)) (c.in_ok-to.ensures.node ∙ ap (λ z. Some z) (tree-Bound c.make.new.self.pools (nodes c.make.new.self) 0)))))) (c.not_null.ensures.grows.nodes.keeps c.in_ok-end.end (of_truth (t.iff (t.reach (listed fs) (t.bound 1) (t.bound 0)) (t.or (leaves_out gs f a (t.bound 1) (t.bound 0)) (t.and (way gs (t.bound 1) a) (t.and (differ v t.null) (leaves_out gs f a v (t.bound 0))))))) (c.in_ok-end.ensures.node ∙ ap (λ z. Some z) (tree-Iff c.ways_around.new.table.pools (nodes c.ways_around.new.table) c.in_ok-on.on c.in_ok-ways.ways (t.reach (listed fs) (t.bound 1) (t.bound 0)) (t.or (leaves_out gs f a (t.bound 1) (t.bound 0)) (t.and (way gs (t.bound 1) a) (t.and (differ v t.null) (leaves_out gs f a v (t.bound 0))))) (c.ways_around.ensures.grows.nodes.keeps c.in_ok-on.on (of_truth (t.reach (listed fs) (t.bound 1) (t.bound 0))) (c.in_ok-on.ensures.node ∙ ap (λ z. Some z) (tree-listed-Reach c.make-2.new.self c.args.new c.in_ok-from.from c.in_ok-to.to (listed fs) (t.bound 1) (t.bound 0) (list-grows c.make.new.self c.make-2.new.self c.args.new (listed fs) c.make-2.ensures.grows (list-grows c.args.table.now c.make.new.self c.args.new (listed fs) c.make.ensures.grows h_new)) (c.make-2.ensures.grows.nodes.keeps c.in_ok-from.from (of_object (t.bound 1)) (c.in_ok-from.ensures.node ∙ ap (λ z. Some z) (tree-Bound c.args.table.now.pools (nodes c.args.table.now) 1))) (c.in_ok-to.ensures.node ∙ ap (λ z. Some z) (tree-Bound c.make.new.self.pools (nodes c.make.new.self) 0))))) (c.in_ok-ways.ensures.node gs f a v (t.bound 1) (t.bound 0) (list-grows c.make-2.new.self c.make-3.new.self c.args.old (listed gs) c.make-3.ensures.grows (list-grows c.make.new.self c.make-2.new.self c.args.old (listed gs) c.make-2.ensures.grows (list-grows c.args.table.now c.make.new.self c.args.old (listed gs) c.make.ensures.grows h_old))) (c.make-3.ensures.grows.nodes.keeps c.args.field (of_field f) (c.make-2.ensures.grows.nodes.keeps c.args.field (of_field f) (c.make.ensures.grows.nodes.keeps c.args.field (of_field f) h_field))) (c.make-3.ensures.grows.nodes.keeps c.args.at (of_object a) (c.make-2.ensures.grows.nodes.keeps c.args.at (of_object a) (c.make.ensures.grows.nodes.keeps c.args.at (of_object a) h_at))) (c.make-3.ensures.grows.nodes.keeps c.args.value (of_object v) (c.make-2.ensures.grows.nodes.keeps c.args.value (of_object v) (c.make.ensures.grows.nodes.keeps c.args.value (of_object v) h_value))) (c.make-3.ensures.grows.nodes.keeps c.in_ok-from.from (of_object (t.bound 1)) (c.make-2.ensures.grows.nodes.keeps c.in_ok-from.from (of_object (t.bound 1)) (c.in_ok-from.ensures.node ∙ ap (λ z. Some z) (tree-Bound c.args.table.now.pools (nodes c.args.table.now) 1)))) (c.make-3.ensures.grows.nodes.keeps c.in_ok-to.to (of_object (t.bound 0)) (c.in_ok-to.ensures.node ∙ ap (λ z. Some z) (tree-Bound c.make.new.self.pools (nodes c.make.new.self) 0)))))))
+
+pub returns-clause-grows : goal.returns-clause-grows
+returns-clause-grows c = (extends-trans c.args.table.now c.not_null.new.table c.follows_for_two.new.table (extends-trans c.args.table.now c.make-4.new.self c.not_null.new.table (extends-trans c.args.table.now c.ways_around.new.table c.make-4.new.self (extends-trans c.args.table.now c.make-3.new.self c.ways_around.new.table (extends-trans c.args.table.now c.make-2.new.self c.make-3.new.self (extends-trans c.args.table.now c.make.new.self c.make-2.new.self c.make.ensures.grows c.make-2.ensures.grows) c.make-3.ensures.grows) c.ways_around.ensures.grows) c.make-4.ensures.grows) c.not_null.ensures.grows) c.follows_for_two.ensures.grows)

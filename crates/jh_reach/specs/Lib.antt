@@ -1,0 +1,5 @@
+pub mod Axioms
+pub mod Truths
+pub mod Standing
+pub mod Parts
+pub mod Based
