@@ -30,7 +30,7 @@ other-set : (x y : Text) (v w : ℕ → Bool) → has_dot x ≡ false → has_do
 other-set x y v w h k true e = absurd (apart-by-dot x y h k e)
 other-set x y v w h k false e = refl
 
-stored-sets : (s : State) (y : Text) (d : Datum) → has_dot y ≡ true → Grew s (stored s y d)
+pub stored-sets : (s : State) (y : Text) (d : Datum) → has_dot y ≡ true → Grew s (stored s y d)
 stored-sets s y (an_object v) k x h a i = i
 stored-sets s y (a_number v) k x h a i = i
 stored-sets s y (a_truth v) k x h a i = i

@@ -172,7 +172,7 @@ module _ (p : Program) (names : NamesFit p) where
       first (inl i) = inr (Contains-append_left before after y i)
       first (inr i) = second (Contains-append_cases (x ∷ []) after y i)
 
-  dot-or-none : {X : Type 0} (x y : Text) → has_dot x ≡ true → has_dot y ≡ false → x ≡ y → X
+  pub dot-or-none : {X : Type 0} (x y : Text) → has_dot x ≡ true → has_dot y ≡ false → x ≡ y → X
   dot-or-none x y h i e = absurd (true≢false (sym h ∙ (ap has_dot e ∙ i)))
 
   -- where it goes on, the state is well formed and what is in scope lies in its types
@@ -210,7 +210,7 @@ module _ (p : Program) (names : NamesFit p) where
   suits-of x t s (a_field g) e h = tt
 
   -- what is in scope lies in its types where other fields are
-  scope-of-field : (at : Surroundings) (s : State) (f : Text) (a : ℕ) (d : Datum) → ScopeFits p names at → ScopeLies p names at s → ScopeLies p names at (stored_at s f a d)
+  pub scope-of-field : (at : Surroundings) (s : State) (f : Text) (a : ℕ) (d : Datum) → ScopeFits p names at → ScopeLies p names at s → ScopeLies p names at (stored_at s f a d)
   scope-of-field at s f a d fit l = record {
     locals = λ x i. lies-grow p names x.type s (stored_at s f a d) (s.object (named x.text)) (fit.types x i) (λ z n b m. m) (l.locals x i);
     this = λ n e. l.this n e;

@@ -1,6 +1,7 @@
 -- Runs of typed code keep states well formed.
 use Rattle.std.proofs.Common.{◌≡◌, refl, sym, ap, subst, ◌∙◌, ℕ, zero, suc, ◌<◌, ◌⊎◌, inl, inr, ◌==◌, ◌&&◌, not, nat_lt, Bool, true, false, if◌then◌else◌, List, [], ◌∷◌, ◌++◌, Option, None, Some, codes, arith}
 use Rattle.std.specs.List.{Contains}
+use Rattle.std.specs.Option.{option_map_or}
 use Rattle.std.proofs.lemmas.Bool.{true≢false}
 use Rattle.std.proofs.lemmas.Bool.Decides.{nat_tests}
 use Rattle.std.proofs.lemmas.List.Elements.{Contains-append_left, Contains-append_right}
@@ -19,15 +20,18 @@ use Rattle.jh_runs.specs.WellFormed.{all_classes}
 use Rattle.jh_runs.specs.Values.{Value, value, null_at, then_value, object_of, number_of, truth_of, value_of}
 use Rattle.jh_runs.specs.Progress.{Configuration, Progress, goes_on, returns, stops, pay, with_value, goes_on_in}
 use Rattle.jh_runs.specs.Objects.{is_free, created, pick, target_of, put}
-use Rattle.jh_runs.specs.Typed.{Surroundings, IsType, NamesFit, ProgramFits, Has, Fits, Takes, TakesFit, TypeOf, plain_objects, objects_of, declaring}
+use Rattle.jh_runs.specs.Typed.{Surroundings, IsType, NamesFit, ProgramFits, Has, Fits, Takes, new_local, old_local, a_static, TakesFit, TypeOf, plain_objects, objects_of, declaring, scope_behind, MayDeclare, AssignFits, NewFits, CallFits, ResultFits, GhostFits, GhostFieldFits, StmtFits, StmtsFit}
+use Rattle.jh_runs.specs.Typed as typed
 use Rattle.jh_runs.specs.Laws.{Grew, IsInside, ResultInside}
-use Rattle.jh_runs.proofs.Keeping.{Ends, IsOf, keeps-pay, keeps-value}
-use Rattle.jh_runs.proofs.Inside.{Lies, Below, object-lies, value-lies, free-lies, created-lies}
+use Rattle.jh_tree.specs.Tree.{ValueTree}
+use Rattle.jh_runs.specs.Execution.{asked, ghost_stored, turns, loop, exec, exec_all}
+use Rattle.jh_runs.proofs.Keeping.{Ends, IsOf, keeps-pay, keeps-value, keeps-any, keeps-if, keeps-pick, keeps-choose, keeps-then, keeps-turns, keeps-asked}
+use Rattle.jh_runs.proofs.Inside.{Lies, Below, object-lies, value-lies, free-lies, created-lies, stored-lies, stored-at-lies, datum-lies, term-lies}
 use Rattle.jh_runs.proofs.Whole.{Stands, StandsWith, put-whole, target-lies}
-use Rattle.jh_runs.proofs.Growth.{created-sets}
-use Rattle.jh_runs.proofs.Formed.{IsClass, ObjectLies, Formed, lies-grow, class-of, created-formed, created-class, created-alloc, now-there}
+use Rattle.jh_runs.proofs.Growth.{created-sets, stored-sets}
+use Rattle.jh_runs.proofs.Formed.{IsClass, ObjectLies, Formed, lies-grow, class-of, created-formed, set-formed, field-formed, Suits, created-class, created-alloc, now-there}
 use Rattle.jh_runs.proofs.Typing.{ScopeLies, ScopeFits, DatumLies, fits-object, fits-datum, has-type, object-typed}
-use Rattle.jh_runs.proofs.Storing.{TargetLies, target-typed, target-grow, FormedIn, put-formed}
+use Rattle.jh_runs.proofs.Storing.{TargetLies, target-typed, target-grow, FormedIn, put-formed, stored-formed, stored-scope, split-off, dot-or-none, scope-of-field}
 
 -- two things at once
 pub ends-both : (P Q : Configuration → Type 0) (R S : Configuration → Option Datum → Type 0) (x : Progress) → Ends P R x → Ends Q S x → Ends (λ r. P r × Q r) (λ r v. R r v × S r v) x
@@ -95,3 +99,137 @@ module _ (p : Program) (names : NamesFit p) (n : ℕ) where
         (put-whole n target a d r g.0 i h.1)
         (put-formed p names (FormedWith result) at target takes.type a d r takes.takes fit g.1 l
           (fits-datum p names t takes.type r.now d (g.1).0 (inside-own r.now d (g.0.now).last h.1) type takes.fit h.0))
+
+  target-both : (at : Surroundings) (target : Target) (t : Ty) (s : State) → Takes p at target t → Formed p s → Lies n s → ScopeLies p names at s → IsOf (λ a. TargetLies p names target s a × (a < suc n)) (target_of target s)
+  target-both at target t s takes f l g = both-of (λ a. TargetLies p names target s a) (Below n) (target_of target s) (target-typed p names at target t s takes f (lies-own n s l) g) (target-lies n target s l)
+
+  -- what is free
+  not-last : (x y z : Bool) → (x && y && not z) ≡ true → z ≡ false
+  not-last true true false h = refl
+  not-last true true true h = absurd (true≢false (sym h))
+  not-last true false z h = absurd (true≢false (sym h))
+  not-last false y z h = absurd (true≢false (sym h))
+
+  not-first : (x y z : Bool) → (not x && y && z) ≡ true → x ≡ false
+  not-first false y z h = refl
+  not-first true y z h = absurd (true≢false (sym h))
+
+  other-way : (a : ℕ) → (a == 0) ≡ false → (0 == a) ≡ false
+  other-way a h = grind (arith, nat_tests)
+
+  free-fresh : (s : State) (a : ℕ) → is_free s a ≡ true → s.set alloc_name a ≡ false
+  free-fresh s a h = not-last (not (a == 0)) (nat_lt a (suc s.last)) (s.set alloc_name a) h
+
+  free-nonzero : (s : State) (a : ℕ) → is_free s a ≡ true → (0 == a) ≡ false
+  free-nonzero s a h = other-way a (not-first (a == 0) (nat_lt a (suc s.last)) (not (s.set alloc_name a)) h)
+
+  -- the class of a new object
+  class-is : (class : Text) (t : Ty) → TypeOf p class t → IsClass p class
+  class-is _ _ plain_objects = Contains-append_right p.classes (codes "Object" ∷ []) (codes "Object") (0, omega arith, refl)
+  class-is _ _ (objects_of k h) = class-of p names (class_at p.classes k) h
+
+  type-is : (class : Text) (t : Ty) → TypeOf p class t → IsType p t
+  type-is _ _ plain_objects = tt
+  type-is _ _ (objects_of k h) = h
+
+  new-lies : (class : Text) (t : Ty) (s : State) (a : ℕ) → TypeOf p class t → ObjectLies p t (created s class a) a
+  new-lies _ _ s a plain_objects = inr (created-alloc p names s (codes "Object") a a (class-is (codes "Object") ty.Object plain_objects) ∙ now-there p names (s.set alloc_name a) a a refl)
+  new-lies _ _ s a (objects_of k h) = inr (created-class p names s (class_at p.classes k) a a (class-of p names (class_at p.classes k) h) ∙ now-there p names (s.set (named (class_at p.classes k)) a) a a refl)
+
+  scope-created : (at : Surroundings) (s : State) (class : Text) (a : ℕ) → ScopeFits p names at → ScopeLies p names at s → ScopeLies p names at (created s class a)
+  scope-created at s class a fit l = record {
+    locals = λ x i. lies-grow p names x.type s (created s class a) (s.object (named x.text)) (fit.types x i) (created-sets s class a) (l.locals x i);
+    this = λ k e. created-sets s class a (class_at p.classes k) (names.dotless (class_at p.classes k) (class-of p names (class_at p.classes k) (fit.of_class k e))) (s.object this_name) (l.this k e);
+  }
+
+  -- where a new object goes
+  new-good : (result : Ty) (at : Surroundings) (q : Place) (target : Target) (class : Text) (t : Ty) (r : Configuration) → TypeOf p class t → TakesFit p at target t → ScopeFits p names at → Good at r →
+      (a : ℕ) → TargetLies p names target r.now a → a < suc n → (x : ℕ) (more : List ℕ) → is_free r.now x ≡ true →
+      Ends (Good (declaring p at target)) (GoodWith result) (put target a (an_object x) (record r { picks = more; now = created r.now class x }))
+  new-good result at q target class t r is takes fit g a l i x more e =
+      let s : State = r.now in
+      let inside : x < suc n = free-lies n s x g.0.now e in
+      put-good result at target t a (an_object x) (record r { picks = more; now = created s class x }) takes (type-is class t is) fit
+        (record { now = created-lies n s class x g.0.now inside; entry = g.0.entry },
+        (created-formed p names s class x (class-is class t is) (free-lies s.last s x (lies-own n s g.0.now) e) (free-fresh s x e) (free-nonzero s x e) (g.1).0,
+        scope-created at s class x fit (g.1).1))
+        (target-grow p names target s (created s class x) a (created-sets s class x) l) i (new-lies class t s x is, inside)
+
+  abbrev pub FormedState : Surroundings → State → Type 0
+  FormedState at s = Formed p s × ScopeLies p names at s
+
+  -- ghost variables: no member with a type has the name of one
+  untyped : {X : Type 0} (y x : Member) (t : Ty) → Contains p.members y → y.type ≡ None → Contains p.members x → x.type ≡ Some t → x.text ≡ y.text → X
+  untyped y x t i none j some e = absurd (apart-types (sym some ∙ (ap (λ (z : Member). z.type) (names.members x y j i e) ∙ none)))
+    where
+      apart-types : ◌≡◌ {A = Option Ty} (Some t) None → ⊥
+      apart-types h = true≢false (ap (λ (z : Option Ty). option_map_or (λ u. true) z false) h)
+
+  ghost-formed : (at : Surroundings) (s : State) (y : Member) (d : Datum) → Contains p.members y → y.type ≡ None → ScopeFits p names at → FormedState at s → FormedState at (stored s y.text d)
+  ghost-formed at s y (an_object v) i e fit g = (
+      stored-formed p names s y.text (an_object v) ty.Int tt g.0 (λ x t j m some q. untyped y x t i e j some q),
+      stored-scope p names at s y.text (an_object v) ty.Int tt fit.types (λ x j q. (g.1).locals x j) (λ k h. (g.1).this k h) (λ q. dot-or-none p names y.text (codes "this") (names.dots y i) refl (sym q)) (λ x j q. dot-or-none p names y.text x.text (names.dots y i) (fit.no_state x j) (sym q)))
+  ghost-formed at s y (a_number v) i e fit g = (
+      stored-formed p names s y.text (a_number v) ty.Int refl g.0 (λ x t j m some q. untyped y x t i e j some q),
+      stored-scope p names at s y.text (a_number v) ty.Int refl fit.types (λ x j q. (g.1).locals x j) (λ k h. (g.1).this k h) (λ q. dot-or-none p names y.text (codes "this") (names.dots y i) refl (sym q)) (λ x j q. dot-or-none p names y.text x.text (names.dots y i) (fit.no_state x j) (sym q)))
+  ghost-formed at s y (a_truth v) i e fit g = (
+      stored-formed p names s y.text (a_truth v) ty.Boolean refl g.0 (λ x t j m some q. untyped y x t i e j some q),
+      stored-scope p names at s y.text (a_truth v) ty.Boolean refl fit.types (λ x j q. (g.1).locals x j) (λ k h. (g.1).this k h) (λ q. dot-or-none p names y.text (codes "this") (names.dots y i) refl (sym q)) (λ x j q. dot-or-none p names y.text x.text (names.dots y i) (fit.no_state x j) (sym q)))
+  ghost-formed at s y (a_set v) i e fit g =
+      let u : State = stored s y.text (a_set v) in
+      (set-formed p names s y.text (λ a. nat_lt a (suc s.last) && v a) (names.dots y i) g.0,
+      record {
+        locals = λ x j. lies-grow p names x.type s u (s.object (named x.text)) (fit.types x j) (stored-sets s y.text (a_set v) (names.dots y i)) ((g.1).locals x j);
+        this = λ k h. stored-sets s y.text (a_set v) (names.dots y i) (class_at p.classes k) (names.dotless (class_at p.classes k) (class-of p names (class_at p.classes k) (fit.of_class k h))) (s.object this_name) ((g.1).this k h);
+      })
+  ghost-formed at s y (a_field v) i e fit g = g
+
+  ghost-suits : (y : Member) (s : State) (d : Datum) → y.type ≡ None → Suits p names y s d
+  ghost-suits y s (an_object v) e = λ t some. absurd (true≢false (ap (λ (z : Option Ty). option_map_or (λ u. true) z false) (sym some ∙ e)))
+  ghost-suits y s (a_number v) e = tt
+  ghost-suits y s (a_truth v) e = tt
+  ghost-suits y s (a_set v) e = tt
+  ghost-suits y s (a_field v) e = tt
+
+  -- scopes
+  takes-fits : (at : Surroundings) (target : Target) (t : Ty) → Takes p at target t → ScopeFits p names at → ScopeFits p names (declaring p at target)
+  takes-fits at _ _ (new_local x may) fit = record {
+    no_state = λ y i. by_split y (λ y. has_dot y.text ≡ false) may.no_state (λ j. fit.no_state y j) (split-off p names at.params x at.locals y i);
+    not_this = λ y i. by_split y (λ y. y.text ≡ codes "this" → ⊥) may.not_this (λ j. fit.not_this y j) (split-off p names at.params x at.locals y i);
+    one = λ y z i j e. both_split y z e (split-off p names at.params x at.locals y i) (split-off p names at.params x at.locals z j);
+    types = λ y i. by_split y (λ y. IsType p y.type) may.type_fits (λ j. fit.types y j) (split-off p names at.params x at.locals y i);
+    of_class = λ k e. fit.of_class k e;
+  }
+    where
+      by_split : (y : Local) (P : Local → Type 0) → P x → (Contains (at.params ++ at.locals) y → P y) → (y ≡ x) ⊎ Contains (at.params ++ at.locals) y → P y
+      by_split y P h g (inl e) = subst P (sym e) h
+      by_split y P h g (inr i) = g i
+      both_split : (y z : Local) → y.text ≡ z.text → (y ≡ x) ⊎ Contains (at.params ++ at.locals) y → (z ≡ x) ⊎ Contains (at.params ++ at.locals) z → y.type ≡ z.type
+      both_split y z e (inl h) (inl g) = ap (λ (w : Local). w.type) (h ∙ sym g)
+      both_split y z e (inl h) (inr g) = absurd (may.is_new z g (sym e ∙ ap (λ (w : Local). w.text) h))
+      both_split y z e (inr h) (inl g) = absurd (may.is_new y h (e ∙ ap (λ (w : Local). w.text) g))
+      both_split y z e (inr h) (inr g) = fit.one y z h g e
+  takes-fits at _ _ (old_local x i) fit = fit
+  takes-fits at _ _ (a_static x t m) fit = fit
+  takes-fits at _ _ (typed.a_field x t m r q k has e) fit = fit
+
+  result-scope : (at : Surroundings) (target : Target) (t : Ty) → ResultFits p at target t → ScopeFits p names at → ScopeFits p names (declaring p at target)
+  result-scope at c.nowhere t h fit = fit
+  result-scope at (c.to_new x) t h fit = takes-fits at (c.to_new x) h.type h.takes fit
+  result-scope at (c.to_name x) t h fit = fit
+  result-scope at (c.to_field x r q) t h fit = fit
+
+  fits-behind : (result : Ty) (s : Stmt) (at : Surroundings) → StmtFits p result s at → ScopeFits p names at → ScopeFits p names (scope_behind p at s)
+  fits-behind result (c.assign target e) at h fit = takes-fits at target (h.fit).type (h.fit).takes fit
+  fits-behind result (c.new_object q target class) at h fit = takes-fits at target (h.fit).type (h.fit).takes fit
+  fits-behind result (c.call q target r place m args) at h fit = result-scope at target (h.method).result h.result_fits fit
+  fits-behind result c.empty at h fit = fit
+  fits-behind result (c.block body) at h fit = fit
+  fits-behind result (c.branch q e a b) at h fit = fit
+  fits-behind result (c.loop q invariants e body) at h fit = fit
+  fits-behind result c.return_nothing at h fit = fit
+  fits-behind result (c.return_value e) at h fit = fit
+  fits-behind result (c.assert claim) at h fit = fit
+  fits-behind result (c.note claim) at h fit = fit
+  fits-behind result (c.ghost x q v) at h fit = fit
+  fits-behind result (c.ghost_at q class f a place v) at h fit = fit
