@@ -4,7 +4,7 @@ use Rattle.std.specs.List.{Contains}
 use Rattle.std.specs.Option.{option_map_or}
 use Rattle.std.proofs.lemmas.Bool.{true≢false}
 use Rattle.std.proofs.lemmas.Bool.Decides.{nat_tests}
-use Rattle.std.proofs.lemmas.List.Elements.{Contains-append_left, Contains-append_right}
+use Rattle.std.proofs.lemmas.List.Elements.{Contains-append_left, Contains-append_right, Contains-append_cases}
 use Rattle.jh_name.specs.declared.place.Place.{Place}
 use Rattle.jh_vars.specs.Written.{Callee}
 use Rattle.jh_tree.specs.Meaning.{Datum, an_object, a_number, a_truth, a_set, a_field, datum, term_value}
@@ -18,7 +18,7 @@ use Rattle.jh_runs.specs.State.{State, named, this_name, alloc_name, shown, stor
 use Rattle.jh_runs.specs.Locals.{has_dot}
 use Rattle.jh_runs.specs.WellFormed.{all_classes}
 use Rattle.jh_runs.specs.Values.{Value, value, null_at, then_value, object_of, number_of, truth_of, value_of}
-use Rattle.jh_runs.specs.Progress.{Configuration, Progress, goes_on, returns, stops, pay, with_value, goes_on_in}
+use Rattle.jh_runs.specs.Progress.{Configuration, Progress, goes_on, returns, stops, pay, pay_from, then_run, with_value, choose, goes_on_in}
 use Rattle.jh_runs.specs.Objects.{is_free, created, pick, target_of, put}
 use Rattle.jh_runs.specs.Typed.{Surroundings, IsType, NamesFit, ProgramFits, Has, Fits, Takes, new_local, old_local, a_static, TakesFit, TypeOf, plain_objects, objects_of, declaring, scope_behind, MayDeclare, AssignFits, NewFits, CallFits, ResultFits, GhostFits, GhostFieldFits, StmtFits, StmtsFit}
 use Rattle.jh_runs.specs.Typed as typed
@@ -233,3 +233,119 @@ module _ (p : Program) (names : NamesFit p) (n : ℕ) where
   fits-behind result (c.note claim) at h fit = fit
   fits-behind result (c.ghost x q v) at h fit = fit
   fits-behind result (c.ghost_at q class f a place v) at h fit = fit
+
+  -- what holds with more in scope holds with less
+  fewer : (at : Surroundings) (target : Target) (s : State) → ScopeLies p names (declaring p at target) s → ScopeLies p names at s
+  fewer at c.nowhere s l = l
+  fewer at (c.to_name x) s l = l
+  fewer at (c.to_field f r q) s l = l
+  fewer at (c.to_new x) s l = record { locals = λ y i. l.locals y (one-more at.params x at.locals y i); this = λ k e. l.this k e }
+    where
+      behind : (xs : List Local) (x : Local) (y : Local) → Contains xs y → Contains (x ∷ xs) y
+      behind xs x y h = Contains-append_right (x ∷ []) xs y h
+      one-more : (before : List Local) (x : Local) (after : List Local) (y : Local) → Contains (before ++ after) y → Contains (before ++ (x ∷ after)) y
+      one-more before x after y h = cases (Contains-append_cases before after y h)
+        where
+          cases : Contains before y ⊎ Contains after y → Contains (before ++ (x ∷ after)) y
+          cases (inl i) = Contains-append_left before (x ∷ after) y i
+          cases (inr i) = Contains-append_right before (x ∷ after) y (Contains-append_right (x ∷ []) after y i)
+
+  behind-fewer : (s : Stmt) (at : Surroundings) (r : Configuration) → Good (scope_behind p at s) r → Good at r
+  behind-fewer (c.assign target e) at r h = (h.0, ((h.1).0, fewer at target r.now (h.1).1))
+  behind-fewer (c.new_object q target class) at r h = (h.0, ((h.1).0, fewer at target r.now (h.1).1))
+  behind-fewer (c.call q target receiver place m args) at r h = (h.0, ((h.1).0, fewer at target r.now (h.1).1))
+  behind-fewer c.empty at r h = h
+  behind-fewer (c.block body) at r h = h
+  behind-fewer (c.branch q e a b) at r h = h
+  behind-fewer (c.loop q invariants e body) at r h = h
+  behind-fewer c.return_nothing at r h = h
+  behind-fewer (c.return_value e) at r h = h
+  behind-fewer (c.assert claim) at r h = h
+  behind-fewer (c.note claim) at r h = h
+  behind-fewer (c.ghost x q v) at r h = h
+  behind-fewer (c.ghost_at q class f a place v) at r h = h
+
+  ends-map : (P Q : Configuration → Type 0) (R : Configuration → Option Datum → Type 0) (x : Progress) → ((r : Configuration) → P r → Q r) → Ends P R x → Ends Q R x
+  ends-map P Q R (goes_on r) f h = f r h
+  ends-map P Q R (returns r v) f h = h
+  ends-map P Q R (stops why) f h = tt
+
+  result-inside : (result : Ty) (at : Surroundings) (d : Datum) (t : Ty) (r : Configuration) → Good at r → IsType p t → fits t result ≡ true → ValueOf t r.now d → GoodWith result r (Some d)
+  result-inside result at d t r g type fit h =
+      ((g.0, h.1), ((g.1).0, fits-datum p names t result r.now d (g.1).0 (inside-own r.now d (g.0.now).last h.1) type fit h.0))
+
+  module _ (call : Callee → ℕ → List Datum → Configuration → Progress) (result : Ty) where
+    -- what a call in the code leads to
+    abbrev pub CallsGood : Type 0
+    CallsGood =
+        (at : Surroundings) (q : Place) (target : Target) (receiver : Option ObjectCode) (place : Place) (m : Callee) (args : List AnyCode) → CallFits p at target receiver m args → ScopeFits p names at →
+        (r : Configuration) → Good at r → Ends (Good (declaring p at target)) (GoodWith result) (exec call (c.call q target receiver place m args) r)
+
+    module _ (calls : CallsGood) where
+      pay-good : (at after : Surroundings) (r : Configuration) (next : Configuration → Progress) → Good at r → ((u : Configuration) → Good at u → Ends (Good after) (GoodWith result) (next u)) → Ends (Good after) (GoodWith result) (pay r next)
+      pay-good at after r next h f = from r.steps
+        where
+          from : (k : ℕ) → Ends (Good after) (GoodWith result) (pay_from k r next)
+          from zero = tt
+          from (suc k) = f (record r { steps = k }) (record { now = h.0.now; entry = h.0.entry }, h.1)
+
+      then-good : (at after : Surroundings) (x : Progress) (next : Configuration → Progress) → Ends (Good at) (GoodWith result) x → ((u : Configuration) → Good at u → Ends (Good after) (GoodWith result) (next u)) → Ends (Good after) (GoodWith result) (then_run x next)
+      then-good at after (goes_on r) next h f = f r h
+      then-good at after (returns r v) next h f = h
+      then-good at after (stops why) next h f = tt
+
+      mutual
+        exec-good : (s : Stmt) (at : Surroundings) → StmtFits p result s at → ScopeFits p names at → (r : Configuration) → Good at r → Ends (Good (scope_behind p at s)) (GoodWith result) (exec call s r)
+        exec-good c.empty at h fit r g = pay-good at at r goes_on g (λ u i. i)
+        exec-good (c.block body) at h fit r g = pay-good at at r (λ u. exec_all call body u) g (λ u i. all-good body at h fit u i)
+        exec-good (c.assign target e) at h fit r g =
+            pay-good at (declaring p at target) r (λ u. with_value (target_of target u.now) (λ a. with_value (value_of e u.now) (λ d. put target a d u))) g (λ u i.
+            keeps-value (Good (declaring p at target)) (GoodWith result) (paid (declaring p at target)) (λ a. TargetLies p names target u.now a × (a < suc n)) (target_of target u.now) (λ a. with_value (value_of e u.now) (λ d. put target a d u))
+              (target-both at target (h.fit).type u.now (h.fit).takes (i.1).0 i.0.now (i.1).1) (λ a l.
+            keeps-value (Good (declaring p at target)) (GoodWith result) (paid (declaring p at target)) (ValueOf h.type u.now) (value_of e u.now) (λ d. put target a d u) (value-typed at e h.type u.now h.has (i.1).0 i.0.now (i.1).1) (λ d v.
+            put-good result at target h.type a d u h.fit (any-type at fit e h.type h.has) fit i l.0 l.1 v)))
+        exec-good (c.new_object q target class) at h fit r g =
+            pay-good at (declaring p at target) r (λ u. with_value (target_of target u.now) (λ a. pick q u.picks u (λ x v. put target a (an_object x) (record v { now = created v.now class x })))) g (λ u i.
+            keeps-value (Good (declaring p at target)) (GoodWith result) (paid (declaring p at target)) (λ a. TargetLies p names target u.now a × (a < suc n)) (target_of target u.now) (λ a. pick q u.picks u (λ x v. put target a (an_object x) (record v { now = created v.now class x })))
+              (target-both at target (h.fit).type u.now (h.fit).takes (i.1).0 i.0.now (i.1).1) (λ a l.
+            keeps-pick (Good (declaring p at target)) (GoodWith result) (paid (declaring p at target)) q u.picks u (λ x v. put target a (an_object x) (record v { now = created v.now class x })) (λ x more e.
+            new-good result at q target class h.type u h.is h.fit fit i a l.0 l.1 x more e)))
+        exec-good (c.call q target receiver place m args) at h fit r g = calls at q target receiver place m args h fit r g
+        exec-good (c.branch q e a b) at h fit r g =
+            pay-good at at r (λ u. with_value (truth_of e u.now) (λ t. choose t (λ v. exec call a v) (λ v. exec_all call b v) u)) g (λ u i.
+            keeps-any (Good at) (GoodWith result) (paid at) (truth_of e u.now) (λ t. choose t (λ v. exec call a v) (λ v. exec_all call b v) u) (λ t.
+            keeps-choose (Good at) (GoodWith result) (paid at) t (λ v. exec call a v) (λ v. exec_all call b v) u
+              (ends-map (Good (scope_behind p at a)) (Good at) (GoodWith result) (exec call a u) (λ v j. behind-fewer a at v j) (exec-good a at h.0 fit u i)) (all-good b at h.1 fit u i)))
+        exec-good (c.loop q invariants e body) at h fit r g =
+            pay-good at at r (λ u. loop e (λ v. exec call body v) u) g (λ u i.
+            keeps-turns (Good at) (GoodWith result) (paid at) e (λ v. exec call body v) (λ v j.
+            ends-map (Good (scope_behind p at body)) (Good at) (GoodWith result) (exec call body v) (λ w l. behind-fewer body at w l) (exec-good body at h.1 fit v j)) (suc u.steps) u i)
+        exec-good c.return_nothing at h fit r g = pay-good at at r (λ u. returns u None) g (λ u i. ((i.0, tt), ((i.1).0, h)))
+        exec-good (c.return_value e) at h fit r g =
+            pay-good at at r (λ u. with_value (value_of e u.now) (λ d. returns u (Some d))) g (λ u i.
+            keeps-value (Good at) (GoodWith result) (paid at) (ValueOf h.type u.now) (value_of e u.now) (λ d. returns u (Some d)) (value-typed at e h.type u.now h.has (i.1).0 i.0.now (i.1).1) (λ d v.
+            result-inside result at d h.type u i (any-type at fit e h.type h.has) h.fit v))
+        exec-good (c.assert claim) at h fit r g = pay-good at at r (λ u. asked claim u) g (λ u i. keeps-asked (Good at) (GoodWith result) (paid at) claim u i)
+        exec-good (c.note claim) at h fit r g = pay-good at at r (λ u. asked claim u) g (λ u i. keeps-asked (Good at) (GoodWith result) (paid at) claim u i)
+        exec-good (c.ghost x q v) at h fit r g =
+            pay-good at at r (λ u. goes_on_in u (stored u.now x (datum v (shown u.now u.entry) []))) g (λ u i.
+            (record { now = stored-lies n u.now x (datum v (shown u.now u.entry) []) i.0.now (datum-lies n u.now u.entry i.0.now i.0.entry v); entry = i.0.entry },
+            subst (λ (y : Text). FormedState at (stored u.now y (datum v (shown u.now u.entry) []))) (h.1).text
+              (ghost-formed at u.now h.0 (datum v (shown u.now u.entry) []) (h.1).ghost.stands (h.1).ghost.has fit i.1)))
+        exec-good (c.ghost_at q class f a place v) at h fit r g =
+            pay-good at at r (λ u. ghost_stored q class f (term_value a (shown u.now u.entry) []) (datum v (shown u.now u.entry) []) u) g (λ u i.
+            let o : ℕ = term_value a (shown u.now u.entry) [] in
+            let d : Datum = datum v (shown u.now u.entry) [] in
+            let y : Member = h.0 in
+            let y-fits : GhostFits p false f v y = (h.1).fits in
+            keeps-if (Good at) (GoodWith result) (paid at) (u.now.set (named class) o) (goes_on_in u (stored_at u.now f o d)) _ (λ e.
+              (record { now = stored-at-lies n u.now f o d i.0.now (datum-lies n u.now u.entry i.0.now i.0.entry v); entry = i.0.entry },
+              subst (λ (z : Text). FormedState at (stored_at u.now z o d)) y-fits.text
+                (field-formed p names u.now y o d y-fits.ghost.stands y-fits.ghost.sort (ap (λ (z : Text). u.now.set (named z) o) (h.1).of_class ∙ e) (ghost-suits y u.now d y-fits.ghost.has) (i.1).0,
+                scope-of-field p names at u.now y.text o d fit (i.1).1))) tt)
+
+        all-good : (ss : Stmts) (at : Surroundings) → StmtsFit p result ss at → ScopeFits p names at → (r : Configuration) → Good at r → Ends (Good at) (GoodWith result) (exec_all call ss r)
+        all-good c.none at h fit r g = g
+        all-good (c.more s ss) at h fit r g =
+            then-good (scope_behind p at s) at (exec call s r) (λ u. exec_all call ss u) (exec-good s at h.0 fit r g) (λ u i.
+            ends-map (Good (scope_behind p at s)) (Good at) (GoodWith result) (exec_all call ss u) (λ v j. behind-fewer s at v j) (all-good ss (scope_behind p at s) h.1 (fits-behind result s at h.0 fit) u i))
