@@ -12,5 +12,6 @@ mod Formed
 mod Typing
 mod Storing
 mod TypedRuns
+mod TypedCalls
 mod HeapsWhole
 mod HeapCases

@@ -118,7 +118,7 @@ module _ (p : Program) (names : NamesFit p) where
   this-class : (at : Surroundings) (n : ℕ) → ObjectHas p at c.this (ty.Class n) → at.this ≡ Some n
   this-class at _ (of_this n e) = e
 
-  reaches-of : (at : Surroundings) (r : ObjectCode) (n : ℕ) (class : Text) (s : State) → class_at p.classes n ≡ class → ObjectHas p at r (ty.Class n) → Formed p s → Lies s.last s → ScopeLies p names at s → IsOf (λ a. Reaches r class s a) (object_of r s)
+  pub reaches-of : (at : Surroundings) (r : ObjectCode) (n : ℕ) (class : Text) (s : State) → class_at p.classes n ≡ class → ObjectHas p at r (ty.Class n) → Formed p s → Lies s.last s → ScopeLies p names at s → IsOf (λ a. Reaches r class s a) (object_of r s)
   reaches-of at c.this n class s e h f l g = subst (λ (x : Text). s.set (named x) (s.object this_name) ≡ true) e (g.this n (this-class at n h))
   reaches-of at c.null n class s e h f l g = inl refl
   reaches-of at (c.object x) n class s e h f l g =
@@ -142,7 +142,7 @@ module _ (p : Program) (names : NamesFit p) where
   not-null s class a (inr h) = h
 
   -- what is dereferenced is an object of the class
-  in-class : (r : ObjectCode) (q : Place) (class : Text) (s : State) (a : ℕ) → Reaches r class s a → IsOf (λ b. s.set (named class) b ≡ true) (dereferenced r q a)
+  pub in-class : (r : ObjectCode) (q : Place) (class : Text) (s : State) (a : ℕ) → Reaches r class s a → IsOf (λ b. s.set (named class) b ≡ true) (dereferenced r q a)
   in-class c.this q class s a h = h
   in-class c.null q class s zero h = tt
   in-class c.null q class s (suc a) h = not-null s class a h

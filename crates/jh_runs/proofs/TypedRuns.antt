@@ -39,11 +39,11 @@ ends-both P Q R S (goes_on r) h g = (h, g)
 ends-both P Q R S (returns r v) h g = (h, g)
 ends-both P Q R S (stops why) h g = tt
 
-both-of : {X : Type 0} (P Q : X → Type 0) (v : Value X) → IsOf P v → IsOf Q v → IsOf (λ x. P x × Q x) v
+pub both-of : {X : Type 0} (P Q : X → Type 0) (v : Value X) → IsOf P v → IsOf Q v → IsOf (λ x. P x × Q x) v
 both-of P Q (value x) h g = (h, g)
 both-of P Q (null_at q) h g = tt
 
-lies-own : (n : ℕ) (s : State) → Lies n s → Lies s.last s
+pub lies-own : (n : ℕ) (s : State) → Lies n s → Lies s.last s
 lies-own n s l = subst (λ (k : ℕ). Lies k s) (sym l.last) l
 
 module _ (p : Program) (names : NamesFit p) (n : ℕ) where
@@ -61,11 +61,11 @@ module _ (p : Program) (names : NamesFit p) (n : ℕ) where
   abbrev pub GoodWith : Ty → Configuration → Option Datum → Type 0
   GoodWith t r v = record { 0 : StandsWith n r v; 1 : FormedWith t r v }
 
-  paid : (at : Surroundings) (r : Configuration) (k : ℕ) → suc k ≡ r.steps → Good at r → Good at (record r { steps = k })
+  pub paid : (at : Surroundings) (r : Configuration) (k : ℕ) → suc k ≡ r.steps → Good at r → Good at (record r { steps = k })
   paid at r k e h = (record { now = h.0.now; entry = h.0.entry }, h.1)
 
   -- a value in its type, and in the universe
-  abbrev ValueOf : Ty → State → Datum → Type 0
+  abbrev pub ValueOf : Ty → State → Datum → Type 0
   ValueOf t s d = DatumLies p names t s d × IsInside n d
 
   as-datum : {X : Type 0} (P : X → Type 0) (Q : Datum → Type 0) (v : Value X) (f : X → Datum) → IsOf P v → ((x : X) → P x → Q (f x)) → IsOf Q (then_value v (λ x. value (f x)))
@@ -76,23 +76,23 @@ module _ (p : Program) (names : NamesFit p) (n : ℕ) where
   any-of (value x) = tt
   any-of (null_at q) = tt
 
-  value-typed : (at : Surroundings) (e : AnyCode) (t : Ty) (s : State) → Has p at e t → Formed p s → Lies n s → ScopeLies p names at s → IsOf (ValueOf t s) (value_of e s)
+  pub value-typed : (at : Surroundings) (e : AnyCode) (t : Ty) (s : State) → Has p at e t → Formed p s → Lies n s → ScopeLies p names at s → IsOf (ValueOf t s) (value_of e s)
   value-typed at (c.an_object a) t s h f l g =
       as-datum (λ v. ObjectLies p t s v × (v < suc n)) (ValueOf t s) (object_of a s) an_object
         (both-of (λ v. ObjectLies p t s v) (Below n) (object_of a s) (object-typed p names at a t s h f (lies-own n s l) g) (object-lies n a s l)) (λ v i. i)
   value-typed at (c.a_number a) t s h f l g = as-datum (λ x. Unit {0}) (ValueOf t s) (number_of a s) a_number (any-of (number_of a s)) (λ x i. (h, tt))
   value-typed at (c.a_truth a) t s h f l g = as-datum (λ x. Unit {0}) (ValueOf t s) (truth_of a s) a_truth (any-of (truth_of a s)) (λ x i. (h, tt))
 
-  any-type : (at : Surroundings) → ScopeFits p names at → (e : AnyCode) (t : Ty) → Has p at e t → IsType p t
+  pub any-type : (at : Surroundings) → ScopeFits p names at → (e : AnyCode) (t : Ty) → Has p at e t → IsType p t
   any-type at fit (c.an_object a) t h = has-type p names at fit a t h
   any-type at fit (c.a_number a) t h = subst (λ (u : Ty). IsType p u) (sym h) tt
   any-type at fit (c.a_truth a) t h = subst (λ (u : Ty). IsType p u) (sym h) tt
 
-  inside-own : (s : State) (d : Datum) → s.last ≡ n → IsInside n d → IsInside s.last d
+  pub inside-own : (s : State) (d : Datum) → s.last ≡ n → IsInside n d → IsInside s.last d
   inside-own s d e h = subst (λ (k : ℕ). IsInside k d) (sym e) h
 
   -- a value goes to a target that it fits
-  put-good : (result : Ty) (at : Surroundings) (target : Target) (t : Ty) (a : ℕ) (d : Datum) (r : Configuration) → TakesFit p at target t → IsType p t → ScopeFits p names at → Good at r →
+  pub put-good : (result : Ty) (at : Surroundings) (target : Target) (t : Ty) (a : ℕ) (d : Datum) (r : Configuration) → TakesFit p at target t → IsType p t → ScopeFits p names at → Good at r →
       TargetLies p names target r.now a → a < suc n → ValueOf t r.now d → Ends (Good (declaring p at target)) (GoodWith result) (put target a d r)
   put-good result at target t a d r takes type fit g l i h =
       ends-both (Stands n) (FormedIn p names (declaring p at target)) (StandsWith n) (FormedWith result) (put target a d r)
@@ -100,7 +100,7 @@ module _ (p : Program) (names : NamesFit p) (n : ℕ) where
         (put-formed p names (FormedWith result) at target takes.type a d r takes.takes fit g.1 l
           (fits-datum p names t takes.type r.now d (g.1).0 (inside-own r.now d (g.0.now).last h.1) type takes.fit h.0))
 
-  target-both : (at : Surroundings) (target : Target) (t : Ty) (s : State) → Takes p at target t → Formed p s → Lies n s → ScopeLies p names at s → IsOf (λ a. TargetLies p names target s a × (a < suc n)) (target_of target s)
+  pub target-both : (at : Surroundings) (target : Target) (t : Ty) (s : State) → Takes p at target t → Formed p s → Lies n s → ScopeLies p names at s → IsOf (λ a. TargetLies p names target s a × (a < suc n)) (target_of target s)
   target-both at target t s takes f l g = both-of (λ a. TargetLies p names target s a) (Below n) (target_of target s) (target-typed p names at target t s takes f (lies-own n s l) g) (target-lies n target s l)
 
   -- what is free
@@ -344,7 +344,7 @@ module _ (p : Program) (names : NamesFit p) (n : ℕ) where
                 (field-formed p names u.now y o d y-fits.ghost.stands y-fits.ghost.sort (ap (λ (z : Text). u.now.set (named z) o) (h.1).of_class ∙ e) (ghost-suits y u.now d y-fits.ghost.has) (i.1).0,
                 scope-of-field p names at u.now y.text o d fit (i.1).1))) tt)
 
-        all-good : (ss : Stmts) (at : Surroundings) → StmtsFit p result ss at → ScopeFits p names at → (r : Configuration) → Good at r → Ends (Good at) (GoodWith result) (exec_all call ss r)
+        pub all-good : (ss : Stmts) (at : Surroundings) → StmtsFit p result ss at → ScopeFits p names at → (r : Configuration) → Good at r → Ends (Good at) (GoodWith result) (exec_all call ss r)
         all-good c.none at h fit r g = g
         all-good (c.more s ss) at h fit r g =
             then-good (scope_behind p at s) at (exec call s r) (λ u. exec_all call ss u) (exec-good s at h.0 fit r g) (λ u i.

@@ -213,6 +213,7 @@ listed (Some claim) = claim ∷ []
 pub record MethodFits (p : Program) (m : Method) : Type 0 where
   pub of_class : (n : ℕ) → m.this ≡ Some n → Contains p.classes (class_at p.classes n)
   pub params : ParamsFit p m.this [] m.params
+  pub result_type : IsType p m.result
   pub body : StmtsFit p m.result m.body (record { this = m.this; params = m.params; locals = [] })
   pub end : (m.result ≡ ty.Void) ⊎ (ends_closed m.body ≡ true)
   pub contract : AreOfStates (listed m.requires ++ listed m.ensures)

@@ -1,0 +1,107 @@
+-- Calls of typed code keep states well formed.
+use Rattle.std.proofs.Common.{◌≡◌, refl, sym, ap, subst, ◌∙◌, ℕ, ℤ, zero, suc, ◌<◌, ◌⊎◌, inl, inr, Bool, true, false, if◌then◌else◌, List, [], ◌∷◌, ◌++◌, Option, None, Some, codes, arith}
+use Rattle.std.specs.List.{Contains}
+use Rattle.std.proofs.lemmas.Bool.{true≢false}
+use Rattle.jh_name.specs.declared.place.Place.{Place}
+use Rattle.jh_vars.specs.Written.{Callee}
+use Rattle.jh_tree.specs.Meaning.{Datum, an_object, a_number, a_truth, a_set, a_field}
+use Rattle.jh_rules.specs.declared.types.Ty.{Ty}
+use Rattle.jh_rules.specs.declared.types.Ty.TheVariants as ty
+use Rattle.jh_runs.specs.Code.{Text, ObjectCode, AnyCode, Local, Target}
+use Rattle.jh_runs.specs.Code as c
+use Rattle.jh_runs.specs.Program.{Program, Method, Member, class_at}
+use Rattle.jh_runs.specs.State.{State, named, this_name}
+use Rattle.jh_runs.specs.Locals.{has_dot, with_locals_of}
+use Rattle.jh_runs.specs.Values.{dereferenced, object_of, value_of}
+use Rattle.jh_runs.specs.Progress.{Configuration, Progress, goes_on, returns, stops, with_value}
+use Rattle.jh_runs.specs.Objects.{target_of, put}
+use Rattle.jh_runs.specs.Execution.{with_values, receiver_of, called_on, result_of, back}
+use Rattle.jh_runs.specs.Typed.{Surroundings, IsType, NamesFit, ProgramFits, MethodFits, AllFit, ReceiverFits, ResultFits, CallFits, declaring}
+use Rattle.jh_runs.specs.Laws.{Grew, IsInside, AreInside, IsPlain, ArePlain}
+use Rattle.jh_runs.proofs.Keeping.{Ends, IsOf, keeps-value}
+use Rattle.jh_runs.proofs.Inside.{Lies, Below, object-lies, dereferenced-lies}
+use Rattle.jh_runs.proofs.Whole.{Stands, StandsWith, returned-to}
+use Rattle.jh_runs.proofs.Growth.{CallsAdd, Grown, GrownWith}
+use Rattle.jh_runs.proofs.Formed.{ObjectLies, Formed, lies-grow, names-formed, class-of}
+use Rattle.jh_runs.proofs.Typing.{ScopeLies, ScopeFits, DatumLies, fits-datum}
+use Rattle.jh_runs.proofs.Storing.{TargetLies, target-grow, FormedIn, Reaches, reaches-of, in-class}
+use Rattle.jh_runs.proofs.TypedRuns.{ends-both, lies-own, Good, GoodWith, FormedWith, ResultLies, ValueOf, value-typed, any-type, inside-own, target-both, put-good, CallsGood, both-of, paid}
+
+module _ (p : Program) (names : NamesFit p) (n : ℕ) where
+  -- `this` is one of its class
+  abbrev pub ThisLies : Option ℕ → State → ℕ → Type 0
+  ThisLies None s a = Unit {0}
+  ThisLies (Some k) s a = s.set (named (class_at p.classes k)) a ≡ true
+
+  abbrev pub ArgsLie : List Local → State → List Datum → Type 0
+  ArgsLie [] s [] = Unit {0}
+  ArgsLie (x ∷ xs) s (d ∷ ds) = DatumLies p names x.type s d × ArgsLie xs s ds
+  ArgsLie _ s _ = ⊥
+
+  plain-datum : (t : Ty) (s : State) (d : Datum) → DatumLies p names t s d → IsPlain d
+  plain-datum t s (an_object v) h = tt
+  plain-datum t s (a_number z) h = tt
+  plain-datum t s (a_truth b) h = tt
+  plain-datum t s (a_set v) h = absurd h
+  plain-datum t s (a_field f) h = tt
+
+  plain-args : (xs : List Local) (s : State) (ds : List Datum) → ArgsLie xs s ds → ArePlain ds
+  plain-args [] s [] h = tt
+  plain-args (x ∷ xs) s (d ∷ ds) h = (plain-datum x.type s d h.0, plain-args xs s ds h.1)
+  plain-args [] s (d ∷ ds) h = absurd h
+  plain-args (x ∷ xs) s [] h = absurd h
+
+  -- the receiver of a call
+  abbrev ReceiverOk : Option ObjectCode → Option ℕ → State → ℕ → Type 0
+  ReceiverOk None None s a = Unit {0}
+  ReceiverOk (Some e) (Some k) s a = Reaches p names e (class_at p.classes k) s a
+  ReceiverOk _ _ s a = ⊥
+
+  receiver-good : (at : Surroundings) (receiver : Option ObjectCode) (this : Option ℕ) (s : State) → ReceiverFits p at receiver this → Formed p s → Lies n s → ScopeLies p names at s → IsOf (λ a. ReceiverOk receiver this s a × (a < suc n)) (receiver_of receiver s)
+  receiver-good at None None s h f l g = (tt, omega arith)
+  receiver-good at (Some e) (Some k) s h f l g =
+      both-of (λ a. Reaches p names e (class_at p.classes k) s a) (Below n) (object_of e s) (reaches-of p names at e k (class_at p.classes k) s refl h f (lies-own n s l) g) (object-lies n e s l)
+  receiver-good at None (Some k) s h f l g = absurd h
+  receiver-good at (Some e) None s h f l g = absurd h
+
+  called-good : (receiver : Option ObjectCode) (this : Option ℕ) (place : Place) (s : State) (a : ℕ) → ReceiverOk receiver this s a → a < suc n → IsOf (λ b. ThisLies this s b × (b < suc n)) (called_on receiver place a)
+  called-good None None place s a h l = (tt, l)
+  called-good (Some e) (Some k) place s a h l =
+      both-of (λ b. s.set (named (class_at p.classes k)) b ≡ true) (Below n) (dereferenced e place a) (in-class p names e place (class_at p.classes k) s a h) (dereferenced-lies n e place a l)
+  called-good None (Some k) place s a h l = absurd h
+  called-good (Some e) None place s a h l = absurd h
+
+  -- the arguments of a call
+  abbrev FormedAt : Surroundings → State → Type 0
+  FormedAt at s = Formed p s × ScopeLies p names at s
+
+  values-good : (at after : Surroundings) (result : Ty) (args : List AnyCode) (xs : List Local) (s : State) (next : List Datum → Progress) → AllFit p at args xs → ScopeFits p names at → FormedAt at s → Lies n s →
+      ((ds : List Datum) → ArgsLie xs s ds → AreInside n ds → Ends (Good p names n after) (GoodWith p names n result) (next ds)) → Ends (Good p names n after) (GoodWith p names n result) (with_values args s next)
+  values-good at after result [] [] s next h fit g l f = f [] tt tt
+  values-good at after result (a ∷ rest) (x ∷ xs) s next h fit g l f =
+      keeps-value (Good p names n after) (GoodWith p names n result) (paid p names n after) (ValueOf p names n (h.0).type s) (value_of a s) (λ d. with_values rest s (λ ds. next (d ∷ ds))) (value-typed p names n at a (h.0).type s (h.0).has g.0 l g.1) (λ d v.
+      values-good at after result rest xs s (λ ds. next (d ∷ ds)) h.1 fit g l (λ ds i j.
+      f (d ∷ ds) (fits-datum p names (h.0).type x.type s d g.0 (inside-own p names n s d l.last v.1) (any-type p names n at fit a (h.0).type (h.0).has) (h.0).fit v.0, i) (v.1, j)))
+  values-good at after result [] (x ∷ xs) s next h fit g l f = absurd h
+  values-good at after result (a ∷ rest) [] s next h fit g l f = absurd h
+
+  -- back in the caller
+  dotted : (b : Bool) (v w : ℕ) → b ≡ true → (if b then v else w) ≡ v
+  dotted true v w e = refl
+  dotted false v w e = absurd (true≢false (sym e))
+
+  dotless : (b : Bool) (v w : ℕ) → b ≡ false → (if b then v else w) ≡ w
+  dotless true v w e = absurd (true≢false e)
+  dotless false v w e = refl
+
+  returned-good : (at : Surroundings) (caller r : Configuration) → ScopeFits p names at → Good p names n at caller → Stands n r → Formed p r.now → Grew caller.now r.now → Good p names n at (record r { now = with_locals_of r.now caller.now; entry = caller.entry })
+  returned-good at caller r fit g h f grew =
+      let w : State = with_locals_of r.now caller.now in
+      (returned-to n caller r g.0 h,
+      (names-formed p names r.now (λ x. if has_dot x.text then r.now.object x else caller.now.object x) (λ x. if has_dot x.text then r.now.number x else caller.now.number x) (λ x. if has_dot x.text then r.now.truth x else caller.now.truth x) f (λ x t i m e.
+        subst (λ (v : ℕ). ObjectLies p t r.now v) (sym (dotted (has_dot x.text) (r.now.object (named x.text)) (caller.now.object (named x.text)) (names.dots x i))) (f.statics x t i m e)),
+      record {
+        locals = λ x i. subst (λ (v : ℕ). ObjectLies p x.type w v) (sym (dotless (has_dot x.text) (r.now.object (named x.text)) (caller.now.object (named x.text)) (fit.no_state x i)))
+          (lies-grow p names x.type caller.now w (caller.now.object (named x.text)) (fit.types x i) grew ((g.1).1.locals x i));
+        this = λ k e. grew (class_at p.classes k) (names.dotless (class_at p.classes k) (class-of p names (class_at p.classes k) (fit.of_class k e))) (caller.now.object this_name) ((g.1).1.this k e);
+      }))
