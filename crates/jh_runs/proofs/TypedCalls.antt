@@ -25,7 +25,7 @@ use Rattle.jh_runs.proofs.Growth.{CallsAdd, Grown, GrownWith}
 use Rattle.jh_runs.proofs.Formed.{ObjectLies, Formed, lies-grow, names-formed, class-of}
 use Rattle.jh_runs.proofs.Typing.{ScopeLies, ScopeFits, DatumLies, fits-datum}
 use Rattle.jh_runs.proofs.Storing.{TargetLies, target-grow, FormedIn, Reaches, reaches-of, in-class}
-use Rattle.jh_runs.proofs.TypedRuns.{ends-both, lies-own, Good, GoodWith, FormedWith, ResultLies, ValueOf, value-typed, any-type, inside-own, target-both, put-good, CallsGood, both-of, paid}
+use Rattle.jh_runs.proofs.TypedRuns.{pay-good, ends-both, lies-own, Good, GoodWith, FormedWith, ResultLies, ValueOf, value-typed, any-type, inside-own, target-both, put-good, CallsGood, both-of, paid}
 
 module _ (p : Program) (names : NamesFit p) (n : ℕ) where
   -- `this` is one of its class
@@ -105,3 +105,75 @@ module _ (p : Program) (names : NamesFit p) (n : ℕ) where
           (lies-grow p names x.type caller.now w (caller.now.object (named x.text)) (fit.types x i) grew ((g.1).1.locals x i));
         this = λ k e. grew (class_at p.classes k) (names.dotless (class_at p.classes k) (class-of p names (class_at p.classes k) (fit.of_class k e))) (caller.now.object this_name) ((g.1).1.this k e);
       }))
+
+  -- a value in a type stays there where sets grow
+  datum-grow : (t : Ty) (s u : State) (d : Datum) → IsType p t → Grew s u → DatumLies p names t s d → DatumLies p names t u d
+  datum-grow t s u (an_object v) i g h = lies-grow p names t s u v i g h
+  datum-grow t s u (a_number z) i g h = h
+  datum-grow t s u (a_truth b) i g h = h
+  datum-grow t s u (a_set v) i g h = absurd h
+  datum-grow t s u (a_field f) i g h = absurd h
+
+  -- the result of a call goes nowhere, or where it fits
+  put-result : (result : Ty) (at : Surroundings) (target : Target) (t : Ty) (a : ℕ) (d : Datum) (r : Configuration) → ResultFits p at target t → IsType p t → ScopeFits p names at → Good p names n at r →
+      TargetLies p names target r.now a → a < suc n → ValueOf p names n t r.now d → Ends (Good p names n (declaring p at target)) (GoodWith p names n result) (put target a d r)
+  put-result result at c.nowhere t a d r h i fit g l j v = g
+  put-result result at (c.to_new x) t a d r h i fit g l j v = put-good p names n result at (c.to_new x) t a d r h i fit g l j v
+  put-result result at (c.to_name x) t a d r h i fit g l j v = put-good p names n result at (c.to_name x) t a d r h i fit g l j v
+  put-result result at (c.to_field f e q) t a d r h i fit g l j v = put-good p names n result at (c.to_field f e q) t a d r h i fit g l j v
+
+  result-target : (at : Surroundings) (target : Target) (t : Ty) (s : State) → ResultFits p at target t → Formed p s → Lies n s → ScopeLies p names at s → IsOf (λ a. TargetLies p names target s a × (a < suc n)) (target_of target s)
+  result-target at c.nowhere t s h f l g = (tt, omega arith)
+  result-target at (c.to_new x) t s h f l g = target-both p names n at (c.to_new x) h.type s h.takes f l g
+  result-target at (c.to_name x) t s h f l g = target-both p names n at (c.to_name x) h.type s h.takes f l g
+  result-target at (c.to_field r e q) t s h f l g = target-both p names n at (c.to_field r e q) h.type s h.takes f l g
+
+  -- how the run of a method ends: only a void one without `return`
+  abbrev pub Continues : Ty → Configuration → Type 0
+  Continues t r = record { 0 : Stands n r; 1 : Formed p r.now; 2 : t ≡ ty.Void }
+
+  abbrev pub MethodEnds : Ty → Progress → Type 0
+  MethodEnds t y = Ends (Continues t) (GoodWith p names n t) y
+
+  nothing-of : (t : Ty) (s : State) → t ≡ ty.Void → ValueOf p names n t s (an_object 0)
+  nothing-of t s e = (subst (λ (u : Ty). ObjectLies p u s 0) (sym e) tt, omega arith)
+
+  back-good : (result : Ty) (at : Surroundings) (target : Target) (t : Ty) (a : ℕ) (caller : Configuration) (y : Progress) → ResultFits p at target t → IsType p t → ScopeFits p names at → Good p names n at caller →
+      TargetLies p names target caller.now a → a < suc n → MethodEnds t y → Ends (Grown caller.now) (GrownWith caller.now) y → Ends (Good p names n (declaring p at target)) (GoodWith p names n result) (back caller target a y)
+  back-good result at target t a caller (goes_on r) h i fit g l j e grew =
+      let w : Configuration = record r { now = with_locals_of r.now caller.now; entry = caller.entry } in
+      put-result result at target t a (an_object 0) w h i fit (returned-good at caller r fit g e.0 e.1 grew) (target-grow p names target caller.now w.now a grew l) j (nothing-of t w.now e.2)
+  back-good result at target t a caller (returns r None) h i fit g l j e grew =
+      let w : Configuration = record r { now = with_locals_of r.now caller.now; entry = caller.entry } in
+      put-result result at target t a (an_object 0) w h i fit (returned-good at caller r fit g (e.0).0 (e.1).0 grew.0) (target-grow p names target caller.now w.now a grew.0 l) j (nothing-of t w.now (e.1).1)
+  back-good result at target t a caller (returns r (Some d)) h i fit g l j e grew =
+      let w : Configuration = record r { now = with_locals_of r.now caller.now; entry = caller.entry } in
+      put-result result at target t a d w h i fit (returned-good at caller r fit g (e.0).0 (e.1).0 grew.0) (target-grow p names target caller.now w.now a grew.0 l) j
+        (datum-grow t r.now w.now d i (λ z k b m. m) (e.1).1, (e.0).1)
+  back-good result at target t a caller (stops why) h i fit g l j e grew = tt
+
+  -- what a call of a method leads to
+  abbrev pub MethodsGood : (Callee → ℕ → List Datum → Configuration → Progress) → Type 0
+  MethodsGood call =
+      (m : Callee) (x : Method) → p.method m ≡ Some x → (this : ℕ) (args : List Datum) (r : Configuration) → Stands n r → Formed p r.now →
+      ThisLies x.this r.now this → this < suc n → ArgsLie x.params r.now args → AreInside n args → MethodEnds x.result (call m this args r)
+
+  pub calls-good : (call : Callee → ℕ → List Datum → Configuration → Progress) → ((m : Callee) (x : Method) → p.method m ≡ Some x → IsType p x.result) → MethodsGood call → ((first : State) → CallsAdd first call) →
+      (result : Ty) → CallsGood p names n call result
+  calls-good call types methods adds result at q target receiver place m args h fit r g =
+      let x : Method = h.method in
+      let after : Surroundings = declaring p at target in
+      pay-good p names n result at after r
+        (λ u. with_value (target_of target u.now) (λ a. with_value (receiver_of receiver u.now) (λ y. with_values args u.now (λ ds. with_value (called_on receiver place y) (λ this. back u target a (call m this ds u)))))) g (λ u i.
+      keeps-value (Good p names n after) (GoodWith p names n result) (paid p names n after) (λ a. TargetLies p names target u.now a × (a < suc n)) (target_of target u.now)
+        (λ a. with_value (receiver_of receiver u.now) (λ y. with_values args u.now (λ ds. with_value (called_on receiver place y) (λ this. back u target a (call m this ds u)))))
+        (result-target at target x.result u.now h.result_fits (i.1).0 i.0.now (i.1).1) (λ a l.
+      keeps-value (Good p names n after) (GoodWith p names n result) (paid p names n after) (λ y. ReceiverOk receiver x.this u.now y × (y < suc n)) (receiver_of receiver u.now)
+        (λ y. with_values args u.now (λ ds. with_value (called_on receiver place y) (λ this. back u target a (call m this ds u))))
+        (receiver-good at receiver x.this u.now h.receiver_fits (i.1).0 i.0.now (i.1).1) (λ y j.
+      values-good at after result args x.params u.now (λ ds. with_value (called_on receiver place y) (λ this. back u target a (call m this ds u))) h.args_fit fit i.1 i.0.now (λ ds k o.
+      keeps-value (Good p names n after) (GoodWith p names n result) (paid p names n after) (λ b. ThisLies x.this u.now b × (b < suc n)) (called_on receiver place y) (λ this. back u target a (call m this ds u))
+        (called-good receiver x.this place u.now y j.0 j.1) (λ this v.
+      back-good result at target x.result a u (call m this ds u) h.result_fits (types m x h.is) fit i l.0 l.1
+        (methods m x h.is this ds u i.0 (i.1).0 v.0 v.1 k o)
+        (adds u.now m this ds u (λ z e b w. w) (plain-args x.params u.now ds k)))))))

@@ -274,6 +274,13 @@ module _ (p : Program) (names : NamesFit p) (n : ℕ) where
   result-inside result at d t r g type fit h =
       ((g.0, h.1), ((g.1).0, fits-datum p names t result r.now d (g.1).0 (inside-own r.now d (g.0.now).last h.1) type fit h.0))
 
+  pub pay-good : (result : Ty) (at after : Surroundings) (r : Configuration) (next : Configuration → Progress) → Good at r → ((u : Configuration) → Good at u → Ends (Good after) (GoodWith result) (next u)) → Ends (Good after) (GoodWith result) (pay r next)
+  pay-good result at after r next h f = from r.steps
+    where
+      from : (k : ℕ) → Ends (Good after) (GoodWith result) (pay_from k r next)
+      from zero = tt
+      from (suc k) = f (record r { steps = k }) (record { now = h.0.now; entry = h.0.entry }, h.1)
+
   module _ (call : Callee → ℕ → List Datum → Configuration → Progress) (result : Ty) where
     -- what a call in the code leads to
     abbrev pub CallsGood : Type 0
@@ -282,13 +289,6 @@ module _ (p : Program) (names : NamesFit p) (n : ℕ) where
         (r : Configuration) → Good at r → Ends (Good (declaring p at target)) (GoodWith result) (exec call (c.call q target receiver place m args) r)
 
     module _ (calls : CallsGood) where
-      pay-good : (at after : Surroundings) (r : Configuration) (next : Configuration → Progress) → Good at r → ((u : Configuration) → Good at u → Ends (Good after) (GoodWith result) (next u)) → Ends (Good after) (GoodWith result) (pay r next)
-      pay-good at after r next h f = from r.steps
-        where
-          from : (k : ℕ) → Ends (Good after) (GoodWith result) (pay_from k r next)
-          from zero = tt
-          from (suc k) = f (record r { steps = k }) (record { now = h.0.now; entry = h.0.entry }, h.1)
-
       then-good : (at after : Surroundings) (x : Progress) (next : Configuration → Progress) → Ends (Good at) (GoodWith result) x → ((u : Configuration) → Good at u → Ends (Good after) (GoodWith result) (next u)) → Ends (Good after) (GoodWith result) (then_run x next)
       then-good at after (goes_on r) next h f = f r h
       then-good at after (returns r v) next h f = h
@@ -296,44 +296,44 @@ module _ (p : Program) (names : NamesFit p) (n : ℕ) where
 
       mutual
         exec-good : (s : Stmt) (at : Surroundings) → StmtFits p result s at → ScopeFits p names at → (r : Configuration) → Good at r → Ends (Good (scope_behind p at s)) (GoodWith result) (exec call s r)
-        exec-good c.empty at h fit r g = pay-good at at r goes_on g (λ u i. i)
-        exec-good (c.block body) at h fit r g = pay-good at at r (λ u. exec_all call body u) g (λ u i. all-good body at h fit u i)
+        exec-good c.empty at h fit r g = pay-good result at at r goes_on g (λ u i. i)
+        exec-good (c.block body) at h fit r g = pay-good result at at r (λ u. exec_all call body u) g (λ u i. all-good body at h fit u i)
         exec-good (c.assign target e) at h fit r g =
-            pay-good at (declaring p at target) r (λ u. with_value (target_of target u.now) (λ a. with_value (value_of e u.now) (λ d. put target a d u))) g (λ u i.
+            pay-good result at (declaring p at target) r (λ u. with_value (target_of target u.now) (λ a. with_value (value_of e u.now) (λ d. put target a d u))) g (λ u i.
             keeps-value (Good (declaring p at target)) (GoodWith result) (paid (declaring p at target)) (λ a. TargetLies p names target u.now a × (a < suc n)) (target_of target u.now) (λ a. with_value (value_of e u.now) (λ d. put target a d u))
               (target-both at target (h.fit).type u.now (h.fit).takes (i.1).0 i.0.now (i.1).1) (λ a l.
             keeps-value (Good (declaring p at target)) (GoodWith result) (paid (declaring p at target)) (ValueOf h.type u.now) (value_of e u.now) (λ d. put target a d u) (value-typed at e h.type u.now h.has (i.1).0 i.0.now (i.1).1) (λ d v.
             put-good result at target h.type a d u h.fit (any-type at fit e h.type h.has) fit i l.0 l.1 v)))
         exec-good (c.new_object q target class) at h fit r g =
-            pay-good at (declaring p at target) r (λ u. with_value (target_of target u.now) (λ a. pick q u.picks u (λ x v. put target a (an_object x) (record v { now = created v.now class x })))) g (λ u i.
+            pay-good result at (declaring p at target) r (λ u. with_value (target_of target u.now) (λ a. pick q u.picks u (λ x v. put target a (an_object x) (record v { now = created v.now class x })))) g (λ u i.
             keeps-value (Good (declaring p at target)) (GoodWith result) (paid (declaring p at target)) (λ a. TargetLies p names target u.now a × (a < suc n)) (target_of target u.now) (λ a. pick q u.picks u (λ x v. put target a (an_object x) (record v { now = created v.now class x })))
               (target-both at target (h.fit).type u.now (h.fit).takes (i.1).0 i.0.now (i.1).1) (λ a l.
             keeps-pick (Good (declaring p at target)) (GoodWith result) (paid (declaring p at target)) q u.picks u (λ x v. put target a (an_object x) (record v { now = created v.now class x })) (λ x more e.
             new-good result at q target class h.type u h.is h.fit fit i a l.0 l.1 x more e)))
         exec-good (c.call q target receiver place m args) at h fit r g = calls at q target receiver place m args h fit r g
         exec-good (c.branch q e a b) at h fit r g =
-            pay-good at at r (λ u. with_value (truth_of e u.now) (λ t. choose t (λ v. exec call a v) (λ v. exec_all call b v) u)) g (λ u i.
+            pay-good result at at r (λ u. with_value (truth_of e u.now) (λ t. choose t (λ v. exec call a v) (λ v. exec_all call b v) u)) g (λ u i.
             keeps-any (Good at) (GoodWith result) (paid at) (truth_of e u.now) (λ t. choose t (λ v. exec call a v) (λ v. exec_all call b v) u) (λ t.
             keeps-choose (Good at) (GoodWith result) (paid at) t (λ v. exec call a v) (λ v. exec_all call b v) u
               (ends-map (Good (scope_behind p at a)) (Good at) (GoodWith result) (exec call a u) (λ v j. behind-fewer a at v j) (exec-good a at h.0 fit u i)) (all-good b at h.1 fit u i)))
         exec-good (c.loop q invariants e body) at h fit r g =
-            pay-good at at r (λ u. loop e (λ v. exec call body v) u) g (λ u i.
+            pay-good result at at r (λ u. loop e (λ v. exec call body v) u) g (λ u i.
             keeps-turns (Good at) (GoodWith result) (paid at) e (λ v. exec call body v) (λ v j.
             ends-map (Good (scope_behind p at body)) (Good at) (GoodWith result) (exec call body v) (λ w l. behind-fewer body at w l) (exec-good body at h.1 fit v j)) (suc u.steps) u i)
-        exec-good c.return_nothing at h fit r g = pay-good at at r (λ u. returns u None) g (λ u i. ((i.0, tt), ((i.1).0, h)))
+        exec-good c.return_nothing at h fit r g = pay-good result at at r (λ u. returns u None) g (λ u i. ((i.0, tt), ((i.1).0, h)))
         exec-good (c.return_value e) at h fit r g =
-            pay-good at at r (λ u. with_value (value_of e u.now) (λ d. returns u (Some d))) g (λ u i.
+            pay-good result at at r (λ u. with_value (value_of e u.now) (λ d. returns u (Some d))) g (λ u i.
             keeps-value (Good at) (GoodWith result) (paid at) (ValueOf h.type u.now) (value_of e u.now) (λ d. returns u (Some d)) (value-typed at e h.type u.now h.has (i.1).0 i.0.now (i.1).1) (λ d v.
             result-inside result at d h.type u i (any-type at fit e h.type h.has) h.fit v))
-        exec-good (c.assert claim) at h fit r g = pay-good at at r (λ u. asked claim u) g (λ u i. keeps-asked (Good at) (GoodWith result) (paid at) claim u i)
-        exec-good (c.note claim) at h fit r g = pay-good at at r (λ u. asked claim u) g (λ u i. keeps-asked (Good at) (GoodWith result) (paid at) claim u i)
+        exec-good (c.assert claim) at h fit r g = pay-good result at at r (λ u. asked claim u) g (λ u i. keeps-asked (Good at) (GoodWith result) (paid at) claim u i)
+        exec-good (c.note claim) at h fit r g = pay-good result at at r (λ u. asked claim u) g (λ u i. keeps-asked (Good at) (GoodWith result) (paid at) claim u i)
         exec-good (c.ghost x q v) at h fit r g =
-            pay-good at at r (λ u. goes_on_in u (stored u.now x (datum v (shown u.now u.entry) []))) g (λ u i.
+            pay-good result at at r (λ u. goes_on_in u (stored u.now x (datum v (shown u.now u.entry) []))) g (λ u i.
             (record { now = stored-lies n u.now x (datum v (shown u.now u.entry) []) i.0.now (datum-lies n u.now u.entry i.0.now i.0.entry v); entry = i.0.entry },
             subst (λ (y : Text). FormedState at (stored u.now y (datum v (shown u.now u.entry) []))) (h.1).text
               (ghost-formed at u.now h.0 (datum v (shown u.now u.entry) []) (h.1).ghost.stands (h.1).ghost.has fit i.1)))
         exec-good (c.ghost_at q class f a place v) at h fit r g =
-            pay-good at at r (λ u. ghost_stored q class f (term_value a (shown u.now u.entry) []) (datum v (shown u.now u.entry) []) u) g (λ u i.
+            pay-good result at at r (λ u. ghost_stored q class f (term_value a (shown u.now u.entry) []) (datum v (shown u.now u.entry) []) u) g (λ u i.
             let o : ℕ = term_value a (shown u.now u.entry) [] in
             let d : Datum = datum v (shown u.now u.entry) [] in
             let y : Member = h.0 in
