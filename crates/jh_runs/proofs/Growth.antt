@@ -55,7 +55,7 @@ joining-sets s set a x h b i = more-set (s.set set) (s.set (named x)) a b (name_
 pub created-sets : (s : State) (class : Text) (a : ℕ) → Grew s (created s class a)
 created-sets s class a x h b i = joining-sets (joining s alloc_name a) (named class) a x h b (joining-sets s alloc_name a x h b i)
 
-args-sets : (xs : List Local) (ds : List Datum) (s : State) → ArePlain ds → Grew s (with_args xs ds s)
+pub args-sets : (xs : List Local) (ds : List Datum) (s : State) → ArePlain ds → Grew s (with_args xs ds s)
 args-sets (y ∷ xs) (d ∷ ds) s k x h a i = plain-sets (with_args xs ds s) y.text d k.0 x h a (args-sets xs ds s k.1 x h a i)
 args-sets [] ds s k x h a i = i
 args-sets (y ∷ xs) [] s k x h a i = i

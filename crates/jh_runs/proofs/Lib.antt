@@ -13,5 +13,6 @@ mod Typing
 mod Storing
 mod TypedRuns
 mod TypedCalls
+mod TypedMethods
 mod HeapsWhole
 mod HeapCases

@@ -45,7 +45,7 @@ module _ (p : Program) (names : NamesFit p) (n : ℕ) where
   plain-datum t s (a_set v) h = absurd h
   plain-datum t s (a_field f) h = tt
 
-  plain-args : (xs : List Local) (s : State) (ds : List Datum) → ArgsLie xs s ds → ArePlain ds
+  pub plain-args : (xs : List Local) (s : State) (ds : List Datum) → ArgsLie xs s ds → ArePlain ds
   plain-args [] s [] h = tt
   plain-args (x ∷ xs) s (d ∷ ds) h = (plain-datum x.type s d h.0, plain-args xs s ds h.1)
   plain-args [] s (d ∷ ds) h = absurd h
@@ -86,7 +86,7 @@ module _ (p : Program) (names : NamesFit p) (n : ℕ) where
   values-good at after result (a ∷ rest) [] s next h fit g l f = absurd h
 
   -- back in the caller
-  dotted : (b : Bool) (v w : ℕ) → b ≡ true → (if b then v else w) ≡ v
+  pub dotted : (b : Bool) (v w : ℕ) → b ≡ true → (if b then v else w) ≡ v
   dotted true v w e = refl
   dotted false v w e = absurd (true≢false (sym e))
 
@@ -107,7 +107,7 @@ module _ (p : Program) (names : NamesFit p) (n : ℕ) where
       }))
 
   -- a value in a type stays there where sets grow
-  datum-grow : (t : Ty) (s u : State) (d : Datum) → IsType p t → Grew s u → DatumLies p names t s d → DatumLies p names t u d
+  pub datum-grow : (t : Ty) (s u : State) (d : Datum) → IsType p t → Grew s u → DatumLies p names t s d → DatumLies p names t u d
   datum-grow t s u (an_object v) i g h = lies-grow p names t s u v i g h
   datum-grow t s u (a_number z) i g h = h
   datum-grow t s u (a_truth b) i g h = h
