@@ -96,6 +96,9 @@ module _ (call : Callee → ℕ → List Datum → Configuration → Progress) w
     closed-part c.none h r = not-closed h
     closed-part (c.more s ss) h r = first-never (exec call s r) (λ u. exec_all call ss u) (closed-stmt s h r)
 
+none-in : {X : Type 0} (y : X) → Contains [] y → ⊥
+none-in y i = omega (i.1, arith)
+
 module _ (p : Program) (names : NamesFit p) where
   -- the parameters of a method, as its body begins
   abbrev entry_scope : Option ℕ → List Local → Surroundings
@@ -104,10 +107,7 @@ module _ (p : Program) (names : NamesFit p) where
   -- each parameter was declared where some of those before it were
   params-fact : (this : Option ℕ) (before xs : List Local) → ParamsFit p this before xs → (y : Local) → Contains xs y →
       (b : List Local) × MayDeclare p (entry_scope this b) y × ((z : Local) → Contains before z → Contains b z)
-  params-fact this before [] h y i = absurd (none_in i)
-    where
-      none_in : Contains [] y → ⊥
-      none_in i = omega (i.1, arith)
+  params-fact this before [] h y i = absurd (none-in y i)
   params-fact this before (x ∷ xs) h y i = here (split-off p names [] x xs y i) (λ j. params-fact this (before ++ (x ∷ [])) xs h.1 y j)
     where
       here : (y ≡ x) ⊎ Contains xs y → (Contains xs y → (b : List Local) × MayDeclare p (entry_scope this b) y × ((z : Local) → Contains (before ++ (x ∷ [])) z → Contains b z)) →
@@ -127,16 +127,10 @@ module _ (p : Program) (names : NamesFit p) where
     where
       cases : Contains xs y ⊎ Contains [] y → Contains xs y
       cases (inl i) = i
-      cases (inr i) = absurd (none_in i)
-        where
-          none_in : Contains [] y → ⊥
-          none_in i = omega (i.1, arith)
+      cases (inr i) = absurd (none-in y i)
 
   params-one : (this : Option ℕ) (before xs : List Local) → ParamsFit p this before xs → (y z : Local) → Contains xs y → Contains xs z → y.text ≡ z.text → y.type ≡ z.type
-  params-one this before [] h y z i j e = absurd (none_in i)
-    where
-      none_in : Contains [] y → ⊥
-      none_in i = omega (i.1, arith)
+  params-one this before [] h y z i j e = absurd (none-in y i)
   params-one this before (x ∷ xs) h y z i j e = cases (split-off p names [] x xs y i) (split-off p names [] x xs z j) (λ k l. params-one this (before ++ (x ∷ [])) xs h.1 y z k l e)
     where
       cases : (y ≡ x) ⊎ Contains xs y → (z ≡ x) ⊎ Contains xs z → (Contains xs y → Contains xs z → y.type ≡ z.type) → y.type ≡ z.type
@@ -156,3 +150,107 @@ module _ (p : Program) (names : NamesFit p) where
     where
       fact : (y : Local) → Contains (x.params ++ []) y → (b : List Local) × MayDeclare p (entry_scope x.this b) y × ((z : Local) → Contains [] z → Contains b z)
       fact y i = params-fact x.this [] x.params fit.params y (in-params x.params y i)
+
+  module _ (n : ℕ) where
+    -- the state in which the body of a method begins
+    args-grow : (xs : List Local) (s u : State) (ds : List Datum) → ((y : Local) → Contains xs y → IsType p y.type) → Grew s u → ArgsLie p names n xs s ds → ArgsLie p names n xs u ds
+    args-grow [] s u [] types g h = tt
+    args-grow (x ∷ xs) s u (d ∷ ds) types g h = (datum-grow p names n x.type s u d (types x (0, omega arith, refl)) g h.0, args-grow xs s u ds (λ y i. types y (Contains-append_right (x ∷ []) xs y i)) g h.1)
+    args-grow [] s u (d ∷ ds) types g h = absurd h
+    args-grow (x ∷ xs) s u [] types g h = absurd h
+
+    args-good : (this : Option ℕ) (before xs : List Local) (ds : List Datum) (s : State) → ParamsFit p this before xs → ArgsLie p names n xs s ds → Formed p s →
+        ((k : ℕ) → this ≡ Some k → s.set (named (class_at p.classes k)) (s.object this_name) ≡ true) → Formed p (with_args xs ds s) × ScopeLies p names (entry_scope this xs) (with_args xs ds s)
+    args-good this before [] [] s h l f g = (f, record { locals = λ y i. absurd (none-in y (in-params [] y i)); this = g })
+    args-good this before [] (d ∷ ds) s h l f g = absurd l
+    args-good this before (x ∷ xs) [] s h l f g = absurd l
+    args-good this before (x ∷ xs) (d ∷ ds) s h l f g = one-more (args-good this (before ++ (x ∷ [])) xs ds s h.1 l.1 f g)
+      where
+        one-more : Formed p (with_args xs ds s) × ScopeLies p names (entry_scope this xs) (with_args xs ds s) → Formed p (with_args (x ∷ xs) (d ∷ ds) s) × ScopeLies p names (entry_scope this (x ∷ xs)) (with_args (x ∷ xs) (d ∷ ds) s)
+        one-more ih =
+            let w : State = with_args xs ds s in
+            let may : MayDeclare p (entry_scope this before) x = h.0 in
+            let fits : DatumLies p names x.type w d = datum-grow p names n x.type s w d may.type_fits (args-sets xs ds s (plain-args p names n xs s ds l.1)) l.0 in
+            (stored-formed p names w x.text d x.type fits ih.0 (λ y t i m e q. dot-or-none p names y.text x.text (names.dots y i) may.no_state q),
+            stored-scope p names (entry_scope this (x ∷ xs)) w x.text d x.type fits
+              (λ y i. type-of y (split-off p names [] x (xs ++ []) y i)) (λ y i q. old y q (split-off p names [] x (xs ++ []) y i)) (λ k e. (ih.1).this k e) (λ q. may.not_this (sym q)) (λ y i q. same y q (split-off p names [] x (xs ++ []) y i)))
+          where
+            type-of : (y : Local) → (y ≡ x) ⊎ Contains (xs ++ []) y → IsType p y.type
+            type-of y (inl e) = subst (λ (z : Local). IsType p z.type) (sym e) (h.0).type_fits
+            type-of y (inr i) = (params-fact this (before ++ (x ∷ [])) xs h.1 y (in-params xs y i)).1.type_fits
+            old : (y : Local) → (y.text ≡ x.text → ⊥) → (y ≡ x) ⊎ Contains (xs ++ []) y → ObjectLies p y.type (with_args xs ds s) ((with_args xs ds s).object (named y.text))
+            old y q (inl e) = absurd (q (ap (λ (z : Local). z.text) e))
+            old y q (inr i) = (ih.1).locals y i
+            same : (y : Local) → y.text ≡ x.text → (y ≡ x) ⊎ Contains (xs ++ []) y → y.type ≡ x.type
+            same y q (inl e) = ap (λ (z : Local). z.type) e
+            same y q (inr i) = absurd (params-apart this before x xs h y (in-params xs y i) (sym q))
+
+    entry-good : (m : Method) → MethodFits p m → (this : ℕ) (args : List Datum) (s : State) → Formed p s → ThisLies p names n m.this s this → ArgsLie p names n m.params s args →
+        Formed p (entered m this args s) × ScopeLies p names (entry_scope m.this m.params) (entered m this args s)
+    entry-good m fit this args s f h l =
+        let bare : State = without_locals s in
+        let begun : State = stored bare (codes "this") (an_object this) in
+        let bare-formed : Formed p bare = names-formed p names s (λ x. if has_dot x.text then s.object x else 0) bare.number bare.truth f (λ x t i g e.
+            subst (λ (v : ℕ). ObjectLies p t s v) (sym (dotted p names n (has_dot x.text) (s.object (named x.text)) 0 (names.dots x i))) (f.statics x t i g e)) in
+        let begun-formed : Formed p begun = stored-formed p names bare (codes "this") (an_object this) ty.Int tt bare-formed (λ y t i g e q. dot-or-none p names y.text (codes "this") (names.dots y i) refl q) in
+        args-good m.this [] m.params args begun fit.params
+          (args-grow m.params s begun args (λ y i. (params-fact m.this [] m.params fit.params y i).1.type_fits) (λ z k b g. g) l) begun-formed
+          (λ k e. subst (λ (v : ℕ). s.set (named (class_at p.classes k)) v ≡ true) (sym (dotted p names n (name_equal this_name this_name) this (bare.object this_name) (name_equal-same this_name this_name refl)))
+            (subst (λ (o : Option ℕ). ThisLies p names n o s this) e h))
+
+    -- a method goes on only where it has no result
+    void-ends : (at : Surroundings) (t : Ty) (x : Progress) → t ≡ ty.Void → Ends (Good p names n at) (GoodWith p names n t) x → MethodEnds p names n t x
+    void-ends at t (goes_on r) e h = (h.0, (h.1).0, e)
+    void-ends at t (returns r v) e h = h
+    void-ends at t (stops why) e h = tt
+
+    closed-ends : (at : Surroundings) (t : Ty) (x : Progress) → Ends Never Anyhow x → Ends (Good p names n at) (GoodWith p names n t) x → MethodEnds p names n t x
+    closed-ends at t (goes_on r) e h = absurd e
+    closed-ends at t (returns r v) e h = h
+    closed-ends at t (stops why) e h = tt
+
+    body-ends : (at : Surroundings) (m : Method) (call : Callee → ℕ → List Datum → Configuration → Progress) (r : Configuration) → (m.result ≡ ty.Void) ⊎ (ends_closed m.body ≡ true) →
+        Ends (Good p names n at) (GoodWith p names n m.result) (exec_all call m.body r) → MethodEnds p names n m.result (exec_all call m.body r)
+    body-ends at m call r (inl e) h = void-ends at m.result (exec_all call m.body r) e h
+    body-ends at m call r (inr e) h = closed-ends at m.result (exec_all call m.body r) (closed-all call m.body e r) h
+
+pay-method : (p : Program) (names : NamesFit p) (n : ℕ) (t : Ty) (r : Configuration) (next : Configuration → Progress) → ((k : ℕ) → MethodEnds p names n t (next (record r { steps = k }))) → MethodEnds p names n t (pay r next)
+pay-method p names n t r next f = from r.steps
+  where
+    from : (k : ℕ) → MethodEnds p names n t (pay_from k r next)
+    from zero = tt
+    from (suc k) = f k
+
+pub methods-good : (p : Program) (fits : ProgramFits p) (n depth : ℕ) → MethodsGood p fits.names n (calls depth p)
+methods-good p fits n zero m x e this args r stands formed h l i j = tt
+methods-good p fits n (suc depth) m x e this args r stands formed h l i j =
+    let names : NamesFit p = fits.names in
+    let fit : MethodFits p x = fits.methods m x e in
+    let at : Surroundings = record { this = x.this; params = x.params; locals = [] } in
+    subst (λ (o : Option Method). MethodEnds p names n x.result (pay r (λ u. option_map_or (λ (y : Method). exec_all (calls depth p) y.body (at_entry y this args u)) o (goes_on u)))) (sym e)
+      (pay-method p names n x.result r (λ u. exec_all (calls depth p) x.body (at_entry x this args u)) (λ k.
+        let u : Configuration = record r { steps = k } in
+        body-ends p names n at x (calls depth p) (at_entry x this args u) fit.end
+          (all-good p names n (calls depth p) x.result
+            (calls-good p names n (calls depth p) (λ c y g. (fits.methods c y g).result_type) (methods-good p fits n depth) (λ first. calls-add first p fits depth) x.result)
+            x.body at fit.body (params-scope p names x fit) (at_entry x this args u)
+            (entry-stands n x this args u (record { now = stands.now; entry = stands.entry }) l j, entry-good p names n x fit this args r.now formed h i))))
+
+-- where a run returns, the state is well formed, and the result lies in its type; without a result the method is void
+abbrev pub EndsFormed : (p : Program) → NamesFit p → ℕ → Ty → Outcome → Type 0
+EndsFormed p names n t (returned last result) = Formed p last × ResultLies p names n t last result
+EndsFormed p names n t (stopped why) = Unit {0}
+
+-- Runs of typed code keep states well formed, and answer results in their types.
+pub runs-keep-formed : (p : Program) (fits : ProgramFits p) (m : Callee) (x : Method) → p.method m ≡ Some x → (first : State) (this : ℕ) (args : List Datum) → IsWhole first → Formed p first →
+    ThisLies p fits.names first.last x.this first this → this < suc first.last → ArgsLie p fits.names first.last x.params first args → AreInside first.last args →
+    (picks : List ℕ) (k : ℕ) → EndsFormed p fits.names first.last x.result (run p m first this args picks k)
+runs-keep-formed p fits m x e first this args w f h l i j picks k =
+    ended (call p m this args start) (methods-good p fits first.last (suc k) m x e this args start (record { now = whole-lies first w; entry = whole-lies first w }) f h l i j)
+  where
+    start : Configuration
+    start = record { now = first; entry = first; picks = picks; steps = k }
+    ended : (y : Progress) → MethodEnds p fits.names first.last x.result y → EndsFormed p fits.names first.last x.result (outcome_of y)
+    ended (goes_on r) g = (g.1, g.2)
+    ended (returns r v) g = ((g.1).0, (g.1).1)
+    ended (stops why) g = tt
