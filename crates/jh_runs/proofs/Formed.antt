@@ -1,8 +1,7 @@
 -- Well-formed states without formulas, and what keeps them so.
-use Rattle.std.proofs.Common.{◌≡◌, refl, sym, ap, subst, ◌∙◌, ℕ, ℤ, suc, ◌<◌, ◌⊎◌, inl, inr, ◌==◌, ◌&&◌, ◌||◌, not, nat_lt, arith, pos, Bool, true, false, if◌then◌else◌, List, [], ◌∷◌, Option, None, Some, codes}
+use Rattle.std.proofs.Common.{◌≡◌, refl, sym, ap, subst, ◌∙◌, ℕ, ℤ, suc, ◌<◌, ◌⊎◌, inl, inr, ◌==◌, ◌||◌, pos, Bool, true, false, if◌then◌else◌, [], ◌∷◌, Some, codes}
 use Rattle.std.specs.List.{Contains}
 use Rattle.std.proofs.lemmas.Bool.{true≢false, eqb-true, eq-eqb}
-use Rattle.std.proofs.lemmas.Bool.Decides.{nat_tests}
 use Rattle.std.proofs.lemmas.List.Elements.{Contains-append_left}
 use Rattle.jh_name.specs.declared.naming.Name.{Name}
 use Rattle.jh_name.specs.declared.place.Kind.{Kind}
@@ -15,10 +14,10 @@ use Rattle.jh_rules.specs.declared.types.Ty.{Ty}
 use Rattle.jh_rules.specs.declared.types.Ty.TheVariants as ty
 use Rattle.jh_runs.specs.Code.{Text}
 use Rattle.jh_runs.specs.Program.{Program, Member, class_at}
-use Rattle.jh_runs.specs.State.{State, named, alloc_name, held, stored, stored_at}
+use Rattle.jh_runs.specs.State.{State, named, alloc_name, held, stored_at}
 use Rattle.jh_runs.specs.Locals.{has_dot}
 use Rattle.jh_runs.specs.WellFormed.{all_classes}
-use Rattle.jh_runs.specs.Objects.{is_free, joining, created}
+use Rattle.jh_runs.specs.Objects.{joining, created}
 use Rattle.jh_runs.specs.Typed.{IsType, NamesFit}
 use Rattle.jh_runs.specs.Laws.{Grew}
 use Rattle.jh_runs.proofs.Growth.{created-sets}
@@ -96,8 +95,8 @@ module _ (p : Program) where
         let there : (x : Text) (b : Bool) → has_dot x ≡ false → (a : ℕ) → u.set (named x) a ≡ b → s.set (named x) a ≡ b = λ x b h a i. ap (λ (g : ℕ → Bool). g a) (sym (same x h)) ∙ i in
         let alloc : Text = codes "alloc" in
         let of_class : (a : ℕ) → a < suc s.last → s.set alloc_name a ≡ true → (c : Text) × IsClass c × (u.set (named c) a ≡ true) = λ a i g.
-            let r : (c : Text) × IsClass c × (s.set (named c) a ≡ true) = f.of_class a i g in
-            (r.0, r.1, here r.0 true (names.dotless r.0 r.1) a r.2) in
+        let r : (c : Text) × IsClass c × (s.set (named c) a ≡ true) = f.of_class a i g in
+        (r.0, r.1, here r.0 true (names.dotless r.0 r.1) a r.2) in
         record {
           of_class = λ a i g. of_class a i (there alloc true refl a g);
           in_alloc = λ c i a j g. here alloc true refl a (f.in_alloc c i a j (there c true (names.dotless c i) a g));
@@ -105,7 +104,7 @@ module _ (p : Program) where
           no_null = here alloc false refl 0 f.no_null;
           statics = λ x type i g e. lies-grow type s u (s.object (named x.text)) (names.types x type i e) (λ z n a m. here z true n a m) (f.statics x type i g e);
           fields = λ x type i g e a j l. lies-grow type s u ((s.field (named x.text)).objects a) (names.types x type i e) (λ z n a m. here z true n a m)
-            (f.fields x type i g e a j (there x.class true (names.dotless x.class (class-of x.class (names.of_class x i))) a l));
+              (f.fields x type i g e a j (there x.class true (names.dotless x.class (class-of x.class (names.of_class x i))) a l));
           defaults = λ x i g a j l. f.defaults x i g a j (there x.class false (names.dotless x.class (class-of x.class (names.of_class x i))) a l);
         }
 
@@ -176,12 +175,13 @@ module _ (p : Program) where
     field-formed s x b d i static inside suits f =
         let u : State = stored_at s x.text b d in
         let new : Fields = updated (s.field (named x.text)) b (held s d) in
-        let own : FieldFacts s x new =
-            ((λ type e a j l. object-updated x type s (s.field (named x.text)) b d a e suits (f.fields x type i static e a j l)),
-            (λ a j l. default-updated s.last x.kind (s.field (named x.text)) b (held s d) a (differ (s.set (named x.class)) a b l inside) (f.defaults x i static a j l))) in
+        let own : FieldFacts s x new = (
+          (λ type e a j l. object-updated x type s (s.field (named x.text)) b d a e suits (f.fields x type i static e a j l)),
+          (λ a j l. default-updated s.last x.kind (s.field (named x.text)) b (held s d) a (differ (s.set (named x.class)) a b l inside) (f.defaults x i static a j l)),
+        ) in
         let all : (y : Member) → Contains p.members y → y.is_static ≡ false → FieldFacts s y (u.field (named y.text)) = λ y j g.
-            field-of s x y new (s.field (named y.text)) i j (name_equal (named y.text) (named x.text)) refl own
-              ((λ type e a m l. f.fields y type j g e a m l), (λ a m l. f.defaults y j g a m l)) in
+        field-of s x y new (s.field (named y.text)) i j (name_equal (named y.text) (named x.text)) refl own
+        ((λ type e a m l. f.fields y type j g e a m l), (λ a m l. f.defaults y j g a m l)) in
         record {
           of_class = λ a j g. f.of_class a j g;
           in_alloc = λ c j a l g. f.in_alloc c j a l g;
@@ -301,13 +301,13 @@ module _ (p : Program) where
         let outside : (d : Text) → IsClass d → s.set (named d) a ≡ false = λ d j. not-true (s.set (named d) a) (λ h. true≢false (sym (f.in_alloc d j a inside h) ∙ fresh)) in
         record {
           of_class = λ b l h. alloc-cases s u c a b i (created-class s c a b i) (one-or-there (s.set alloc_name b) b a (sym (created-alloc s c a b i) ∙ h))
-            (λ g. let r : (d : Text) × IsClass d × (s.set (named d) b ≡ true) = f.of_class b l g in (r.0, r.1, grew r.0 (names.dotless r.0 r.1) b r.2));
+              (λ g. let r : (d : Text) × IsClass d × (s.set (named d) b ≡ true) = f.of_class b l g in (r.0, r.1, grew r.0 (names.dotless r.0 r.1) b r.2));
           in_alloc = λ d j b l h. alloc-of s u d c a b (created-alloc s c a b i) (cases d j b h) (λ g. grew alloc refl b (f.in_alloc d j b l g));
           apart = λ d e j m b l g h. apart-of s d e c a b fresh (cases d j b g) (cases e m b h) (λ q. f.in_alloc d j b l q) (λ q. f.in_alloc e m b l q) (λ q r. f.apart d e j m b l q r);
           no_null = created-alloc s c a 0 i ∙ (ap (λ (t : Bool). t || (0 == a)) f.no_null ∙ nonzero);
           statics = λ x type j g e. lies-grow type s u (s.object (named x.text)) (names.types x type j e) grew (f.statics x type j g e);
           fields = λ x type j g e b l h. field-lies s u x type c a b (cases x.class (class-of x.class (names.of_class x j)) b h)
-            (default-lies type x.kind s.last (s.field (named x.text)) a u (names.kinds x type j e) (f.defaults x j g a inside (outside x.class (class-of x.class (names.of_class x j)))))
-            (λ q. lies-grow type s u ((s.field (named x.text)).objects b) (names.types x type j e) grew (f.fields x type j g e b l q));
+              (default-lies type x.kind s.last (s.field (named x.text)) a u (names.kinds x type j e) (f.defaults x j g a inside (outside x.class (class-of x.class (names.of_class x j)))))
+              (λ q. lies-grow type s u ((s.field (named x.text)).objects b) (names.types x type j e) grew (f.fields x type j g e b l q));
           defaults = λ x j g b l h. f.defaults x j g b l (not-true (s.set (named x.class) b) (λ q. true≢false (sym (grew x.class (names.dotless x.class (class-of x.class (names.of_class x j))) b q) ∙ h)));
         }

@@ -1,5 +1,5 @@
 -- Where typed values are stored, a well-formed state stays well formed.
-use Rattle.std.proofs.Common.{◌≡◌, refl, sym, ap, subst, ◌∙◌, ℕ, zero, suc, ◌<◌, ◌⊎◌, inl, inr, Bool, true, false, if◌then◌else◌, List, [], ◌∷◌, ◌++◌, Option, None, Some, codes, arith, slice_index_or, length}
+use Rattle.std.proofs.Common.{◌≡◌, refl, sym, ap, subst, ◌∙◌, ℕ, zero, suc, ◌<◌, ◌⊎◌, inl, inr, Bool, true, false, if◌then◌else◌, List, [], ◌∷◌, ◌++◌, Option, Some, codes, arith, slice_index_or, length}
 use Rattle.std.specs.List.{Contains}
 use Rattle.std.specs.Option.{option_map_or}
 use Rattle.std.proofs.lemmas.Bool.{true≢false}
@@ -19,12 +19,11 @@ use Rattle.jh_runs.specs.Locals.{has_dot}
 use Rattle.jh_runs.specs.Values.{Value, value, null_at, dereferenced, object_of}
 use Rattle.jh_runs.specs.Objects.{target_of, put}
 use Rattle.jh_runs.specs.Progress.{Configuration, Progress, goes_on_in, with_value}
-use Rattle.jh_runs.specs.Typed.{Surroundings, IsType, NamesFit, IsMember, ObjectHas, of_null, of_this, of_name, of_read, MayDeclare, Takes, new_local, old_local, a_static, a_field, declaring}
-use Rattle.jh_runs.specs.Typed as typed
+use Rattle.jh_runs.specs.Typed.{Surroundings, IsType, NamesFit, ObjectHas, of_this, MayDeclare, Takes, new_local, old_local, a_static, a_field, declaring}
 use Rattle.jh_runs.specs.Laws.{Grew}
 use Rattle.jh_runs.proofs.Keeping.{Ends, IsOf}
 use Rattle.jh_runs.proofs.Inside.{Lies}
-use Rattle.jh_runs.proofs.Formed.{IsClass, ObjectLies, Formed, lies-grow, names-formed, field-formed, Suits, class-of}
+use Rattle.jh_runs.proofs.Formed.{ObjectLies, Formed, lies-grow, names-formed, field-formed, Suits, class-of}
 use Rattle.jh_runs.proofs.Typing.{ScopeLies, ScopeFits, DatumLies, object-typed}
 
 -- two texts are one, or not
@@ -66,7 +65,7 @@ module _ (p : Program) (names : NamesFit p) where
       ((x : Local) → Contains (at.params ++ at.locals) x → x.text ≡ y → x.type ≡ t) → ScopeLies p names at (stored s y d)
   stored-scope at s y (an_object v) t h types others this apart one = record {
     locals = λ x i. lies-grow p names x.type s (stored s y (an_object v)) _ (types x i) (λ z n a m. m)
-      (picked-lies x.type s v x.text y (λ q. subst (λ (u : Ty). ObjectLies p u s v) (sym (one x i q)) h) (others x i) (name_equal (named x.text) (named y)) refl);
+        (picked-lies x.type s v x.text y (λ q. subst (λ (u : Ty). ObjectLies p u s v) (sym (one x i q)) h) (others x i) (name_equal (named x.text) (named y)) refl);
     this = λ n e. this-kept n (name_equal this_name (named y)) refl (this n e);
   }
     where
@@ -75,12 +74,12 @@ module _ (p : Program) (names : NamesFit p) where
       this-kept n false e g = g
   stored-scope at s y (a_number v) t h types others this apart one = record {
     locals = λ x i. lies-grow p names x.type s (stored s y (a_number v)) (s.object (named x.text)) (types x i) (λ z n a m. m)
-      (unpicked-lies x.type t s x.text y (one x i) (inl h) (others x i) (same-or-not x.text y (name_equal (named x.text) (named y)) refl));
+        (unpicked-lies x.type t s x.text y (one x i) (inl h) (others x i) (same-or-not x.text y (name_equal (named x.text) (named y)) refl));
     this = λ n e. this n e;
   }
   stored-scope at s y (a_truth v) t h types others this apart one = record {
     locals = λ x i. lies-grow p names x.type s (stored s y (a_truth v)) (s.object (named x.text)) (types x i) (λ z n a m. m)
-      (unpicked-lies x.type t s x.text y (one x i) (inr h) (others x i) (same-or-not x.text y (name_equal (named x.text) (named y)) refl));
+        (unpicked-lies x.type t s x.text y (one x i) (inr h) (others x i) (same-or-not x.text y (name_equal (named x.text) (named y)) refl));
     this = λ n e. this n e;
   }
   stored-scope at s y (a_set v) t h types others this apart one = absurd h
@@ -132,7 +131,7 @@ module _ (p : Program) (names : NamesFit p) where
   target-typed at _ _ s (a_static x t h) f l g = tt
   target-typed at _ _ s (a_field x t m r q n h e) f l g =
       map-of (λ a. Reaches r x.class s a) (λ a. TargetLies (c.to_field x.text r q) s a) (object_of r s)
-        (λ a i y j d. subst (λ (z : Member). Reaches r z.class s a) (sym (names.members y x j m.stands d)) i) (reaches-of at r n x.class s e h f l g)
+      (λ a i y j d. subst (λ (z : Member). Reaches r z.class s a) (sym (names.members y x j m.stands d)) i) (reaches-of at r n x.class s e h f l g)
 
   not-null : (s : State) (class : Text) (a : ℕ) → (suc a ≡ 0) ⊎ (s.set (named class) (suc a) ≡ true) → s.set (named class) (suc a) ≡ true
   not-null s class a (inl h) = absurd (no-zero h)
@@ -168,6 +167,7 @@ module _ (p : Program) (names : NamesFit p) where
       second : Contains (x ∷ []) y ⊎ Contains after y → (y ≡ x) ⊎ Contains (before ++ after) y
       second (inl i) = inl (only-one x y i)
       second (inr i) = inr (Contains-append_right before after y i)
+
       first : Contains before y ⊎ Contains (x ∷ after) y → (y ≡ x) ⊎ Contains (before ++ after) y
       first (inl i) = inr (Contains-append_left before after y i)
       first (inr i) = second (Contains-append_cases (x ∷ []) after y i)
@@ -185,19 +185,22 @@ module _ (p : Program) (names : NamesFit p) where
   new-formed : (at : Surroundings) (x : Local) (d : Datum) (s : State) → MayDeclare p at x → ScopeFits p names at → Formed p s → ScopeLies p names at s → DatumLies p names x.type s d →
       Formed p (stored s x.text d) × ScopeLies p names (record at { locals = x ∷ at.locals }) (stored s x.text d)
   new-formed at x d s may fit f l h = (
-      stored-formed s x.text d x.type h f (λ y t i g e q. dot-or-none y.text x.text (names.dots y i) may.no_state q),
-      stored-scope (record at { locals = x ∷ at.locals }) s x.text d x.type h
+    stored-formed s x.text d x.type h f (λ y t i g e q. dot-or-none y.text x.text (names.dots y i) may.no_state q),
+    stored-scope (record at { locals = x ∷ at.locals }) s x.text d x.type h
         (λ y i. type-of y (split-off at.params x at.locals y i))
         (λ y i q. old y q (split-off at.params x at.locals y i))
         (λ n e. l.this n e) (λ q. may.not_this (sym q))
-        (λ y i q. same y q (split-off at.params x at.locals y i)))
+        (λ y i q. same y q (split-off at.params x at.locals y i)),
+  )
     where
       type-of : (y : Local) → (y ≡ x) ⊎ Contains (at.params ++ at.locals) y → IsType p y.type
       type-of y (inl e) = subst (λ (z : Local). IsType p z.type) (sym e) may.type_fits
       type-of y (inr i) = fit.types y i
+
       old : (y : Local) → (y.text ≡ x.text → ⊥) → (y ≡ x) ⊎ Contains (at.params ++ at.locals) y → ObjectLies p y.type s (s.object (named y.text))
       old y q (inl e) = absurd (q (ap (λ (z : Local). z.text) e))
       old y q (inr i) = l.locals y i
+
       same : (y : Local) → y.text ≡ x.text → (y ≡ x) ⊎ Contains (at.params ++ at.locals) y → y.type ≡ x.type
       same y q (inl e) = ap (λ (z : Local). z.type) e
       same y q (inr i) = absurd (may.is_new y i q)
@@ -221,13 +224,15 @@ module _ (p : Program) (names : NamesFit p) where
       Ends (FormedIn (declaring p at target)) R (put target a d r)
   put-formed R at _ _ a d r (new_local x may) fit g l h = new-formed at x d r.now may fit g.0 g.1 h
   put-formed R at _ _ a d r (old_local x i) fit g l h = (
-      stored-formed r.now x.text d x.type h g.0 (λ y t j e m q. dot-or-none y.text x.text (names.dots y j) (fit.no_state x (Contains-append_right at.params at.locals x i)) q),
-      stored-scope at r.now x.text d x.type h fit.types (λ y j q. (g.1).locals y j) (λ n e. (g.1).this n e) (λ q. fit.not_this x (Contains-append_right at.params at.locals x i) (sym q))
-        (λ y j q. fit.one y x j (Contains-append_right at.params at.locals x i) q))
+    stored-formed r.now x.text d x.type h g.0 (λ y t j e m q. dot-or-none y.text x.text (names.dots y j) (fit.no_state x (Contains-append_right at.params at.locals x i)) q),
+    stored-scope at r.now x.text d x.type h fit.types (λ y j q. (g.1).locals y j) (λ n e. (g.1).this n e) (λ q. fit.not_this x (Contains-append_right at.params at.locals x i) (sym q))
+        (λ y j q. fit.one y x j (Contains-append_right at.params at.locals x i) q),
+  )
   put-formed R at _ _ a d r (a_static x t m) fit g l h = (
-      stored-formed r.now x.text d t h g.0 (λ y u j e i q. some-type u t (sym i ∙ (ap (λ (z : Member). z.type) (names.members y x j m.stands q) ∙ m.has))),
-      stored-scope at r.now x.text d t h fit.types (λ y j q. (g.1).locals y j) (λ n e. (g.1).this n e) (λ q. dot-or-none x.text (codes "this") (names.dots x m.stands) refl (sym q))
-        (λ y j q. dot-or-none x.text y.text (names.dots x m.stands) (fit.no_state y j) (sym q)))
+    stored-formed r.now x.text d t h g.0 (λ y u j e i q. some-type u t (sym i ∙ (ap (λ (z : Member). z.type) (names.members y x j m.stands q) ∙ m.has))),
+    stored-scope at r.now x.text d t h fit.types (λ y j q. (g.1).locals y j) (λ n e. (g.1).this n e) (λ q. dot-or-none x.text (codes "this") (names.dots x m.stands) refl (sym q))
+        (λ y j q. dot-or-none x.text y.text (names.dots x m.stands) (fit.no_state y j) (sym q)),
+  )
   put-formed R at _ _ a d r (a_field x t m f q n has e) fit g l h =
       value-ends (dereferenced f q a) (λ b. goes_on_in r (stored_at r.now x.text b d)) (in-class f q x.class r.now a (l x m.stands refl)) (λ b i.
       (field-formed p names r.now x b d m.stands m.sort i (suits-of x t r.now d m.has h) g.0, scope-of-field at r.now x.text b d fit g.1))

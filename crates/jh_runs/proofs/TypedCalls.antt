@@ -1,6 +1,5 @@
 -- Calls of typed code keep states well formed.
-use Rattle.std.proofs.Common.{◌≡◌, refl, sym, ap, subst, ◌∙◌, ℕ, ℤ, zero, suc, ◌<◌, ◌⊎◌, inl, inr, Bool, true, false, if◌then◌else◌, List, [], ◌∷◌, ◌++◌, Option, None, Some, codes, arith}
-use Rattle.std.specs.List.{Contains}
+use Rattle.std.proofs.Common.{◌≡◌, refl, sym, subst, ℕ, suc, ◌<◌, Bool, true, false, if◌then◌else◌, List, [], ◌∷◌, Option, None, Some, arith}
 use Rattle.std.proofs.lemmas.Bool.{true≢false}
 use Rattle.jh_name.specs.declared.place.Place.{Place}
 use Rattle.jh_vars.specs.Written.{Callee}
@@ -9,23 +8,23 @@ use Rattle.jh_rules.specs.declared.types.Ty.{Ty}
 use Rattle.jh_rules.specs.declared.types.Ty.TheVariants as ty
 use Rattle.jh_runs.specs.Code.{Text, ObjectCode, AnyCode, Local, Target}
 use Rattle.jh_runs.specs.Code as c
-use Rattle.jh_runs.specs.Program.{Program, Method, Member, class_at}
+use Rattle.jh_runs.specs.Program.{Program, Method, class_at}
 use Rattle.jh_runs.specs.State.{State, named, this_name}
 use Rattle.jh_runs.specs.Locals.{has_dot, with_locals_of}
 use Rattle.jh_runs.specs.Values.{dereferenced, object_of, value_of}
 use Rattle.jh_runs.specs.Progress.{Configuration, Progress, goes_on, returns, stops, with_value}
 use Rattle.jh_runs.specs.Objects.{target_of, put}
-use Rattle.jh_runs.specs.Execution.{with_values, receiver_of, called_on, result_of, back}
-use Rattle.jh_runs.specs.Typed.{Surroundings, IsType, NamesFit, ProgramFits, MethodFits, AllFit, ReceiverFits, ResultFits, CallFits, declaring}
-use Rattle.jh_runs.specs.Laws.{Grew, IsInside, AreInside, IsPlain, ArePlain}
+use Rattle.jh_runs.specs.Execution.{with_values, receiver_of, called_on, back}
+use Rattle.jh_runs.specs.Typed.{Surroundings, IsType, NamesFit, AllFit, ReceiverFits, ResultFits, declaring}
+use Rattle.jh_runs.specs.Laws.{Grew, AreInside, IsPlain, ArePlain}
 use Rattle.jh_runs.proofs.Keeping.{Ends, IsOf, keeps-value}
 use Rattle.jh_runs.proofs.Inside.{Lies, Below, object-lies, dereferenced-lies}
-use Rattle.jh_runs.proofs.Whole.{Stands, StandsWith, returned-to}
+use Rattle.jh_runs.proofs.Whole.{Stands, returned-to}
 use Rattle.jh_runs.proofs.Growth.{CallsAdd, Grown, GrownWith}
 use Rattle.jh_runs.proofs.Formed.{ObjectLies, Formed, lies-grow, names-formed, class-of}
 use Rattle.jh_runs.proofs.Typing.{ScopeLies, ScopeFits, DatumLies, fits-datum}
-use Rattle.jh_runs.proofs.Storing.{TargetLies, target-grow, FormedIn, Reaches, reaches-of, in-class}
-use Rattle.jh_runs.proofs.TypedRuns.{pay-good, ends-both, lies-own, Good, GoodWith, FormedWith, ResultLies, ValueOf, value-typed, any-type, inside-own, target-both, put-good, CallsGood, both-of, paid}
+use Rattle.jh_runs.proofs.Storing.{TargetLies, target-grow, Reaches, reaches-of, in-class}
+use Rattle.jh_runs.proofs.TypedRuns.{pay-good, lies-own, Good, GoodWith, ValueOf, value-typed, any-type, inside-own, target-both, put-good, CallsGood, both-of, paid}
 
 module _ (p : Program) (names : NamesFit p) (n : ℕ) where
   -- `this` is one of its class
@@ -96,15 +95,18 @@ module _ (p : Program) (names : NamesFit p) (n : ℕ) where
 
   returned-good : (at : Surroundings) (caller r : Configuration) → ScopeFits p names at → Good p names n at caller → Stands n r → Formed p r.now → Grew caller.now r.now → Good p names n at (record r { now = with_locals_of r.now caller.now; entry = caller.entry })
   returned-good at caller r fit g h f grew =
-      let w : State = with_locals_of r.now caller.now in
-      (returned-to n caller r g.0 h,
-      (names-formed p names r.now (λ x. if has_dot x.text then r.now.object x else caller.now.object x) (λ x. if has_dot x.text then r.now.number x else caller.now.number x) (λ x. if has_dot x.text then r.now.truth x else caller.now.truth x) f (λ x t i m e.
-        subst (λ (v : ℕ). ObjectLies p t r.now v) (sym (dotted (has_dot x.text) (r.now.object (named x.text)) (caller.now.object (named x.text)) (names.dots x i))) (f.statics x t i m e)),
-      record {
-        locals = λ x i. subst (λ (v : ℕ). ObjectLies p x.type w v) (sym (dotless (has_dot x.text) (r.now.object (named x.text)) (caller.now.object (named x.text)) (fit.no_state x i)))
-          (lies-grow p names x.type caller.now w (caller.now.object (named x.text)) (fit.types x i) grew ((g.1).1.locals x i));
-        this = λ k e. grew (class_at p.classes k) (names.dotless (class_at p.classes k) (class-of p names (class_at p.classes k) (fit.of_class k e))) (caller.now.object this_name) ((g.1).1.this k e);
-      }))
+      let w : State = with_locals_of r.now caller.now in (
+        returned-to n caller r g.0 h,
+        (
+          names-formed p names r.now (λ x. if has_dot x.text then r.now.object x else caller.now.object x) (λ x. if has_dot x.text then r.now.number x else caller.now.number x) (λ x. if has_dot x.text then r.now.truth x else caller.now.truth x) f (λ x t i m e.
+              subst (λ (v : ℕ). ObjectLies p t r.now v) (sym (dotted (has_dot x.text) (r.now.object (named x.text)) (caller.now.object (named x.text)) (names.dots x i))) (f.statics x t i m e)),
+          record {
+            locals = λ x i. subst (λ (v : ℕ). ObjectLies p x.type w v) (sym (dotless (has_dot x.text) (r.now.object (named x.text)) (caller.now.object (named x.text)) (fit.no_state x i)))
+                (lies-grow p names x.type caller.now w (caller.now.object (named x.text)) (fit.types x i) grew ((g.1).1.locals x i));
+            this = λ k e. grew (class_at p.classes k) (names.dotless (class_at p.classes k) (class-of p names (class_at p.classes k) (fit.of_class k e))) (caller.now.object this_name) ((g.1).1.this k e);
+          },
+        ),
+      )
 
   -- a value in a type stays there where sets grow
   pub datum-grow : (t : Ty) (s u : State) (d : Datum) → IsType p t → Grew s u → DatumLies p names t s d → DatumLies p names t u d
@@ -149,7 +151,7 @@ module _ (p : Program) (names : NamesFit p) (n : ℕ) where
   back-good result at target t a caller (returns r (Some d)) h i fit g l j e grew =
       let w : Configuration = record r { now = with_locals_of r.now caller.now; entry = caller.entry } in
       put-result result at target t a d w h i fit (returned-good at caller r fit g (e.0).0 (e.1).0 grew.0) (target-grow p names target caller.now w.now a grew.0 l) j
-        (datum-grow t r.now w.now d i (λ z k b m. m) (e.1).1, (e.0).1)
+      (datum-grow t r.now w.now d i (λ z k b m. m) (e.1).1, (e.0).1)
   back-good result at target t a caller (stops why) h i fit g l j e grew = tt
 
   -- what a call of a method leads to
@@ -164,16 +166,16 @@ module _ (p : Program) (names : NamesFit p) (n : ℕ) where
       let x : Method = h.method in
       let after : Surroundings = declaring p at target in
       pay-good p names n result at after r
-        (λ u. with_value (target_of target u.now) (λ a. with_value (receiver_of receiver u.now) (λ y. with_values args u.now (λ ds. with_value (called_on receiver place y) (λ this. back u target a (call m this ds u)))))) g (λ u i.
+      (λ u. with_value (target_of target u.now) (λ a. with_value (receiver_of receiver u.now) (λ y. with_values args u.now (λ ds. with_value (called_on receiver place y) (λ this. back u target a (call m this ds u)))))) g (λ u i.
       keeps-value (Good p names n after) (GoodWith p names n result) (paid p names n after) (λ a. TargetLies p names target u.now a × (a < suc n)) (target_of target u.now)
-        (λ a. with_value (receiver_of receiver u.now) (λ y. with_values args u.now (λ ds. with_value (called_on receiver place y) (λ this. back u target a (call m this ds u)))))
-        (result-target at target x.result u.now h.result_fits (i.1).0 i.0.now (i.1).1) (λ a l.
+      (λ a. with_value (receiver_of receiver u.now) (λ y. with_values args u.now (λ ds. with_value (called_on receiver place y) (λ this. back u target a (call m this ds u)))))
+      (result-target at target x.result u.now h.result_fits (i.1).0 i.0.now (i.1).1) (λ a l.
       keeps-value (Good p names n after) (GoodWith p names n result) (paid p names n after) (λ y. ReceiverOk receiver x.this u.now y × (y < suc n)) (receiver_of receiver u.now)
-        (λ y. with_values args u.now (λ ds. with_value (called_on receiver place y) (λ this. back u target a (call m this ds u))))
-        (receiver-good at receiver x.this u.now h.receiver_fits (i.1).0 i.0.now (i.1).1) (λ y j.
+      (λ y. with_values args u.now (λ ds. with_value (called_on receiver place y) (λ this. back u target a (call m this ds u))))
+      (receiver-good at receiver x.this u.now h.receiver_fits (i.1).0 i.0.now (i.1).1) (λ y j.
       values-good at after result args x.params u.now (λ ds. with_value (called_on receiver place y) (λ this. back u target a (call m this ds u))) h.args_fit fit i.1 i.0.now (λ ds k o.
       keeps-value (Good p names n after) (GoodWith p names n result) (paid p names n after) (λ b. ThisLies x.this u.now b × (b < suc n)) (called_on receiver place y) (λ this. back u target a (call m this ds u))
-        (called-good receiver x.this place u.now y j.0 j.1) (λ this v.
+      (called-good receiver x.this place u.now y j.0 j.1) (λ this v.
       back-good result at target x.result a u (call m this ds u) h.result_fits (types m x h.is) fit i l.0 l.1
-        (methods m x h.is this ds u i.0 (i.1).0 v.0 v.1 k o)
-        (adds u.now m this ds u (λ z e b w. w) (plain-args x.params u.now ds k)))))))
+      (methods m x h.is this ds u i.0 (i.1).0 v.0 v.1 k o)
+      (adds u.now m this ds u (λ z e b w. w) (plain-args x.params u.now ds k)))))))

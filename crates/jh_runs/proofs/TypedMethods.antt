@@ -1,10 +1,9 @@
 -- Methods of typed code keep states well formed, and answer results in their types.
-use Rattle.std.proofs.Common.{◌≡◌, refl, sym, ap, subst, ◌∙◌, ℕ, zero, suc, ◌<◌, ◌⊎◌, inl, inr, ◌&&◌, Bool, true, false, if◌then◌else◌, List, [], ◌∷◌, ◌++◌, Option, None, Some, codes, arith, length}
+use Rattle.std.proofs.Common.{◌≡◌, refl, sym, ap, subst, ◌∙◌, ℕ, zero, suc, ◌<◌, ◌⊎◌, inl, inr, Bool, true, false, if◌then◌else◌, List, [], ◌∷◌, ◌++◌, Option, None, Some, codes, arith}
 use Rattle.std.specs.List.{Contains}
 use Rattle.std.specs.Option.{option_map_or}
 use Rattle.std.proofs.lemmas.Bool.{true≢false}
 use Rattle.std.proofs.lemmas.List.Elements.{Contains-append_left, Contains-append_right, Contains-append_cases}
-use Rattle.jh_name.specs.declared.naming.Name.{Name}
 use Rattle.jh_vars.specs.Written.{Callee}
 use Rattle.jh_tree.specs.Passing.{name_equal}
 use Rattle.jh_tree.specs.Meaning.{Datum, an_object}
@@ -24,13 +23,13 @@ use Rattle.jh_runs.specs.Typed.{Surroundings, IsType, NamesFit, MayDeclare, Para
 use Rattle.jh_runs.specs.Laws.{Grew, AreInside}
 use Rattle.jh_runs.proofs.Keeping.{Ends}
 use Rattle.jh_runs.proofs.Inside.{whole-lies}
-use Rattle.jh_runs.proofs.Whole.{Stands, entry-stands}
+use Rattle.jh_runs.proofs.Whole.{entry-stands}
 use Rattle.jh_runs.proofs.Growth.{calls-add, args-sets}
 use Rattle.jh_runs.proofs.Formed.{ObjectLies, Formed, names-formed}
 use Rattle.jh_runs.proofs.Typing.{ScopeLies, ScopeFits, DatumLies}
 use Rattle.jh_runs.proofs.Storing.{split-off, stored-formed, stored-scope, dot-or-none}
-use Rattle.jh_runs.proofs.TypedRuns.{Good, GoodWith, ResultLies, all-good, ends-both}
-use Rattle.jh_runs.proofs.TypedCalls.{ThisLies, ArgsLie, plain-args, datum-grow, dotted, Continues, MethodEnds, MethodsGood, calls-good}
+use Rattle.jh_runs.proofs.TypedRuns.{Good, GoodWith, ResultLies, all-good}
+use Rattle.jh_runs.proofs.TypedCalls.{ThisLies, ArgsLie, plain-args, datum-grow, dotted, MethodEnds, MethodsGood, calls-good}
 
 -- What always returns never goes on.
 abbrev Never : Configuration → Type 0
@@ -170,17 +169,20 @@ module _ (p : Program) (names : NamesFit p) where
         one-more ih =
             let w : State = with_args xs ds s in
             let may : MayDeclare p (entry_scope this before) x = h.0 in
-            let fits : DatumLies p names x.type w d = datum-grow p names n x.type s w d may.type_fits (args-sets xs ds s (plain-args p names n xs s ds l.1)) l.0 in
-            (stored-formed p names w x.text d x.type fits ih.0 (λ y t i m e q. dot-or-none p names y.text x.text (names.dots y i) may.no_state q),
-            stored-scope p names (entry_scope this (x ∷ xs)) w x.text d x.type fits
-              (λ y i. type-of y (split-off p names [] x (xs ++ []) y i)) (λ y i q. old y q (split-off p names [] x (xs ++ []) y i)) (λ k e. (ih.1).this k e) (λ q. may.not_this (sym q)) (λ y i q. same y q (split-off p names [] x (xs ++ []) y i)))
+            let fits : DatumLies p names x.type w d = datum-grow p names n x.type s w d may.type_fits (args-sets xs ds s (plain-args p names n xs s ds l.1)) l.0 in (
+              stored-formed p names w x.text d x.type fits ih.0 (λ y t i m e q. dot-or-none p names y.text x.text (names.dots y i) may.no_state q),
+              stored-scope p names (entry_scope this (x ∷ xs)) w x.text d x.type fits
+                  (λ y i. type-of y (split-off p names [] x (xs ++ []) y i)) (λ y i q. old y q (split-off p names [] x (xs ++ []) y i)) (λ k e. (ih.1).this k e) (λ q. may.not_this (sym q)) (λ y i q. same y q (split-off p names [] x (xs ++ []) y i)),
+            )
           where
             type-of : (y : Local) → (y ≡ x) ⊎ Contains (xs ++ []) y → IsType p y.type
             type-of y (inl e) = subst (λ (z : Local). IsType p z.type) (sym e) (h.0).type_fits
             type-of y (inr i) = (params-fact this (before ++ (x ∷ [])) xs h.1 y (in-params xs y i)).1.type_fits
+
             old : (y : Local) → (y.text ≡ x.text → ⊥) → (y ≡ x) ⊎ Contains (xs ++ []) y → ObjectLies p y.type (with_args xs ds s) ((with_args xs ds s).object (named y.text))
             old y q (inl e) = absurd (q (ap (λ (z : Local). z.text) e))
             old y q (inr i) = (ih.1).locals y i
+
             same : (y : Local) → y.text ≡ x.text → (y ≡ x) ⊎ Contains (xs ++ []) y → y.type ≡ x.type
             same y q (inl e) = ap (λ (z : Local). z.type) e
             same y q (inr i) = absurd (params-apart this before x xs h y (in-params xs y i) (sym q))
@@ -191,12 +193,12 @@ module _ (p : Program) (names : NamesFit p) where
         let bare : State = without_locals s in
         let begun : State = stored bare (codes "this") (an_object this) in
         let bare-formed : Formed p bare = names-formed p names s (λ x. if has_dot x.text then s.object x else 0) bare.number bare.truth f (λ x t i g e.
-            subst (λ (v : ℕ). ObjectLies p t s v) (sym (dotted p names n (has_dot x.text) (s.object (named x.text)) 0 (names.dots x i))) (f.statics x t i g e)) in
+        subst (λ (v : ℕ). ObjectLies p t s v) (sym (dotted p names n (has_dot x.text) (s.object (named x.text)) 0 (names.dots x i))) (f.statics x t i g e)) in
         let begun-formed : Formed p begun = stored-formed p names bare (codes "this") (an_object this) ty.Int tt bare-formed (λ y t i g e q. dot-or-none p names y.text (codes "this") (names.dots y i) refl q) in
         args-good m.this [] m.params args begun fit.params
-          (args-grow m.params s begun args (λ y i. (params-fact m.this [] m.params fit.params y i).1.type_fits) (λ z k b g. g) l) begun-formed
-          (λ k e. subst (λ (v : ℕ). s.set (named (class_at p.classes k)) v ≡ true) (sym (dotted p names n (name_equal this_name this_name) this (bare.object this_name) (name_equal-same this_name this_name refl)))
-            (subst (λ (o : Option ℕ). ThisLies p names n o s this) e h))
+        (args-grow m.params s begun args (λ y i. (params-fact m.this [] m.params fit.params y i).1.type_fits) (λ z k b g. g) l) begun-formed
+        (λ k e. subst (λ (v : ℕ). s.set (named (class_at p.classes k)) v ≡ true) (sym (dotted p names n (name_equal this_name this_name) this (bare.object this_name) (name_equal-same this_name this_name refl)))
+        (subst (λ (o : Option ℕ). ThisLies p names n o s this) e h))
 
     -- a method goes on only where it has no result
     void-ends : (at : Surroundings) (t : Ty) (x : Progress) → t ≡ ty.Void → Ends (Good p names n at) (GoodWith p names n t) x → MethodEnds p names n t x
@@ -228,13 +230,13 @@ methods-good p fits n (suc depth) m x e this args r stands formed h l i j =
     let fit : MethodFits p x = fits.methods m x e in
     let at : Surroundings = record { this = x.this; params = x.params; locals = [] } in
     subst (λ (o : Option Method). MethodEnds p names n x.result (pay r (λ u. option_map_or (λ (y : Method). exec_all (calls depth p) y.body (at_entry y this args u)) o (goes_on u)))) (sym e)
-      (pay-method p names n x.result r (λ u. exec_all (calls depth p) x.body (at_entry x this args u)) (λ k.
-        let u : Configuration = record r { steps = k } in
-        body-ends p names n at x (calls depth p) (at_entry x this args u) fit.end
-          (all-good p names n (calls depth p) x.result
-            (calls-good p names n (calls depth p) (λ c y g. (fits.methods c y g).result_type) (methods-good p fits n depth) (λ first. calls-add first p fits depth) x.result)
-            x.body at fit.body (params-scope p names x fit) (at_entry x this args u)
-            (entry-stands n x this args u (record { now = stands.now; entry = stands.entry }) l j, entry-good p names n x fit this args r.now formed h i))))
+    (pay-method p names n x.result r (λ u. exec_all (calls depth p) x.body (at_entry x this args u)) (λ k.
+    let u : Configuration = record r { steps = k } in
+    body-ends p names n at x (calls depth p) (at_entry x this args u) fit.end
+    (all-good p names n (calls depth p) x.result
+    (calls-good p names n (calls depth p) (λ c y g. (fits.methods c y g).result_type) (methods-good p fits n depth) (λ first. calls-add first p fits depth) x.result)
+    x.body at fit.body (params-scope p names x fit) (at_entry x this args u)
+    (entry-stands n x this args u (record { now = stands.now; entry = stands.entry }) l j, entry-good p names n x fit this args r.now formed h i))))
 
 -- where a run returns, the state is well formed, and the result lies in its type; without a result the method is void
 abbrev pub EndsFormed : (p : Program) → NamesFit p → ℕ → Ty → Outcome → Type 0
@@ -250,6 +252,7 @@ runs-keep-formed p fits m x e first this args w f h l i j picks k =
   where
     start : Configuration
     start = record { now = first; entry = first; picks = picks; steps = k }
+
     ended : (y : Progress) → MethodEnds p fits.names first.last x.result y → EndsFormed p fits.names first.last x.result (outcome_of y)
     ended (goes_on r) g = (g.1, g.2)
     ended (returns r v) g = ((g.1).0, (g.1).1)

@@ -1,5 +1,5 @@
 -- Runs of typed code keep states well formed.
-use Rattle.std.proofs.Common.{◌≡◌, refl, sym, ap, subst, ◌∙◌, ℕ, zero, suc, ◌<◌, ◌⊎◌, inl, inr, ◌==◌, ◌&&◌, not, nat_lt, Bool, true, false, if◌then◌else◌, List, [], ◌∷◌, ◌++◌, Option, None, Some, codes, arith}
+use Rattle.std.proofs.Common.{◌≡◌, refl, sym, ap, subst, ◌∙◌, ℕ, zero, suc, ◌<◌, ◌⊎◌, inl, inr, ◌==◌, ◌&&◌, not, nat_lt, Bool, true, false, List, [], ◌∷◌, ◌++◌, Option, None, Some, codes, arith}
 use Rattle.std.specs.List.{Contains}
 use Rattle.std.specs.Option.{option_map_or}
 use Rattle.std.proofs.lemmas.Bool.{true≢false}
@@ -13,24 +13,22 @@ use Rattle.jh_rules.specs.declared.types.Ty.TheVariants as ty
 use Rattle.jh_rules.specs.Kinds.{fits}
 use Rattle.jh_runs.specs.Code.{Text, ObjectCode, AnyCode, Local, Target, Stmt, Stmts}
 use Rattle.jh_runs.specs.Code as c
-use Rattle.jh_runs.specs.Program.{Program, Method, Member, class_at}
+use Rattle.jh_runs.specs.Program.{Program, Member, class_at}
 use Rattle.jh_runs.specs.State.{State, named, this_name, alloc_name, shown, stored, stored_at}
 use Rattle.jh_runs.specs.Locals.{has_dot}
-use Rattle.jh_runs.specs.WellFormed.{all_classes}
 use Rattle.jh_runs.specs.Values.{Value, value, null_at, then_value, object_of, number_of, truth_of, value_of}
 use Rattle.jh_runs.specs.Progress.{Configuration, Progress, goes_on, returns, stops, pay, pay_from, then_run, with_value, choose, goes_on_in}
 use Rattle.jh_runs.specs.Objects.{is_free, created, pick, target_of, put}
 use Rattle.jh_runs.specs.Typed.{Surroundings, IsType, NamesFit, ProgramFits, Has, Fits, Takes, new_local, old_local, a_static, TakesFit, TypeOf, plain_objects, objects_of, declaring, scope_behind, MayDeclare, AssignFits, NewFits, CallFits, ResultFits, GhostFits, GhostFieldFits, StmtFits, StmtsFit}
 use Rattle.jh_runs.specs.Typed as typed
-use Rattle.jh_runs.specs.Laws.{Grew, IsInside, ResultInside}
-use Rattle.jh_tree.specs.Tree.{ValueTree}
-use Rattle.jh_runs.specs.Execution.{asked, ghost_stored, turns, loop, exec, exec_all}
-use Rattle.jh_runs.proofs.Keeping.{Ends, IsOf, keeps-pay, keeps-value, keeps-any, keeps-if, keeps-pick, keeps-choose, keeps-then, keeps-turns, keeps-asked}
-use Rattle.jh_runs.proofs.Inside.{Lies, Below, object-lies, value-lies, free-lies, created-lies, stored-lies, stored-at-lies, datum-lies, term-lies}
+use Rattle.jh_runs.specs.Laws.{IsInside}
+use Rattle.jh_runs.specs.Execution.{asked, ghost_stored, loop, exec, exec_all}
+use Rattle.jh_runs.proofs.Keeping.{Ends, IsOf, keeps-value, keeps-any, keeps-if, keeps-pick, keeps-choose, keeps-turns, keeps-asked}
+use Rattle.jh_runs.proofs.Inside.{Lies, Below, object-lies, free-lies, created-lies, stored-lies, stored-at-lies, datum-lies}
 use Rattle.jh_runs.proofs.Whole.{Stands, StandsWith, put-whole, target-lies}
 use Rattle.jh_runs.proofs.Growth.{created-sets, stored-sets}
 use Rattle.jh_runs.proofs.Formed.{IsClass, ObjectLies, Formed, lies-grow, class-of, created-formed, set-formed, field-formed, Suits, created-class, created-alloc, now-there}
-use Rattle.jh_runs.proofs.Typing.{ScopeLies, ScopeFits, DatumLies, fits-object, fits-datum, has-type, object-typed}
+use Rattle.jh_runs.proofs.Typing.{ScopeLies, ScopeFits, DatumLies, fits-datum, has-type, object-typed}
 use Rattle.jh_runs.proofs.Storing.{TargetLies, target-typed, target-grow, FormedIn, put-formed, stored-formed, stored-scope, split-off, dot-or-none, scope-of-field}
 
 -- two things at once
@@ -79,7 +77,7 @@ module _ (p : Program) (names : NamesFit p) (n : ℕ) where
   pub value-typed : (at : Surroundings) (e : AnyCode) (t : Ty) (s : State) → Has p at e t → Formed p s → Lies n s → ScopeLies p names at s → IsOf (ValueOf t s) (value_of e s)
   value-typed at (c.an_object a) t s h f l g =
       as-datum (λ v. ObjectLies p t s v × (v < suc n)) (ValueOf t s) (object_of a s) an_object
-        (both-of (λ v. ObjectLies p t s v) (Below n) (object_of a s) (object-typed p names at a t s h f (lies-own n s l) g) (object-lies n a s l)) (λ v i. i)
+      (both-of (λ v. ObjectLies p t s v) (Below n) (object_of a s) (object-typed p names at a t s h f (lies-own n s l) g) (object-lies n a s l)) (λ v i. i)
   value-typed at (c.a_number a) t s h f l g = as-datum (λ x. Unit {0}) (ValueOf t s) (number_of a s) a_number (any-of (number_of a s)) (λ x i. (h, tt))
   value-typed at (c.a_truth a) t s h f l g = as-datum (λ x. Unit {0}) (ValueOf t s) (truth_of a s) a_truth (any-of (truth_of a s)) (λ x i. (h, tt))
 
@@ -96,9 +94,9 @@ module _ (p : Program) (names : NamesFit p) (n : ℕ) where
       TargetLies p names target r.now a → a < suc n → ValueOf t r.now d → Ends (Good (declaring p at target)) (GoodWith result) (put target a d r)
   put-good result at target t a d r takes type fit g l i h =
       ends-both (Stands n) (FormedIn p names (declaring p at target)) (StandsWith n) (FormedWith result) (put target a d r)
-        (put-whole n target a d r g.0 i h.1)
-        (put-formed p names (FormedWith result) at target takes.type a d r takes.takes fit g.1 l
-          (fits-datum p names t takes.type r.now d (g.1).0 (inside-own r.now d (g.0.now).last h.1) type takes.fit h.0))
+      (put-whole n target a d r g.0 i h.1)
+      (put-formed p names (FormedWith result) at target takes.type a d r takes.takes fit g.1 l
+      (fits-datum p names t takes.type r.now d (g.1).0 (inside-own r.now d (g.0.now).last h.1) type takes.fit h.0))
 
   pub target-both : (at : Surroundings) (target : Target) (t : Ty) (s : State) → Takes p at target t → Formed p s → Lies n s → ScopeLies p names at s → IsOf (λ a. TargetLies p names target s a × (a < suc n)) (target_of target s)
   target-both at target t s takes f l g = both-of (λ a. TargetLies p names target s a) (Below n) (target_of target s) (target-typed p names at target t s takes f (lies-own n s l) g) (target-lies n target s l)
@@ -149,11 +147,14 @@ module _ (p : Program) (names : NamesFit p) (n : ℕ) where
   new-good result at q target class t r is takes fit g a l i x more e =
       let s : State = r.now in
       let inside : x < suc n = free-lies n s x g.0.now e in
-      put-good result at target t a (an_object x) (record r { picks = more; now = created s class x }) takes (type-is class t is) fit
-        (record { now = created-lies n s class x g.0.now inside; entry = g.0.entry },
-        (created-formed p names s class x (class-is class t is) (free-lies s.last s x (lies-own n s g.0.now) e) (free-fresh s x e) (free-nonzero s x e) (g.1).0,
-        scope-created at s class x fit (g.1).1))
-        (target-grow p names target s (created s class x) a (created-sets s class x) l) i (new-lies class t s x is, inside)
+      put-good result at target t a (an_object x) (record r { picks = more; now = created s class x }) takes (type-is class t is) fit (
+        record { now = created-lies n s class x g.0.now inside; entry = g.0.entry },
+        (
+          created-formed p names s class x (class-is class t is) (free-lies s.last s x (lies-own n s g.0.now) e) (free-fresh s x e) (free-nonzero s x e) (g.1).0,
+          scope-created at s class x fit (g.1).1,
+        ),
+      )
+      (target-grow p names target s (created s class x) a (created-sets s class x) l) i (new-lies class t s x is, inside)
 
   abbrev pub FormedState : Surroundings → State → Type 0
   FormedState at s = Formed p s × ScopeLies p names at s
@@ -167,21 +168,25 @@ module _ (p : Program) (names : NamesFit p) (n : ℕ) where
 
   ghost-formed : (at : Surroundings) (s : State) (y : Member) (d : Datum) → Contains p.members y → y.type ≡ None → ScopeFits p names at → FormedState at s → FormedState at (stored s y.text d)
   ghost-formed at s y (an_object v) i e fit g = (
-      stored-formed p names s y.text (an_object v) ty.Int tt g.0 (λ x t j m some q. untyped y x t i e j some q),
-      stored-scope p names at s y.text (an_object v) ty.Int tt fit.types (λ x j q. (g.1).locals x j) (λ k h. (g.1).this k h) (λ q. dot-or-none p names y.text (codes "this") (names.dots y i) refl (sym q)) (λ x j q. dot-or-none p names y.text x.text (names.dots y i) (fit.no_state x j) (sym q)))
+    stored-formed p names s y.text (an_object v) ty.Int tt g.0 (λ x t j m some q. untyped y x t i e j some q),
+    stored-scope p names at s y.text (an_object v) ty.Int tt fit.types (λ x j q. (g.1).locals x j) (λ k h. (g.1).this k h) (λ q. dot-or-none p names y.text (codes "this") (names.dots y i) refl (sym q)) (λ x j q. dot-or-none p names y.text x.text (names.dots y i) (fit.no_state x j) (sym q)),
+  )
   ghost-formed at s y (a_number v) i e fit g = (
-      stored-formed p names s y.text (a_number v) ty.Int refl g.0 (λ x t j m some q. untyped y x t i e j some q),
-      stored-scope p names at s y.text (a_number v) ty.Int refl fit.types (λ x j q. (g.1).locals x j) (λ k h. (g.1).this k h) (λ q. dot-or-none p names y.text (codes "this") (names.dots y i) refl (sym q)) (λ x j q. dot-or-none p names y.text x.text (names.dots y i) (fit.no_state x j) (sym q)))
+    stored-formed p names s y.text (a_number v) ty.Int refl g.0 (λ x t j m some q. untyped y x t i e j some q),
+    stored-scope p names at s y.text (a_number v) ty.Int refl fit.types (λ x j q. (g.1).locals x j) (λ k h. (g.1).this k h) (λ q. dot-or-none p names y.text (codes "this") (names.dots y i) refl (sym q)) (λ x j q. dot-or-none p names y.text x.text (names.dots y i) (fit.no_state x j) (sym q)),
+  )
   ghost-formed at s y (a_truth v) i e fit g = (
-      stored-formed p names s y.text (a_truth v) ty.Boolean refl g.0 (λ x t j m some q. untyped y x t i e j some q),
-      stored-scope p names at s y.text (a_truth v) ty.Boolean refl fit.types (λ x j q. (g.1).locals x j) (λ k h. (g.1).this k h) (λ q. dot-or-none p names y.text (codes "this") (names.dots y i) refl (sym q)) (λ x j q. dot-or-none p names y.text x.text (names.dots y i) (fit.no_state x j) (sym q)))
+    stored-formed p names s y.text (a_truth v) ty.Boolean refl g.0 (λ x t j m some q. untyped y x t i e j some q),
+    stored-scope p names at s y.text (a_truth v) ty.Boolean refl fit.types (λ x j q. (g.1).locals x j) (λ k h. (g.1).this k h) (λ q. dot-or-none p names y.text (codes "this") (names.dots y i) refl (sym q)) (λ x j q. dot-or-none p names y.text x.text (names.dots y i) (fit.no_state x j) (sym q)),
+  )
   ghost-formed at s y (a_set v) i e fit g =
-      let u : State = stored s y.text (a_set v) in
-      (set-formed p names s y.text (λ a. nat_lt a (suc s.last) && v a) (names.dots y i) g.0,
-      record {
-        locals = λ x j. lies-grow p names x.type s u (s.object (named x.text)) (fit.types x j) (stored-sets s y.text (a_set v) (names.dots y i)) ((g.1).locals x j);
-        this = λ k h. stored-sets s y.text (a_set v) (names.dots y i) (class_at p.classes k) (names.dotless (class_at p.classes k) (class-of p names (class_at p.classes k) (fit.of_class k h))) (s.object this_name) ((g.1).this k h);
-      })
+      let u : State = stored s y.text (a_set v) in (
+        set-formed p names s y.text (λ a. nat_lt a (suc s.last) && v a) (names.dots y i) g.0,
+        record {
+          locals = λ x j. lies-grow p names x.type s u (s.object (named x.text)) (fit.types x j) (stored-sets s y.text (a_set v) (names.dots y i)) ((g.1).locals x j);
+          this = λ k h. stored-sets s y.text (a_set v) (names.dots y i) (class_at p.classes k) (names.dotless (class_at p.classes k) (class-of p names (class_at p.classes k) (fit.of_class k h))) (s.object this_name) ((g.1).this k h);
+        },
+      )
   ghost-formed at s y (a_field v) i e fit g = g
 
   ghost-suits : (y : Member) (s : State) (d : Datum) → y.type ≡ None → Suits p names y s d
@@ -204,6 +209,7 @@ module _ (p : Program) (names : NamesFit p) (n : ℕ) where
       by_split : (y : Local) (P : Local → Type 0) → P x → (Contains (at.params ++ at.locals) y → P y) → (y ≡ x) ⊎ Contains (at.params ++ at.locals) y → P y
       by_split y P h g (inl e) = subst P (sym e) h
       by_split y P h g (inr i) = g i
+
       both_split : (y z : Local) → y.text ≡ z.text → (y ≡ x) ⊎ Contains (at.params ++ at.locals) y → (z ≡ x) ⊎ Contains (at.params ++ at.locals) z → y.type ≡ z.type
       both_split y z e (inl h) (inl g) = ap (λ (w : Local). w.type) (h ∙ sym g)
       both_split y z e (inl h) (inr g) = absurd (may.is_new z g (sym e ∙ ap (λ (w : Local). w.text) h))
@@ -243,6 +249,7 @@ module _ (p : Program) (names : NamesFit p) (n : ℕ) where
     where
       behind : (xs : List Local) (x : Local) (y : Local) → Contains xs y → Contains (x ∷ xs) y
       behind xs x y h = Contains-append_right (x ∷ []) xs y h
+
       one-more : (before : List Local) (x : Local) (after : List Local) (y : Local) → Contains (before ++ after) y → Contains (before ++ (x ∷ after)) y
       one-more before x after y h = cases (Contains-append_cases before after y h)
         where
@@ -301,13 +308,13 @@ module _ (p : Program) (names : NamesFit p) (n : ℕ) where
         exec-good (c.assign target e) at h fit r g =
             pay-good result at (declaring p at target) r (λ u. with_value (target_of target u.now) (λ a. with_value (value_of e u.now) (λ d. put target a d u))) g (λ u i.
             keeps-value (Good (declaring p at target)) (GoodWith result) (paid (declaring p at target)) (λ a. TargetLies p names target u.now a × (a < suc n)) (target_of target u.now) (λ a. with_value (value_of e u.now) (λ d. put target a d u))
-              (target-both at target (h.fit).type u.now (h.fit).takes (i.1).0 i.0.now (i.1).1) (λ a l.
+            (target-both at target (h.fit).type u.now (h.fit).takes (i.1).0 i.0.now (i.1).1) (λ a l.
             keeps-value (Good (declaring p at target)) (GoodWith result) (paid (declaring p at target)) (ValueOf h.type u.now) (value_of e u.now) (λ d. put target a d u) (value-typed at e h.type u.now h.has (i.1).0 i.0.now (i.1).1) (λ d v.
             put-good result at target h.type a d u h.fit (any-type at fit e h.type h.has) fit i l.0 l.1 v)))
         exec-good (c.new_object q target class) at h fit r g =
             pay-good result at (declaring p at target) r (λ u. with_value (target_of target u.now) (λ a. pick q u.picks u (λ x v. put target a (an_object x) (record v { now = created v.now class x })))) g (λ u i.
             keeps-value (Good (declaring p at target)) (GoodWith result) (paid (declaring p at target)) (λ a. TargetLies p names target u.now a × (a < suc n)) (target_of target u.now) (λ a. pick q u.picks u (λ x v. put target a (an_object x) (record v { now = created v.now class x })))
-              (target-both at target (h.fit).type u.now (h.fit).takes (i.1).0 i.0.now (i.1).1) (λ a l.
+            (target-both at target (h.fit).type u.now (h.fit).takes (i.1).0 i.0.now (i.1).1) (λ a l.
             keeps-pick (Good (declaring p at target)) (GoodWith result) (paid (declaring p at target)) q u.picks u (λ x v. put target a (an_object x) (record v { now = created v.now class x })) (λ x more e.
             new-good result at q target class h.type u h.is h.fit fit i a l.0 l.1 x more e)))
         exec-good (c.call q target receiver place m args) at h fit r g = calls at q target receiver place m args h fit r g
@@ -315,7 +322,7 @@ module _ (p : Program) (names : NamesFit p) (n : ℕ) where
             pay-good result at at r (λ u. with_value (truth_of e u.now) (λ t. choose t (λ v. exec call a v) (λ v. exec_all call b v) u)) g (λ u i.
             keeps-any (Good at) (GoodWith result) (paid at) (truth_of e u.now) (λ t. choose t (λ v. exec call a v) (λ v. exec_all call b v) u) (λ t.
             keeps-choose (Good at) (GoodWith result) (paid at) t (λ v. exec call a v) (λ v. exec_all call b v) u
-              (ends-map (Good (scope_behind p at a)) (Good at) (GoodWith result) (exec call a u) (λ v j. behind-fewer a at v j) (exec-good a at h.0 fit u i)) (all-good b at h.1 fit u i)))
+            (ends-map (Good (scope_behind p at a)) (Good at) (GoodWith result) (exec call a u) (λ v j. behind-fewer a at v j) (exec-good a at h.0 fit u i)) (all-good b at h.1 fit u i)))
         exec-good (c.loop q invariants e body) at h fit r g =
             pay-good result at at r (λ u. loop e (λ v. exec call body v) u) g (λ u i.
             keeps-turns (Good at) (GoodWith result) (paid at) e (λ v. exec call body v) (λ v j.
@@ -328,21 +335,24 @@ module _ (p : Program) (names : NamesFit p) (n : ℕ) where
         exec-good (c.assert claim) at h fit r g = pay-good result at at r (λ u. asked claim u) g (λ u i. keeps-asked (Good at) (GoodWith result) (paid at) claim u i)
         exec-good (c.note claim) at h fit r g = pay-good result at at r (λ u. asked claim u) g (λ u i. keeps-asked (Good at) (GoodWith result) (paid at) claim u i)
         exec-good (c.ghost x q v) at h fit r g =
-            pay-good result at at r (λ u. goes_on_in u (stored u.now x (datum v (shown u.now u.entry) []))) g (λ u i.
-            (record { now = stored-lies n u.now x (datum v (shown u.now u.entry) []) i.0.now (datum-lies n u.now u.entry i.0.now i.0.entry v); entry = i.0.entry },
-            subst (λ (y : Text). FormedState at (stored u.now y (datum v (shown u.now u.entry) []))) (h.1).text
-              (ghost-formed at u.now h.0 (datum v (shown u.now u.entry) []) (h.1).ghost.stands (h.1).ghost.has fit i.1)))
+            pay-good result at at r (λ u. goes_on_in u (stored u.now x (datum v (shown u.now u.entry) []))) g (λ u i. (
+              record { now = stored-lies n u.now x (datum v (shown u.now u.entry) []) i.0.now (datum-lies n u.now u.entry i.0.now i.0.entry v); entry = i.0.entry },
+              subst (λ (y : Text). FormedState at (stored u.now y (datum v (shown u.now u.entry) []))) (h.1).text
+                  (ghost-formed at u.now h.0 (datum v (shown u.now u.entry) []) (h.1).ghost.stands (h.1).ghost.has fit i.1),
+            ))
         exec-good (c.ghost_at q class f a place v) at h fit r g =
             pay-good result at at r (λ u. ghost_stored q class f (term_value a (shown u.now u.entry) []) (datum v (shown u.now u.entry) []) u) g (λ u i.
             let o : ℕ = term_value a (shown u.now u.entry) [] in
             let d : Datum = datum v (shown u.now u.entry) [] in
             let y : Member = h.0 in
             let y-fits : GhostFits p false f v y = (h.1).fits in
-            keeps-if (Good at) (GoodWith result) (paid at) (u.now.set (named class) o) (goes_on_in u (stored_at u.now f o d)) _ (λ e.
-              (record { now = stored-at-lies n u.now f o d i.0.now (datum-lies n u.now u.entry i.0.now i.0.entry v); entry = i.0.entry },
-              subst (λ (z : Text). FormedState at (stored_at u.now z o d)) y-fits.text
-                (field-formed p names u.now y o d y-fits.ghost.stands y-fits.ghost.sort (ap (λ (z : Text). u.now.set (named z) o) (h.1).of_class ∙ e) (ghost-suits y u.now d y-fits.ghost.has) (i.1).0,
-                scope-of-field p names at u.now y.text o d fit (i.1).1))) tt)
+            keeps-if (Good at) (GoodWith result) (paid at) (u.now.set (named class) o) (goes_on_in u (stored_at u.now f o d)) _ (λ e. (
+              record { now = stored-at-lies n u.now f o d i.0.now (datum-lies n u.now u.entry i.0.now i.0.entry v); entry = i.0.entry },
+              subst (λ (z : Text). FormedState at (stored_at u.now z o d)) y-fits.text (
+                field-formed p names u.now y o d y-fits.ghost.stands y-fits.ghost.sort (ap (λ (z : Text). u.now.set (named z) o) (h.1).of_class ∙ e) (ghost-suits y u.now d y-fits.ghost.has) (i.1).0,
+                scope-of-field p names at u.now y.text o d fit (i.1).1,
+              ),
+            )) tt)
 
         pub all-good : (ss : Stmts) (at : Surroundings) → StmtsFit p result ss at → ScopeFits p names at → (r : Configuration) → Good at r → Ends (Good at) (GoodWith result) (exec_all call ss r)
         all-good c.none at h fit r g = g

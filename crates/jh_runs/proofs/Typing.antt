@@ -1,28 +1,23 @@
 -- Typed code has values in its types, in well-formed states.
-use Rattle.std.proofs.Common.{◌≡◌, refl, sym, ap, subst, ◌∙◌, ℕ, ℤ, zero, suc, ◌<◌, ◌⊎◌, inl, inr, Bool, true, false, if◌then◌else◌, List, [], ◌∷◌, ◌++◌, Option, None, Some, codes, arith}
+use Rattle.std.proofs.Common.{◌≡◌, refl, sym, ap, subst, ◌∙◌, ℕ, zero, suc, ◌<◌, inl, inr, Bool, true, false, ◌++◌, Some, codes}
 use Rattle.std.specs.List.{Contains}
 use Rattle.std.proofs.lemmas.Bool.{true≢false, eqb-true}
-use Rattle.std.proofs.lemmas.List.Elements.{Contains-append_left, Contains-append_right, Contains-append_cases}
-use Rattle.jh_name.specs.declared.naming.Name.{Name}
 use Rattle.jh_name.specs.declared.place.Place.{Place}
-use Rattle.jh_name.specs.declared.place.Kind.TheVariants as k
-use Rattle.jh_tree.specs.Passing.{name_equal}
 use Rattle.jh_tree.specs.Meaning.{Datum, an_object, a_number, a_truth, a_set, a_field}
-use Rattle.jh_tree.proofs.Names.{name_equal-true}
 use Rattle.jh_rules.specs.declared.types.Ty.{Ty}
 use Rattle.jh_rules.specs.declared.types.Ty.TheVariants as ty
 use Rattle.jh_rules.specs.Kinds.{fits}
 use Rattle.jh_runs.specs.Code.{Text, ObjectCode, AnyCode, Local, Target}
 use Rattle.jh_runs.specs.Code as c
 use Rattle.jh_runs.specs.Program.{Program, Member, class_at}
-use Rattle.jh_runs.specs.State.{State, named, this_name, alloc_name, stored, stored_at}
+use Rattle.jh_runs.specs.State.{State, named, this_name, alloc_name}
 use Rattle.jh_runs.specs.Locals.{has_dot}
-use Rattle.jh_runs.specs.Values.{Value, value, null_at, then_value, dereferenced, object_of, number_of, truth_of, value_of}
-use Rattle.jh_runs.specs.Typed.{Surroundings, IsType, NamesFit, Named, as_local, as_static, ObjectHas, of_null, of_this, of_name, of_read, IsMember, Has, Fits, MayDeclare}
-use Rattle.jh_runs.specs.Laws.{Grew, IsInside}
+use Rattle.jh_runs.specs.Values.{Value, value, null_at, then_value, dereferenced, object_of}
+use Rattle.jh_runs.specs.Typed.{Surroundings, IsType, NamesFit, Named, as_local, as_static, ObjectHas, of_null, of_this, of_name, of_read, IsMember}
+use Rattle.jh_runs.specs.Laws.{IsInside}
 use Rattle.jh_runs.proofs.Keeping.{IsOf}
 use Rattle.jh_runs.proofs.Inside.{Lies, Below, object-lies}
-use Rattle.jh_runs.proofs.Formed.{IsClass, ObjectLies, Formed, lies-grow, default-lies, class-of}
+use Rattle.jh_runs.proofs.Formed.{ObjectLies, Formed, default-lies, class-of}
 
 module _ (p : Program) (names : NamesFit p) where
   -- the parameters, locals and `this` of a place lie in their types
@@ -144,6 +139,6 @@ module _ (p : Program) (names : NamesFit p) where
       by_name _ _ (as_static y t i) = f.statics y t i.stands i.sort i.has
   object-typed at _ _ s (of_read x t m e r q n i j) f l h =
       then-of (λ a. ObjectLies p (ty.Class n) s a × (a < suc s.last)) (λ v. ObjectLies p t s v) (object_of r s) (λ a. then_value (dereferenced r q a) (λ b. value ((s.field (named x.text)).objects b)))
-        (both-of (λ a. ObjectLies p (ty.Class n) s a) (Below s.last) (object_of r s) (object-typed at r (ty.Class n) s i f l h) (object-lies s.last r s l)) (λ a o.
+      (both-of (λ a. ObjectLies p (ty.Class n) s a) (Below s.last) (object_of r s) (object-typed at r (ty.Class n) s i f l h) (object-lies s.last r s l)) (λ a o.
       then-of (λ b. ObjectLies p (ty.Class n) s b × (b < suc s.last)) (λ v. ObjectLies p t s v) (dereferenced r q a) (λ b. value ((s.field (named x.text)).objects b))
-        (dereferenced-of (λ b. ObjectLies p (ty.Class n) s b × (b < suc s.last)) r q a o) (λ b w. field-typed x t n s b f m j w.1 w.0))
+      (dereferenced-of (λ b. ObjectLies p (ty.Class n) s b × (b < suc s.last)) r q a o) (λ b w. field-typed x t n s b f m j w.1 w.0))
