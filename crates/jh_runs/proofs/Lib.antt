@@ -8,11 +8,11 @@ mod Sources
 mod Constructs
 mod Unsound
 mod Growth
-mod Formed
+pub mod Formed
 mod Typing
 mod Storing
 mod TypedRuns
 mod TypedCalls
-mod TypedMethods
+pub mod TypedMethods
 mod HeapsWhole
 mod HeapCases
