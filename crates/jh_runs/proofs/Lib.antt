@@ -14,5 +14,6 @@ mod Storing
 mod TypedRuns
 mod TypedCalls
 pub mod TypedMethods
+mod Facts
 mod HeapsWhole
 mod HeapCases

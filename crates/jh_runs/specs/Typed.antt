@@ -1,7 +1,7 @@
 -- What the type rules give of code, as far as runs hang on it: each object that is stored, passed or returned fits its target, the
 -- receiver of what is written is of the class with that field, and ghost assignments write ghost variables. Numbers and truths need
 -- nothing, since each lies in its type. Nobody has to believe this notion: it is one for proofs that runs keep states well formed.
-use Rattle.std.specs.Prelude.{◌≡◌, ℕ, nat_lt, ◌⊎◌, ◌&&◌, slice_get, Bool, true, false, List, [], ◌∷◌, ◌++◌, Option, None, Some, codes}
+use Rattle.std.specs.Prelude.{◌≡◌, ℕ, nat_lt, ◌⊎◌, ◌&&◌, Bool, true, false, List, [], ◌∷◌, ◌++◌, Option, None, Some, codes}
 use Rattle.std.specs.List.{Contains}
 use Rattle.jh_name.specs.declared.place.Kind.TheVariants as k
 use Rattle.jh_name.specs.declared.place.Place.{Place}
@@ -218,16 +218,22 @@ pub record MethodFits (p : Program) (m : Method) : Type 0 where
   pub end : (m.result ≡ ty.Void) ⊎ (ends_closed m.body ≡ true)
   pub contract : AreOfStates (listed m.requires ++ listed m.ensures)
 
+-- no text stands in a list twice
+abbrev pub AreApart : List Text → Type 0
+AreApart [] = Unit {0}
+AreApart (x ∷ xs) = ((y : Text) → Contains xs y → x ≡ y → ⊥) × AreApart xs
+
 -- The names of the state are told apart: no class has a dot in its text or is `alloc`, no two classes have one text, and no two members
--- have; the text of a member has a dot, its class is one of the program, and its kind is that of its type.
+-- have; the text of a member has a dot, its class is one of the program, and its kind is that of its type, which isn't that of `null`.
 pub record NamesFit (p : Program) : Type 0 where
   pub dotless : (c : Text) → Contains (all_classes p.classes) c → has_dot c ≡ false
   pub not_alloc : (c : Text) → Contains (all_classes p.classes) c → c ≡ codes "alloc" → ⊥
-  pub classes : (n k : ℕ) (c : Text) → slice_get (all_classes p.classes) n ≡ Some c → slice_get (all_classes p.classes) k ≡ Some c → n ≡ k
+  pub classes : AreApart (all_classes p.classes)
   pub members : (x y : Member) → Contains p.members x → Contains p.members y → x.text ≡ y.text → x ≡ y
   pub dots : (x : Member) → Contains p.members x → has_dot x.text ≡ true
   pub of_class : (x : Member) → Contains p.members x → Contains p.classes x.class
   pub types : (x : Member) (type : Ty) → Contains p.members x → x.type ≡ Some type → IsType p type
+  pub not_null : (x : Member) → Contains p.members x → x.type ≡ Some ty.Null → ⊥
   pub kinds : (x : Member) (type : Ty) → Contains p.members x → x.type ≡ Some type → kind_of type ≡ x.kind
 
 pub record ProgramFits (p : Program) : Type 0 where
