@@ -1,5 +1,5 @@
 -- The six facts as a formula, and without.
-use Rattle.std.proofs.Common.{◌≡◌, refl, sym, ap, subst, ◌∙◌, ℕ, zero, suc, ◌<◌, ◌⊎◌, inl, inr, ◌==◌, ◌&&◌, ◌||◌, not, nat_lt, pos, arith, Bool, true, false, if◌then◌else◌, List, [], ◌∷◌, ◌++◌, map, Option, None, Some, codes, length, slice_index_or}
+use Rattle.std.proofs.Common.{◌≡◌, refl, sym, ap, subst, ◌∙◌, ℕ, zero, suc, ◌<◌, ◌⊎◌, inl, inr, ◌==◌, ◌&&◌, ◌||◌, not, nat_lt, pos, arith, Bool, true, false, if◌then◌else◌, List, [], ◌∷◌, ◌++◌, map, Option, None, Some, length, slice_index_or}
 use Rattle.std.specs.List.{Contains, list_any, flat_map}
 use Rattle.std.specs.Option.{option_map_or}
 use Rattle.std.proofs.lemmas.Bool.{true≢false, eqb-true, eq-eqb}
@@ -10,16 +10,16 @@ use Rattle.jh_name.specs.declared.place.Kind.TheVariants as k
 use Rattle.jh_make.specs.Joined.{joined}
 use Rattle.jh_tree.specs.Tree.{FormulaTree, TermTree, SetTree}
 use Rattle.jh_tree.specs.Tree as t
-use Rattle.jh_tree.specs.Meaning.{all_below, every, agree, truth, set_value, term_value}
+use Rattle.jh_tree.specs.Meaning.{all_below, agree, truth, set_value, term_value}
 use Rattle.jh_tree.proofs.ClosedLemmas.{both-left, both-right}
 use Rattle.jh_rules.specs.declared.types.Ty.{Ty}
 use Rattle.jh_rules.specs.declared.types.Ty.TheVariants as ty
 use Rattle.jh_runs.specs.Code.{Text}
 use Rattle.jh_runs.specs.Program.{Program, Member, class_at}
 use Rattle.jh_runs.specs.State.{State, named, alloc_name, shown}
-use Rattle.jh_runs.specs.WellFormed.{set_of, alloc, all_classes, union_with, union_of, apart, null_or_in, lies_in, member_lies_in, each_in, each_outside, is_default, static_facts, field_facts, default_facts, well_formed_facts, well_formed}
+use Rattle.jh_runs.specs.WellFormed.{set_of, alloc, all_classes, union_with, union_of, apart, lies_in, member_lies_in, each_in, each_outside, is_default, static_facts, field_facts, default_facts, well_formed_facts, well_formed}
 use Rattle.jh_runs.specs.Typed.{NamesFit, AreApart}
-use Rattle.jh_runs.proofs.Formed.{IsDefault, IsClass, ObjectLies, Formed}
+use Rattle.jh_runs.proofs.Formed.{IsDefault, ObjectLies, Formed}
 
 -- over the objects below a number
 split-below : (a n : ℕ) (t : Bool) → nat_lt a n ≡ t → a < suc n → (a ≡ n) ⊎ (a < n)
@@ -199,6 +199,7 @@ module _ (s : State) where
     where
       first : (z : Text) → Contains es z → s.set (named e) a ≡ true → s.set (named z) a ≡ true → ⊥
       first z q u v = no-common e z (map-hold (nothing-common e) es (front-hold (map (nothing-common e) es) (apart es) h).0 z q) a l u v
+
       cases : (c ≡ e) ⊎ Contains es c → (d ≡ e) ⊎ Contains es d → (Contains es c → Contains es d → c ≡ d) → c ≡ d
       cases (inl q) (inl r) f = q ∙ sym r
       cases (inl q) (inr r) f = absurd (first d r (ap (λ (z : Text). s.set (named z) a) (sym q) ∙ x) y)
@@ -209,11 +210,11 @@ module _ (s : State) where
   facts-apart [] h f = tt
   facts-apart (e ∷ es) h f =
       hold-front (map (nothing-common e) es) (apart es)
-        (hold-map (nothing-common e) es (λ d i. true-below (suc s.last) (λ x. agree (s.set (named e) x && s.set (named d) x) false) (λ a l.
-          both-agree (s.set (named e) a && s.set (named d) a) false
-            (λ u. absurd (h.0 d i (f e d (0, omega arith, refl) (Contains-append_right (e ∷ []) es d i) a l (both-left (s.set (named e) a) (s.set (named d) a) u) (both-right (s.set (named e) a) (s.set (named d) a) u))))
-            (λ u. absurd (true≢false (sym u))))))
-        (facts-apart es h.1 (λ c d i j a l x y. f c d (Contains-append_right (e ∷ []) es c i) (Contains-append_right (e ∷ []) es d j) a l x y))
+      (hold-map (nothing-common e) es (λ d i. true-below (suc s.last) (λ x. agree (s.set (named e) x && s.set (named d) x) false) (λ a l.
+      both-agree (s.set (named e) a && s.set (named d) a) false
+      (λ u. absurd (h.0 d i (f e d (0, omega arith, refl) (Contains-append_right (e ∷ []) es d i) a l (both-left (s.set (named e) a) (s.set (named d) a) u) (both-right (s.set (named e) a) (s.set (named d) a) u))))
+      (λ u. absurd (true≢false (sym u))))))
+      (facts-apart es h.1 (λ c d i j a l x y. f c d (Contains-append_right (e ∷ []) es c i) (Contains-append_right (e ∷ []) es d j) a l x y))
 
   -- objects in their types, under objects for bound variables
   abbrev HoldsAt : List ℕ → FormulaTree → Type 0
@@ -271,6 +272,7 @@ module _ (s : State) where
         to-list : (fs : List FormulaTree) → AllHoldAt [] fs → AllHold fs
         to-list [] h = tt
         to-list (f ∷ fs) h = (h.0, to-list fs h.1)
+
         by_sort : (b : Bool) → x.is_static ≡ b → AllHold (if b then member_lies_in p.classes x (t.free_object (named x.text)) else [])
         by_sort true e = to-list (member_lies_in p.classes x (t.free_object (named x.text))) (some-facts x.type (t.free_object (named x.text)) [] (λ type o. h type e o))
         by_sort false e = tt
@@ -350,17 +352,19 @@ module _ (s : State) where
     default-facts-give : (x : Member) → AllHold (default_facts x) → x.is_static ≡ false → (a : ℕ) → a < suc s.last → s.set (named x.class) a ≡ false → IsDefault s.last x.kind (s.field (named x.text)) a
     default-facts-give x h e a l i = default-is x.kind x.text a
         (outside (s.set (named x.class) a) (truth (is_default x.kind x.text) (shown s s) (a ∷ [])) i
-          (below-true (suc s.last) (λ y. not (not (s.set (named x.class) y)) || truth (is_default x.kind x.text) (shown s s) (y ∷ []))
-            (subst (λ (b : Bool). AllHold (if b then [] else each_outside (set_of x.class) (is_default x.kind x.text) ∷ [])) e h).0 a l))
+        (below-true (suc s.last) (λ y. not (not (s.set (named x.class) y)) || truth (is_default x.kind x.text) (shown s s) (y ∷ []))
+        (subst (λ (b : Bool). AllHold (if b then [] else each_outside (set_of x.class) (is_default x.kind x.text) ∷ [])) e h).0 a l))
 
     defaults-give-facts : (x : Member) → (x.is_static ≡ false → (a : ℕ) → a < suc s.last → s.set (named x.class) a ≡ false → IsDefault s.last x.kind (s.field (named x.text)) a) → AllHold (default_facts x)
     defaults-give-facts x h = by_sort x.is_static refl
       where
         by_sort : (b : Bool) → x.is_static ≡ b → AllHold (if b then [] else each_outside (set_of x.class) (is_default x.kind x.text) ∷ [])
         by_sort true e = tt
-        by_sort false e =
-            (true-below (suc s.last) (λ y. not (not (s.set (named x.class) y)) || truth (is_default x.kind x.text) (shown s s) (y ∷ [])) (λ a l.
-              unless-inside (s.set (named x.class) a) (truth (is_default x.kind x.text) (shown s s) (a ∷ [])) (λ i. is-default-holds x.kind x.text a (h e a l i))), tt)
+        by_sort false e = (
+          true-below (suc s.last) (λ y. not (not (s.set (named x.class) y)) || truth (is_default x.kind x.text) (shown s s) (y ∷ [])) (λ a l.
+              unless-inside (s.set (named x.class) a) (truth (is_default x.kind x.text) (shown s s) (a ∷ [])) (λ i. is-default-holds x.kind x.text a (h e a l i))),
+          tt,
+        )
 
     -- all of them
     abbrev union-fact : FormulaTree
@@ -385,16 +389,16 @@ module _ (s : State) where
     facts-formed names h =
         let all : AllHold (well_formed_facts p [] None) = joined-hold (well_formed_facts p [] None) h in
         let to-fields : AllHold (((apart-facts-of ++ (null-fact ∷ [])) ++ ((statics-of ++ []) ++ [])) ++ fields-of) × AllHold defaults-of =
-            front-hold (((apart-facts-of ++ (null-fact ∷ [])) ++ ((statics-of ++ []) ++ [])) ++ fields-of) defaults-of all.1 in
+        front-hold (((apart-facts-of ++ (null-fact ∷ [])) ++ ((statics-of ++ []) ++ [])) ++ fields-of) defaults-of all.1 in
         let to-statics : AllHold ((apart-facts-of ++ (null-fact ∷ [])) ++ ((statics-of ++ []) ++ [])) × AllHold fields-of =
-            front-hold ((apart-facts-of ++ (null-fact ∷ [])) ++ ((statics-of ++ []) ++ [])) fields-of to-fields.0 in
+        front-hold ((apart-facts-of ++ (null-fact ∷ [])) ++ ((statics-of ++ []) ++ [])) fields-of to-fields.0 in
         let to-null : AllHold (apart-facts-of ++ (null-fact ∷ [])) × AllHold ((statics-of ++ []) ++ []) = front-hold (apart-facts-of ++ (null-fact ∷ [])) ((statics-of ++ []) ++ []) to-statics.0 in
         let rest : AllHold apart-facts-of × AllHold (null-fact ∷ []) = front-hold apart-facts-of (null-fact ∷ []) to-null.0 in
         let statics : AllHold statics-of = (front-hold statics-of [] (front-hold (statics-of ++ []) [] to-null.1).0).0 in
         let fields : AllHold fields-of = to-statics.1 in
         let defaults : AllHold defaults-of = to-fields.1 in
         let union : (a : ℕ) → a < suc s.last → agree (s.set alloc_name a) (set_value (union_of (all_classes p.classes)) (shown s s) [] a) ≡ true = λ a l.
-            below-true (suc s.last) (λ x. agree (s.set alloc_name x) (set_value (union_of (all_classes p.classes)) (shown s s) [] x)) all.0 a l in
+        below-true (suc s.last) (λ x. agree (s.set alloc_name x) (set_value (union_of (all_classes p.classes)) (shown s s) [] x)) all.0 a l in
         let not-null : (x : Member) (type : Ty) → Contains p.members x → x.type ≡ Some type → type ≡ ty.Null → ⊥ = λ x type i e q. names.not_null x i (e ∙ ap (λ (z : Ty). Some z) q) in
         record {
           of_class = λ a l i. any-of (λ c. s.set (named c) a) (all_classes p.classes) (sym (union-value (all_classes p.classes) a) ∙ agree-left (s.set alloc_name a) (set_value (union_of (all_classes p.classes)) (shown s s) [] a) (union a l) i);
@@ -408,18 +412,19 @@ module _ (s : State) where
 
     pub formed-facts : NamesFit p → Formed p s → Holds (well_formed p [] None)
     formed-facts names f =
-        hold-joined (well_formed_facts p [] None)
-          (true-below (suc s.last) (λ x. agree (s.set alloc_name x) (set_value (union_of (all_classes p.classes)) (shown s s) [] x)) (λ a l.
-            both-agree (s.set alloc_name a) (set_value (union_of (all_classes p.classes)) (shown s s) [] a)
+        hold-joined (well_formed_facts p [] None) (
+          true-below (suc s.last) (λ x. agree (s.set alloc_name x) (set_value (union_of (all_classes p.classes)) (shown s s) [] x)) (λ a l.
+              both-agree (s.set alloc_name a) (set_value (union_of (all_classes p.classes)) (shown s s) [] a)
               (λ i. union-value (all_classes p.classes) a ∙ of-any (λ d. s.set (named d) a) (all_classes p.classes) (f.of_class a l i).0 (f.of_class a l i).1 (f.of_class a l i).2)
               (λ i. in-alloc a l (any-of (λ c. s.set (named c) a) (all_classes p.classes) (sym (union-value (all_classes p.classes) a) ∙ i)))),
           hold-front (((apart-facts-of ++ (null-fact ∷ [])) ++ ((statics-of ++ []) ++ [])) ++ fields-of) defaults-of
-            (hold-front ((apart-facts-of ++ (null-fact ∷ [])) ++ ((statics-of ++ []) ++ [])) fields-of
+              (hold-front ((apart-facts-of ++ (null-fact ∷ [])) ++ ((statics-of ++ []) ++ [])) fields-of
               (hold-front (apart-facts-of ++ (null-fact ∷ [])) ((statics-of ++ []) ++ [])
-                (hold-front apart-facts-of (null-fact ∷ []) (facts-apart (all_classes p.classes) names.classes (λ c d i j a l x y. f.apart c d i j a l x y)) (false-not (s.set alloc_name 0) f.no_null, tt))
-                (hold-front (statics-of ++ []) [] (hold-front statics-of [] (hold-each (static_facts p.classes) p.members (λ x i. lies-static x (λ type m e. f.statics x type i m e))) tt) tt))
+              (hold-front apart-facts-of (null-fact ∷ []) (facts-apart (all_classes p.classes) names.classes (λ c d i j a l x y. f.apart c d i j a l x y)) (false-not (s.set alloc_name 0) f.no_null, tt))
+              (hold-front (statics-of ++ []) [] (hold-front statics-of [] (hold-each (static_facts p.classes) p.members (λ x i. lies-static x (λ type m e. f.statics x type i m e))) tt) tt))
               (hold-each (field_facts p.classes) p.members (λ x i. lies-field x (λ type m e a l j. f.fields x type i m e a l j))))
-            (hold-each default_facts p.members (λ x i. defaults-give-facts x (λ m a l j. f.defaults x i m a l j))))
+              (hold-each default_facts p.members (λ x i. defaults-give-facts x (λ m a l j. f.defaults x i m a l j))),
+        )
       where
         in-alloc : (a : ℕ) → a < suc s.last → (c : Text) × Contains (all_classes p.classes) c × (s.set (named c) a ≡ true) → s.set alloc_name a ≡ true
         in-alloc a l c = f.in_alloc c.0 c.1 a l c.2

@@ -14,6 +14,6 @@ mod Storing
 mod TypedRuns
 mod TypedCalls
 pub mod TypedMethods
-mod Facts
+pub mod Facts
 mod HeapsWhole
 mod HeapCases

@@ -4,9 +4,10 @@ use Rattle.std.specs.List.{Contains}
 use Rattle.std.specs.Option.{option_map_or}
 use Rattle.std.proofs.lemmas.Bool.{true≢false}
 use Rattle.std.proofs.lemmas.List.Elements.{Contains-append_left, Contains-append_right, Contains-append_cases}
+use Rattle.jh_name.specs.declared.naming.Name.{Name}
 use Rattle.jh_vars.specs.Written.{Callee}
 use Rattle.jh_tree.specs.Passing.{name_equal}
-use Rattle.jh_tree.specs.Meaning.{Datum, an_object}
+use Rattle.jh_tree.specs.Meaning.{Datum, an_object, a_number, a_truth, a_set, a_field}
 use Rattle.jh_tree.proofs.Names.{name_equal-same}
 use Rattle.jh_tree.proofs.ClosedLemmas.{both-left, both-right}
 use Rattle.jh_rules.specs.declared.types.Ty.{Ty}
@@ -14,13 +15,15 @@ use Rattle.jh_rules.specs.declared.types.Ty.TheVariants as ty
 use Rattle.jh_runs.specs.Code.{Text, Local, Stmt, Stmts}
 use Rattle.jh_runs.specs.Code as c
 use Rattle.jh_runs.specs.Program.{Program, Method, class_at}
-use Rattle.jh_runs.specs.State.{State, IsWhole, named, this_name, stored}
+use Rattle.jh_runs.specs.State.{State, IsWhole, named, this_name, alloc_name, stored}
 use Rattle.jh_runs.specs.Locals.{has_dot, without_locals, with_args, entered}
 use Rattle.jh_runs.specs.Values.{Value, value, null_at, truth_of, value_of}
 use Rattle.jh_runs.specs.Progress.{Configuration, Progress, goes_on, returns, stops, Outcome, returned, stopped, outcome_of, then_run, pay, pay_from, with_value, choose}
 use Rattle.jh_runs.specs.Execution.{exec, exec_all, at_entry, calls, call, run}
 use Rattle.jh_runs.specs.Typed.{Surroundings, IsType, NamesFit, MayDeclare, ParamsFit, MethodFits, ProgramFits, is_closed, ends_closed, is_closed_part}
-use Rattle.jh_runs.specs.Laws.{Grew, AreInside}
+use Rattle.jh_runs.specs.Entry.{LiesIn, AllLieIn, ThisLiesIn}
+use Rattle.jh_runs.specs.Laws.{Grew, AreInside, IsInside, EndsWellFormed, RunsStayWellFormed}
+use Rattle.jh_runs.proofs.Facts.{facts-formed, formed-facts}
 use Rattle.jh_runs.proofs.Keeping.{Ends}
 use Rattle.jh_runs.proofs.Inside.{whole-lies}
 use Rattle.jh_runs.proofs.Whole.{entry-stands}
@@ -257,3 +260,75 @@ runs-keep-formed p fits m x e first this args w f h l i j picks k =
     ended (goes_on r) g = (g.1, g.2)
     ended (returns r v) g = ((g.1).0, (g.1).1)
     ended (stops why) g = tt
+
+-- what lies in a type, in the words of what a method may be entered with
+value-in : (p : Program) (names : NamesFit p) (t : Ty) (s : State) (d : Datum) → LiesIn p t s d → DatumLies p names t s d
+value-in p names ty.Int s (a_number z) h = refl
+value-in p names ty.Boolean s (a_truth b) h = refl
+value-in p names ty.Object s (an_object a) h = h
+value-in p names (ty.Class n) s (an_object a) h = h
+value-in p names ty.Int s (an_object a) h = tt
+value-in p names ty.Int s (a_truth b) h = absurd h
+value-in p names ty.Boolean s (an_object a) h = tt
+value-in p names ty.Boolean s (a_number z) h = absurd h
+value-in p names ty.Object s (a_number z) h = absurd h
+value-in p names ty.Object s (a_truth b) h = absurd h
+value-in p names (ty.Class n) s (a_number z) h = absurd h
+value-in p names (ty.Class n) s (a_truth b) h = absurd h
+value-in p names ty.Void s d h = absurd h
+value-in p names ty.Null s d h = absurd h
+value-in p names ty.Int s (a_set v) h = absurd h
+value-in p names ty.Boolean s (a_set v) h = absurd h
+value-in p names ty.Object s (a_set v) h = absurd h
+value-in p names (ty.Class n) s (a_set v) h = absurd h
+value-in p names ty.Int s (a_field f) h = absurd h
+value-in p names ty.Boolean s (a_field f) h = absurd h
+value-in p names ty.Object s (a_field f) h = absurd h
+value-in p names (ty.Class n) s (a_field f) h = absurd h
+
+-- and is one of the objects
+object-inside : (s : State) (x : Name) (a : ℕ) → IsWhole s → (a ≡ 0) ⊎ (s.set x a ≡ true) → a < suc s.last
+object-inside s x a w (inl e) = subst (λ (b : ℕ). b < suc s.last) (sym e) (omega arith)
+object-inside s x a w (inr h) = w.sets x a h
+
+inside-in : (p : Program) (t : Ty) (s : State) (d : Datum) → IsWhole s → LiesIn p t s d → IsInside s.last d
+inside-in p ty.Object s (an_object a) w h = object-inside s alloc_name a w h
+inside-in p (ty.Class n) s (an_object a) w h = object-inside s (named (class_at p.classes n)) a w h
+inside-in p ty.Int s (an_object a) w h = absurd h
+inside-in p ty.Boolean s (an_object a) w h = absurd h
+inside-in p ty.Void s (an_object a) w h = absurd h
+inside-in p ty.Null s (an_object a) w h = absurd h
+inside-in p t s (a_number z) w h = tt
+inside-in p t s (a_truth b) w h = tt
+inside-in p t s (a_set v) w h = tt
+inside-in p t s (a_field f) w h = tt
+
+all-in : (p : Program) (names : NamesFit p) (n : ℕ) (xs : List Local) (s : State) (ds : List Datum) → AllLieIn p xs s ds → ArgsLie p names n xs s ds
+all-in p names n [] s [] h = tt
+all-in p names n (x ∷ xs) s (d ∷ ds) h = (value-in p names x.type s d h.0, all-in p names n xs s ds h.1)
+all-in p names n [] s (d ∷ ds) h = absurd h
+all-in p names n (x ∷ xs) s [] h = absurd h
+
+all-inside : (p : Program) (xs : List Local) (s : State) (ds : List Datum) → IsWhole s → AllLieIn p xs s ds → AreInside s.last ds
+all-inside p [] s [] w h = tt
+all-inside p (x ∷ xs) s (d ∷ ds) w h = (inside-in p x.type s d w h.0, all-inside p xs s ds w h.1)
+all-inside p [] s (d ∷ ds) w h = absurd h
+all-inside p (x ∷ xs) s [] w h = absurd h
+
+this-in : (p : Program) (names : NamesFit p) (n : ℕ) (this : Option ℕ) (s : State) (a : ℕ) → ThisLiesIn p this s a → ThisLies p names n this s a
+this-in p names n None s a h = tt
+this-in p names n (Some k) s a h = h
+
+this-inside : (p : Program) (this : Option ℕ) (s : State) (a : ℕ) → IsWhole s → ThisLiesIn p this s a → a < suc s.last
+this-inside p None s a w h = subst (λ (b : ℕ). b < suc s.last) (sym h) (omega arith)
+this-inside p (Some k) s a w h = w.sets (named (class_at p.classes k)) a h
+
+pub runs-stay-well-formed : (p : Program) → RunsStayWellFormed p
+runs-stay-well-formed p fits m x e first this args w h l i picks k =
+    ended (run p m first this args picks k)
+    (runs-keep-formed p fits m x e first this args w (facts-formed first p fits.names h) (this-in p fits.names first.last x.this first this l) (this-inside p x.this first this w l)
+    (all-in p fits.names first.last x.params first args i) (all-inside p x.params first args w i) picks k)
+  where
+    ended : (y : Outcome) → EndsFormed p fits.names first.last x.result y → EndsWellFormed p y
+    ended (returned last v) g = formed-facts last p fits.names g.0
+    ended (stopped why) g = tt

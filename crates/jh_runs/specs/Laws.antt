@@ -1,16 +1,18 @@
 -- What the definition of runs comes to.
 use Rattle.std.specs.Prelude.{◌≡◌, ◌<◌, ℕ, suc, true, false, List, [], ◌∷◌, Option, None, Some}
 use Rattle.std.specs.Option.{option_map_or}
-use Rattle.jh_tree.specs.Meaning.{Datum, an_object, a_set}
+use Rattle.jh_tree.specs.Meaning.{Datum, an_object, a_set, truth}
 use Rattle.jh_vars.specs.Written.{Callee}
 use Rattle.jh_runs.specs.Code.{Text, TruthCode, Stmt}
 use Rattle.jh_runs.specs.Program.{Program, Method}
-use Rattle.jh_runs.specs.State.{State, IsWhole, named}
+use Rattle.jh_runs.specs.State.{State, IsWhole, named, shown}
 use Rattle.jh_runs.specs.Locals.{has_dot}
 use Rattle.jh_runs.specs.Values.{truth_of}
 use Rattle.jh_runs.specs.Progress.{Configuration, Progress, goes_on, then_run, pay, with_value, choose, Outcome, returned, stopped}
 use Rattle.jh_runs.specs.Execution.{turns, loop, exec, exec_all, at_entry, calls, call, run}
 use Rattle.jh_runs.specs.Typed.{ProgramFits}
+use Rattle.jh_runs.specs.WellFormed.{well_formed}
+use Rattle.jh_runs.specs.Entry.{ThisLiesIn, AllLieIn}
 use Rattle.jh_runs.specs.Heaps.{Heap, IsHeap, state_of}
 
 -- the statement in a run of the program
@@ -84,3 +86,15 @@ abbrev pub RunsOnlyAdd : Program → Type 0
 RunsOnlyAdd p =
     ProgramFits p → (m : Callee) (first : State) (this : ℕ) (args : List Datum) → ArePlain args → (picks : List ℕ) (k : ℕ) →
     EndsGrown first (run p m first this args picks k)
+
+-- where a run returns, the state is well formed
+abbrev pub EndsWellFormed : Program → Outcome → Type 0
+EndsWellFormed p (returned last result) = truth (well_formed p [] None) (shown last last) [] ≡ true
+EndsWellFormed p (stopped why) = Unit {0}
+
+-- Runs of a program that the type rules leave keep states well formed.
+abbrev pub RunsStayWellFormed : Program → Type 0
+RunsStayWellFormed p =
+    ProgramFits p → (m : Callee) (x : Method) → p.method m ≡ Some x → (first : State) (this : ℕ) (args : List Datum) →
+    IsWhole first → truth (well_formed p [] None) (shown first first) [] ≡ true → ThisLiesIn p x.this first this → AllLieIn p x.params first args →
+    (picks : List ℕ) (k : ℕ) → EndsWellFormed p (run p m first this args picks k)

@@ -1,5 +1,5 @@
 ghost use Rattle.jh_runs.specs.Program.{Program};
-ghost use Rattle.jh_runs.specs.Laws.{BoundsEndNoRun, LoopsUnfold, CallsUnfold, RunsStayWhole, HeapsAreWhole, RunsOnlyAdd};
+ghost use Rattle.jh_runs.specs.Laws.{BoundsEndNoRun, LoopsUnfold, CallsUnfold, RunsStayWhole, HeapsAreWhole, RunsOnlyAdd, RunsStayWellFormed};
 
 /// The bounds on the turns of loops and on the depth of calls, which the definition of runs has, end no run: with
 /// greater ones all runs are the same. It is a law, and does nothing.
@@ -31,4 +31,10 @@ pub fn heaps_are_whole()
 /// Runs of a program that the type rules leave only add to `alloc` and to the classes. It is a law, and does nothing.
 pub fn runs_only_add()
     ensures { (p : Program) → RunsOnlyAdd p }
+{}
+
+/// Where a run of a program that the type rules leave begins in a well-formed state, with `this` and arguments in their
+/// types, it ends in a well-formed state. It is a law, and does nothing.
+pub fn runs_stay_well_formed()
+    ensures { (p : Program) → RunsStayWellFormed p }
 {}

@@ -6,5 +6,5 @@ mod laws;
 
 pub use laws::{
     bounds_end_no_run, calls_are_bodies, heaps_are_whole, loops_are_turns, runs_only_add,
-    runs_stay_whole,
+    runs_stay_well_formed, runs_stay_whole,
 };
