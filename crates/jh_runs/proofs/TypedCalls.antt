@@ -1,11 +1,12 @@
 -- Calls of typed code keep states well formed.
-use Rattle.std.proofs.Common.{◌≡◌, refl, sym, subst, ℕ, suc, ◌<◌, Bool, true, false, if◌then◌else◌, List, [], ◌∷◌, Option, None, Some, arith}
+use Rattle.std.proofs.Common.{◌≡◌, refl, ap, sym, subst, ℕ, suc, ◌<◌, Bool, true, false, if◌then◌else◌, List, [], ◌∷◌, Option, None, Some, arith}
 use Rattle.std.proofs.lemmas.Bool.{true≢false}
 use Rattle.jh_name.specs.declared.place.Place.{Place}
 use Rattle.jh_vars.specs.Written.{Callee}
 use Rattle.jh_tree.specs.Meaning.{Datum, an_object, a_number, a_truth, a_set, a_field}
 use Rattle.jh_rules.specs.declared.types.Ty.{Ty}
 use Rattle.jh_rules.specs.declared.types.Ty.TheVariants as ty
+use Rattle.jh_rules.specs.Kinds.{kind_of}
 use Rattle.jh_runs.specs.Code.{Text, ObjectCode, AnyCode, Local, Target}
 use Rattle.jh_runs.specs.Code as c
 use Rattle.jh_runs.specs.Program.{Program, Method, class_at}
@@ -138,7 +139,7 @@ module _ (p : Program) (names : NamesFit p) (n : ℕ) where
   MethodEnds t y = Ends (Continues t) (GoodWith p names n t) y
 
   nothing-of : (t : Ty) (s : State) → t ≡ ty.Void → ValueOf p names n t s (an_object 0)
-  nothing-of t s e = (subst (λ (u : Ty). ObjectLies p u s 0) (sym e) tt, omega arith)
+  nothing-of t s e = (subst (λ (u : Ty). ObjectLies p u s 0) (sym e) tt, omega arith, ap kind_of e)
 
   back-good : (result : Ty) (at : Surroundings) (target : Target) (t : Ty) (a : ℕ) (caller : Configuration) (y : Progress) → ResultFits p at target t → IsType p t → ScopeFits p names at → Good p names n at caller →
       TargetLies p names target caller.now a → a < suc n → MethodEnds t y → Ends (Grown caller.now) (GrownWith caller.now) y → Ends (Good p names n (declaring p at target)) (GoodWith p names n result) (back caller target a y)
@@ -151,7 +152,7 @@ module _ (p : Program) (names : NamesFit p) (n : ℕ) where
   back-good result at target t a caller (returns r (Some d)) h i fit g l j e grew =
       let w : Configuration = record r { now = with_locals_of r.now caller.now; entry = caller.entry } in
       put-result result at target t a d w h i fit (returned-good at caller r fit g (e.0).0 (e.1).0 grew.0) (target-grow p names target caller.now w.now a grew.0 l) j
-      (datum-grow t r.now w.now d i (λ z k b m. m) (e.1).1, (e.0).1)
+      (datum-grow t r.now w.now d i (λ z k b m. m) ((e.1).1).0, (e.0).1, ((e.1).1).1)
   back-good result at target t a caller (stops why) h i fit g l j e grew = tt
 
   -- what a call of a method leads to

@@ -12,6 +12,10 @@ use Rattle.jh_tree.proofs.Names.{name_equal-same}
 use Rattle.jh_tree.proofs.ClosedLemmas.{both-left, both-right}
 use Rattle.jh_rules.specs.declared.types.Ty.{Ty}
 use Rattle.jh_rules.specs.declared.types.Ty.TheVariants as ty
+use Rattle.jh_rules.specs.Kinds.{is_int, is_boolean, is_number, is_truth}
+use Rattle.jh_name.specs.declared.place.Kind as kind
+use Rattle.jh_name.specs.declared.place.Kind.TheVariants as k
+use Rattle.jh_runs.specs.Sound.{HasResult}
 use Rattle.jh_runs.specs.Code.{Text, Local, Stmt, Stmts}
 use Rattle.jh_runs.specs.Code as c
 use Rattle.jh_runs.specs.Program.{Program, Method, class_at}
@@ -31,7 +35,7 @@ use Rattle.jh_runs.proofs.Growth.{calls-add, args-sets}
 use Rattle.jh_runs.proofs.Formed.{ObjectLies, Formed, names-formed}
 use Rattle.jh_runs.proofs.Typing.{ScopeLies, ScopeFits, DatumLies}
 use Rattle.jh_runs.proofs.Storing.{split-off, stored-formed, stored-scope, dot-or-none}
-use Rattle.jh_runs.proofs.TypedRuns.{Good, GoodWith, ResultLies, all-good}
+use Rattle.jh_runs.proofs.TypedRuns.{KindFits, Good, GoodWith, ResultLies, all-good}
 use Rattle.jh_runs.proofs.TypedCalls.{ThisLies, ArgsLie, plain-args, datum-grow, dotted, MethodEnds, MethodsGood, calls-good}
 
 -- What always returns never goes on.
@@ -323,12 +327,52 @@ this-inside : (p : Program) (this : Option ℕ) (s : State) (a : ℕ) → IsWhol
 this-inside p None s a w h = subst (λ (b : ℕ). b < suc s.last) (sym h) (omega arith)
 this-inside p (Some k) s a w h = w.sets (named (class_at p.classes k)) a h
 
+-- a result in its type
+lies-result : (p : Program) (names : NamesFit p) (n : ℕ) (t : Ty) (s : State) (d : Datum) → (t ≡ ty.Null → ⊥) → (t ≡ ty.Void → ⊥) → DatumLies p names t s d → KindFits p names n t d → LiesIn p t s d
+lies-result p names n ty.Void s d i j h e = absurd (j refl)
+lies-result p names n ty.Null s d i j h e = absurd (i refl)
+lies-result p names n ty.Object s (an_object a) i j h e = h
+lies-result p names n (ty.Class c) s (an_object a) i j h e = h
+lies-result p names n ty.Int s (an_object a) i j h e = absurd (apart-kinds e)
+  where
+    apart-kinds : ◌≡◌ {A = kind.Kind} k.Int k.Obj → ⊥
+    apart-kinds e = true≢false (ap is_number e)
+lies-result p names n ty.Boolean s (an_object a) i j h e = absurd (apart-kinds e)
+  where
+    apart-kinds : ◌≡◌ {A = kind.Kind} k.Bool k.Obj → ⊥
+    apart-kinds e = true≢false (ap is_truth e)
+lies-result p names n ty.Int s (a_number z) i j h e = tt
+lies-result p names n ty.Boolean s (a_number z) i j h e = absurd (true≢false (sym (ap is_int h)))
+lies-result p names n ty.Object s (a_number z) i j h e = absurd (true≢false (sym (ap is_int h)))
+lies-result p names n (ty.Class c) s (a_number z) i j h e = absurd (true≢false (sym (ap is_int h)))
+lies-result p names n ty.Boolean s (a_truth b) i j h e = tt
+lies-result p names n ty.Int s (a_truth b) i j h e = absurd (true≢false (sym (ap is_boolean h)))
+lies-result p names n ty.Object s (a_truth b) i j h e = absurd (true≢false (sym (ap is_boolean h)))
+lies-result p names n (ty.Class c) s (a_truth b) i j h e = absurd (true≢false (sym (ap is_boolean h)))
+lies-result p names n t s (a_set v) i j h e = absurd h
+lies-result p names n t s (a_field f) i j h e = absurd h
+
+no-result : (p : Program) (s : State) (t : Ty) → t ≡ ty.Void → HasResult p t s None
+no-result p s t e = subst (λ (u : Ty). HasResult p u s None) (sym e) tt
+
+some-result : (p : Program) (s : State) (t : Ty) (d : Datum) → LiesIn p t s d → HasResult p t s (Some d)
+some-result p s ty.Void d h = h
+some-result p s ty.Int d h = h
+some-result p s ty.Boolean d h = h
+some-result p s ty.Null d h = h
+some-result p s ty.Object d h = h
+some-result p s (ty.Class c) d h = h
+
+result-in : (p : Program) (names : NamesFit p) (n : ℕ) (t : Ty) (s : State) (v : Option Datum) → (t ≡ ty.Null → ⊥) → ResultLies p names n t s v → HasResult p t s v
+result-in p names n t s None i h = no-result p s t h
+result-in p names n t s (Some d) i h = some-result p s t d (lies-result p names n t s d i h.2 h.0 h.1)
+
 pub runs-stay-well-formed : (p : Program) → RunsStayWellFormed p
 runs-stay-well-formed p fits m x e first this args w h l i picks k =
     ended (run p m first this args picks k)
     (runs-keep-formed p fits m x e first this args w (facts-formed first p fits.names h) (this-in p fits.names first.last x.this first this l) (this-inside p x.this first this w l)
     (all-in p fits.names first.last x.params first args i) (all-inside p x.params first args w i) picks k)
   where
-    ended : (y : Outcome) → EndsFormed p fits.names first.last x.result y → EndsWellFormed p y
-    ended (returned last v) g = formed-facts last p fits.names g.0
+    ended : (y : Outcome) → EndsFormed p fits.names first.last x.result y → EndsWellFormed p x.result y
+    ended (returned last v) g = (formed-facts last p fits.names g.0, result-in p fits.names first.last x.result last v (fits.methods m x e).result_value g.1)
     ended (stopped why) g = tt

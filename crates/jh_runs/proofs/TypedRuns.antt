@@ -10,7 +10,8 @@ use Rattle.jh_vars.specs.Written.{Callee}
 use Rattle.jh_tree.specs.Meaning.{Datum, an_object, a_number, a_truth, a_set, a_field, datum, term_value}
 use Rattle.jh_rules.specs.declared.types.Ty.{Ty}
 use Rattle.jh_rules.specs.declared.types.Ty.TheVariants as ty
-use Rattle.jh_rules.specs.Kinds.{fits}
+use Rattle.jh_rules.specs.Kinds.{fits, kind_of}
+use Rattle.jh_name.specs.declared.place.Kind.TheVariants as k
 use Rattle.jh_runs.specs.Code.{Text, ObjectCode, AnyCode, Local, Target, Stmt, Stmts}
 use Rattle.jh_runs.specs.Code as c
 use Rattle.jh_runs.specs.Program.{Program, Member, class_at}
@@ -19,7 +20,7 @@ use Rattle.jh_runs.specs.Locals.{has_dot}
 use Rattle.jh_runs.specs.Values.{Value, value, null_at, then_value, object_of, number_of, truth_of, value_of}
 use Rattle.jh_runs.specs.Progress.{Configuration, Progress, goes_on, returns, stops, pay, pay_from, then_run, with_value, choose, goes_on_in}
 use Rattle.jh_runs.specs.Objects.{is_free, created, pick, target_of, put}
-use Rattle.jh_runs.specs.Typed.{Surroundings, IsType, NamesFit, ProgramFits, Has, Fits, Takes, new_local, old_local, a_static, TakesFit, TypeOf, plain_objects, objects_of, declaring, scope_behind, MayDeclare, AssignFits, NewFits, CallFits, ResultFits, GhostFits, GhostFieldFits, StmtFits, StmtsFit}
+use Rattle.jh_runs.specs.Typed.{ObjectHas, of_null, of_this, of_name, of_read, Surroundings, IsType, NamesFit, ProgramFits, Has, Fits, Takes, new_local, old_local, a_static, TakesFit, TypeOf, plain_objects, objects_of, declaring, scope_behind, MayDeclare, AssignFits, NewFits, CallFits, ResultFits, GhostFits, GhostFieldFits, StmtFits, StmtsFit}
 use Rattle.jh_runs.specs.Typed as typed
 use Rattle.jh_runs.specs.Laws.{IsInside}
 use Rattle.jh_runs.specs.Execution.{asked, ghost_stored, loop, exec, exec_all}
@@ -45,10 +46,40 @@ pub lies-own : (n : ℕ) (s : State) → Lies n s → Lies s.last s
 lies-own n s l = subst (λ (k : ℕ). Lies k s) (sym l.last) l
 
 module _ (p : Program) (names : NamesFit p) (n : ℕ) where
+  -- an object stands in a type of objects
+  abbrev pub KindFits : Ty → Datum → Type 0
+  KindFits t (an_object v) = kind_of t ≡ k.Obj
+  KindFits t d = Unit {0}
+
+  fits-kind : (t u : Ty) → fits t u ≡ true → kind_of t ≡ kind_of u
+  fits-kind ty.Int ty.Int e = refl
+  fits-kind ty.Boolean ty.Boolean e = refl
+  fits-kind ty.Void ty.Void e = refl
+  fits-kind ty.Null ty.Null e = refl
+  fits-kind ty.Null ty.Object e = refl
+  fits-kind ty.Null (ty.Class c) e = refl
+  fits-kind ty.Object ty.Object e = refl
+  fits-kind (ty.Class c) ty.Object e = refl
+  fits-kind (ty.Class c) (ty.Class d) e = refl
+  fits-kind _ _ e = absurd (true≢false (sym e))
+
+  kind-fits : (t u : Ty) (d : Datum) → fits t u ≡ true → KindFits t d → KindFits u d
+  kind-fits t u (an_object v) e h = sym (fits-kind t u e) ∙ h
+  kind-fits t u (a_number z) e h = tt
+  kind-fits t u (a_truth b) e h = tt
+  kind-fits t u (a_set v) e h = tt
+  kind-fits t u (a_field f) e h = tt
+
+  has-kind : (at : Surroundings) (e : ObjectCode) (t : Ty) → ObjectHas p at e t → kind_of t ≡ k.Obj
+  has-kind at _ _ of_null = refl
+  has-kind at _ _ (of_this m e) = refl
+  has-kind at _ _ (of_name x t h e) = e
+  has-kind at _ _ (of_read x t m e r q j h i) = e
+
   -- what is known of a result
   abbrev pub ResultLies : Ty → State → Option Datum → Type 0
   ResultLies t s None = t ≡ ty.Void
-  ResultLies t s (Some d) = DatumLies p names t s d
+  ResultLies t s (Some d) = record { 0 : DatumLies p names t s d; 1 : KindFits t d; 2 : t ≡ ty.Void → ⊥ }
 
   abbrev pub FormedWith : Ty → Configuration → Option Datum → Type 0
   FormedWith t r v = Formed p r.now × ResultLies t r.now v
@@ -64,7 +95,7 @@ module _ (p : Program) (names : NamesFit p) (n : ℕ) where
 
   -- a value in its type, and in the universe
   abbrev pub ValueOf : Ty → State → Datum → Type 0
-  ValueOf t s d = DatumLies p names t s d × IsInside n d
+  ValueOf t s d = record { 0 : DatumLies p names t s d; 1 : IsInside n d; 2 : KindFits t d }
 
   as-datum : {X : Type 0} (P : X → Type 0) (Q : Datum → Type 0) (v : Value X) (f : X → Datum) → IsOf P v → ((x : X) → P x → Q (f x)) → IsOf Q (then_value v (λ x. value (f x)))
   as-datum P Q (value x) f h g = g x h
@@ -77,9 +108,9 @@ module _ (p : Program) (names : NamesFit p) (n : ℕ) where
   pub value-typed : (at : Surroundings) (e : AnyCode) (t : Ty) (s : State) → Has p at e t → Formed p s → Lies n s → ScopeLies p names at s → IsOf (ValueOf t s) (value_of e s)
   value-typed at (c.an_object a) t s h f l g =
       as-datum (λ v. ObjectLies p t s v × (v < suc n)) (ValueOf t s) (object_of a s) an_object
-      (both-of (λ v. ObjectLies p t s v) (Below n) (object_of a s) (object-typed p names at a t s h f (lies-own n s l) g) (object-lies n a s l)) (λ v i. i)
-  value-typed at (c.a_number a) t s h f l g = as-datum (λ x. Unit {0}) (ValueOf t s) (number_of a s) a_number (any-of (number_of a s)) (λ x i. (h, tt))
-  value-typed at (c.a_truth a) t s h f l g = as-datum (λ x. Unit {0}) (ValueOf t s) (truth_of a s) a_truth (any-of (truth_of a s)) (λ x i. (h, tt))
+      (both-of (λ v. ObjectLies p t s v) (Below n) (object_of a s) (object-typed p names at a t s h f (lies-own n s l) g) (object-lies n a s l)) (λ v i. (i.0, i.1, has-kind at a t h))
+  value-typed at (c.a_number a) t s h f l g = as-datum (λ x. Unit {0}) (ValueOf t s) (number_of a s) a_number (any-of (number_of a s)) (λ x i. (h, tt, tt))
+  value-typed at (c.a_truth a) t s h f l g = as-datum (λ x. Unit {0}) (ValueOf t s) (truth_of a s) a_truth (any-of (truth_of a s)) (λ x i. (h, tt, tt))
 
   pub any-type : (at : Surroundings) → ScopeFits p names at → (e : AnyCode) (t : Ty) → Has p at e t → IsType p t
   any-type at fit (c.an_object a) t h = has-type p names at fit a t h
@@ -130,6 +161,10 @@ module _ (p : Program) (names : NamesFit p) (n : ℕ) where
   type-is _ _ plain_objects = tt
   type-is _ _ (objects_of k h) = h
 
+  type-kind : (class : Text) (t : Ty) → TypeOf p class t → kind_of t ≡ k.Obj
+  type-kind _ _ plain_objects = refl
+  type-kind _ _ (objects_of j h) = refl
+
   new-lies : (class : Text) (t : Ty) (s : State) (a : ℕ) → TypeOf p class t → ObjectLies p t (created s class a) a
   new-lies _ _ s a plain_objects = inr (created-alloc p names s (codes "Object") a a (class-is (codes "Object") ty.Object plain_objects) ∙ now-there p names (s.set alloc_name a) a a refl)
   new-lies _ _ s a (objects_of k h) = inr (created-class p names s (class_at p.classes k) a a (class-of p names (class_at p.classes k) h) ∙ now-there p names (s.set (named (class_at p.classes k)) a) a a refl)
@@ -154,7 +189,7 @@ module _ (p : Program) (names : NamesFit p) (n : ℕ) where
           scope-created at s class x fit (g.1).1,
         ),
       )
-      (target-grow p names target s (created s class x) a (created-sets s class x) l) i (new-lies class t s x is, inside)
+      (target-grow p names target s (created s class x) a (created-sets s class x) l) i (new-lies class t s x is, inside, type-kind class t is)
 
   abbrev pub FormedState : Surroundings → State → Type 0
   FormedState at s = Formed p s × ScopeLies p names at s
@@ -277,9 +312,9 @@ module _ (p : Program) (names : NamesFit p) (n : ℕ) where
   ends-map P Q R (returns r v) f h = h
   ends-map P Q R (stops why) f h = tt
 
-  result-inside : (result : Ty) (at : Surroundings) (d : Datum) (t : Ty) (r : Configuration) → Good at r → IsType p t → fits t result ≡ true → ValueOf t r.now d → GoodWith result r (Some d)
-  result-inside result at d t r g type fit h =
-      ((g.0, h.1), ((g.1).0, fits-datum p names t result r.now d (g.1).0 (inside-own r.now d (g.0.now).last h.1) type fit h.0))
+  result-inside : (result : Ty) (at : Surroundings) (d : Datum) (t : Ty) (r : Configuration) → Good at r → IsType p t → fits t result ≡ true → (result ≡ ty.Void → ⊥) → ValueOf t r.now d → GoodWith result r (Some d)
+  result-inside result at d t r g type fit some h =
+      ((g.0, h.1), ((g.1).0, (fits-datum p names t result r.now d (g.1).0 (inside-own r.now d (g.0.now).last h.1) type fit h.0, kind-fits t result d fit h.2, some)))
 
   pub pay-good : (result : Ty) (at after : Surroundings) (r : Configuration) (next : Configuration → Progress) → Good at r → ((u : Configuration) → Good at u → Ends (Good after) (GoodWith result) (next u)) → Ends (Good after) (GoodWith result) (pay r next)
   pay-good result at after r next h f = from r.steps
@@ -330,8 +365,8 @@ module _ (p : Program) (names : NamesFit p) (n : ℕ) where
         exec-good c.return_nothing at h fit r g = pay-good result at at r (λ u. returns u None) g (λ u i. ((i.0, tt), ((i.1).0, h)))
         exec-good (c.return_value e) at h fit r g =
             pay-good result at at r (λ u. with_value (value_of e u.now) (λ d. returns u (Some d))) g (λ u i.
-            keeps-value (Good at) (GoodWith result) (paid at) (ValueOf h.type u.now) (value_of e u.now) (λ d. returns u (Some d)) (value-typed at e h.type u.now h.has (i.1).0 i.0.now (i.1).1) (λ d v.
-            result-inside result at d h.type u i (any-type at fit e h.type h.has) h.fit v))
+            keeps-value (Good at) (GoodWith result) (paid at) (ValueOf (h.0).type u.now) (value_of e u.now) (λ d. returns u (Some d)) (value-typed at e (h.0).type u.now (h.0).has (i.1).0 i.0.now (i.1).1) (λ d v.
+            result-inside result at d (h.0).type u i (any-type at fit e (h.0).type (h.0).has) (h.0).fit h.1 v))
         exec-good (c.assert claim) at h fit r g = pay-good result at at r (λ u. asked claim u) g (λ u i. keeps-asked (Good at) (GoodWith result) (paid at) claim u i)
         exec-good (c.note claim) at h fit r g = pay-good result at at r (λ u. asked claim u) g (λ u i. keeps-asked (Good at) (GoodWith result) (paid at) claim u i)
         exec-good (c.ghost x q v) at h fit r g =

@@ -13,6 +13,8 @@ use Rattle.jh_runs.specs.Execution.{turns, loop, exec, exec_all, at_entry, calls
 use Rattle.jh_runs.specs.Typed.{ProgramFits}
 use Rattle.jh_runs.specs.WellFormed.{well_formed}
 use Rattle.jh_runs.specs.Entry.{ThisLiesIn, AllLieIn}
+use Rattle.jh_runs.specs.Sound.{HasResult}
+use Rattle.jh_rules.specs.declared.types.Ty.{Ty}
 use Rattle.jh_runs.specs.Heaps.{Heap, IsHeap, state_of}
 
 -- the statement in a run of the program
@@ -87,14 +89,14 @@ RunsOnlyAdd p =
     ProgramFits p → (m : Callee) (first : State) (this : ℕ) (args : List Datum) → ArePlain args → (picks : List ℕ) (k : ℕ) →
     EndsGrown first (run p m first this args picks k)
 
--- where a run returns, the state is well formed
-abbrev pub EndsWellFormed : Program → Outcome → Type 0
-EndsWellFormed p (returned last result) = truth (well_formed p [] None) (shown last last) [] ≡ true
-EndsWellFormed p (stopped why) = Unit {0}
+-- where a run returns, the state is well formed, and the result lies in its type
+abbrev pub EndsWellFormed : Program → Ty → Outcome → Type 0
+EndsWellFormed p type (returned last result) = (truth (well_formed p [] None) (shown last last) [] ≡ true) × HasResult p type last result
+EndsWellFormed p type (stopped why) = Unit {0}
 
--- Runs of a program that the type rules leave keep states well formed.
+-- Runs of a program that the type rules leave keep states well formed, and answer results in their types.
 abbrev pub RunsStayWellFormed : Program → Type 0
 RunsStayWellFormed p =
     ProgramFits p → (m : Callee) (x : Method) → p.method m ≡ Some x → (first : State) (this : ℕ) (args : List Datum) →
     IsWhole first → truth (well_formed p [] None) (shown first first) [] ≡ true → ThisLiesIn p x.this first this → AllLieIn p x.params first args →
-    (picks : List ℕ) (k : ℕ) → EndsWellFormed p (run p m first this args picks k)
+    (picks : List ℕ) (k : ℕ) → EndsWellFormed p x.result (run p m first this args picks k)

@@ -170,7 +170,7 @@ module _ (p : Program) where
       StmtFits (c.branch q e a b) at = StmtFits a at × StmtsFit b at
       StmtFits (c.loop q invariants e body) at = AreOfStates invariants × StmtFits body at
       StmtFits c.return_nothing at = result ≡ ty.Void
-      StmtFits (c.return_value a) at = Fits at a result
+      StmtFits (c.return_value a) at = Fits at a result × (result ≡ ty.Void → ⊥)
       StmtFits (c.assert claim) at = IsOfStates (t.of_truth claim.formula)
       StmtFits (c.note claim) at = IsOfStates (t.of_truth claim.formula)
       StmtFits (c.ghost x q v) at = (y : Member) × GhostFits true x v y
@@ -214,6 +214,7 @@ pub record MethodFits (p : Program) (m : Method) : Type 0 where
   pub of_class : (n : ℕ) → m.this ≡ Some n → Contains p.classes (class_at p.classes n)
   pub params : ParamsFit p m.this [] m.params
   pub result_type : IsType p m.result
+  pub result_value : m.result ≡ ty.Null → ⊥
   pub body : StmtsFit p m.result m.body (record { this = m.this; params = m.params; locals = [] })
   pub end : (m.result ≡ ty.Void) ⊎ (ends_closed m.body ≡ true)
   pub contract : AreOfStates (listed m.requires ++ listed m.ensures)

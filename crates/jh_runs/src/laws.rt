@@ -34,7 +34,7 @@ pub fn runs_only_add()
 {}
 
 /// Where a run of a program that the type rules leave begins in a well-formed state, with `this` and arguments in their
-/// types, it ends in a well-formed state. It is a law, and does nothing.
+/// types, it ends in a well-formed state, with a result in its type. It is a law, and does nothing.
 pub fn runs_stay_well_formed()
     ensures { (p : Program) → RunsStayWellFormed p }
 {}
