@@ -15,5 +15,6 @@ mod TypedRuns
 mod TypedCalls
 pub mod TypedMethods
 pub mod Facts
+mod TypedCases
 mod HeapsWhole
 mod HeapCases
