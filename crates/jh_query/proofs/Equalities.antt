@@ -7,11 +7,11 @@ use Rattle.jh_query.specs.Tree.{SetExprTree, NumTree, CondTree}
 use Rattle.jh_query.specs.Tree as t
 use Rattle.jh_query.specs.Same.{same_set, same_num, same_atom}
 
-first : (p q : Bool) → (p && q) ≡ true → p ≡ true
+pub first : (p q : Bool) → (p && q) ≡ true → p ≡ true
 first true q e = refl
 first false q e = e
 
-second : (p q : Bool) → (p && q) ≡ true → q ≡ true
+pub second : (p q : Bool) → (p && q) ≡ true → q ≡ true
 second true q e = e
 second false q e = cc
 

@@ -15,3 +15,4 @@ pub mod Linearities
 pub mod Products
 pub mod Bounds
 pub mod Equalities
+pub mod Renamings

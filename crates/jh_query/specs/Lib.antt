@@ -11,3 +11,4 @@ pub mod Sides
 pub mod Later
 pub mod Tallies
 pub mod Linearity
+pub mod Named

@@ -1,8 +1,9 @@
 ghost use Rattle.std.specs.Prelude.{◌≡◌, ◌≤◌, ◌+◌, ◌*◌, List, length, true, unsigned_abs};
 ghost use Rattle.jh_query.specs.declared.sizes.Spot.{Spot};
-ghost use Rattle.jh_query.specs.Tree.{CondTree, NumTree};
+ghost use Rattle.jh_query.specs.Tree.{CondTree, NumTree, QueryTree};
 ghost use Rattle.jh_query.specs.Sizing.{Sizing};
-ghost use Rattle.jh_query.specs.Truth.{read_number};
+ghost use Rattle.jh_query.specs.Truth.{Fits, query_true, read_number};
+ghost use Rattle.jh_query.specs.Named.{IsRenamed, IsWellFormed, moved_to};
 ghost use Rattle.jh_query.specs.Linear.{constant_part, placed_part};
 ghost use Rattle.jh_query.specs.Linearity.{IsLinear};
 ghost use Rattle.jh_query.specs.Same.{same_atom};
@@ -23,4 +24,11 @@ pub fn placements_are_bounded()
 /// Two atoms are the same only where their trees are equal. It is a law, and does nothing.
 pub fn same_atoms_are_equal()
     ensures { (a b : CondTree) → same_atom a b ≡ true → a ≡ b }
+{}
+
+/// Of the classes of elements it matters alone which are one: with the same elements in one class, and
+/// in the same regions, sizes fit a query and make it true as before. It is a law, and does nothing.
+pub fn classes_may_be_renamed()
+    ensures same { (q : QueryTree) (z : Sizing) (u : List Spot) → IsWellFormed q → Fits q z → IsRenamed z.spots u → query_true q z ≡ query_true q (moved_to z u) }
+    ensures fit { (q : QueryTree) (z : Sizing) (u : List Spot) → Fits q z → IsRenamed z.spots u → Fits q (moved_to z u) }
 {}

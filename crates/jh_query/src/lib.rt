@@ -21,7 +21,9 @@ pub use counting::{classes_inside, is_first};
 pub use demands::{Demand, demanded};
 pub use holding::is_true;
 pub use inside::{class_lies, rest_lies, spot_of};
-pub use laws::{numbers_are_linear, placements_are_bounded, same_atoms_are_equal};
+pub use laws::{
+    classes_may_be_renamed, numbers_are_linear, placements_are_bounded, same_atoms_are_equal,
+};
 pub use matching::same_atom;
 pub use measuring::size;
 pub use query::{Cond, Num, Query, SetExpr};
