@@ -1,0 +1,9 @@
+pub mod Carried
+pub mod MakeSteps
+pub mod FormSteps
+pub mod Equating
+pub mod Shaping
+pub mod Others
+pub mod Ruling
+pub mod Forms
+pub mod Describing

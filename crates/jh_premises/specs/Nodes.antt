@@ -1,0 +1,154 @@
+-- What steps and rules over nodes stand for.
+use Rattle.std.specs.Prelude.{◌≡◌, ℕ, List, [], ◌∷◌, Option, Some, None, Result, Ok, Err, slice_get}
+use Rattle.jh_name.specs.declared.naming.Name.{Name}
+use Rattle.jh_name.specs.declared.memory.NoMemory.{NoMemory}
+use Rattle.jh_tree.specs.Tree.{TermTree, IntTree, FieldTree, SetTree, ValueTree, FormulaTree, of_object, of_number, of_truth, of_set, of_field}
+use Rattle.jh_tree.specs.Tree as t
+use Rattle.jh_table.specs.Entries.{the_truth, the_object, the_number, the_set, the_field, the_value}
+use Rattle.jh_steps.specs.Steps.{StepTree}
+use Rattle.jh_steps.specs.Steps as s
+use Rattle.jh_steps.specs.Rules.{Rule}
+use Rattle.jh_premises.specs.declared.nodes.Nodes.{Nodes}
+use Rattle.jh_premises.specs.declared.nodes.Nodes.TheVariants as n
+use Rattle.jh_premises.specs.declared.nodes.Adds.{Adds}
+use Rattle.jh_premises.specs.declared.nodes.Adds.TheVariants as a
+use Rattle.jh_premises.specs.declared.nodes.NodeRule.{NodeRule}
+use Rattle.jh_premises.specs.declared.nodes.NodeStep.{NodeStep}
+use Rattle.jh_premises.specs.declared.nodes.NodeStep.TheVariants as d
+
+-- the formula, term, field or value at a node
+abbrev pub formula_at : List ValueTree → ℕ → FormulaTree
+formula_at ts k = the_truth (slice_get ts k)
+
+abbrev pub term_at : List ValueTree → ℕ → TermTree
+term_at ts k = the_object (slice_get ts k)
+
+abbrev pub field_at : List ValueTree → ℕ → FieldTree
+field_at ts k = the_field (slice_get ts k)
+
+abbrev pub number_at : List ValueTree → ℕ → IntTree
+number_at ts k = the_number (slice_get ts k)
+
+abbrev pub set_at : List ValueTree → ℕ → SetTree
+set_at ts k = the_set (slice_get ts k)
+
+abbrev pub value_at : List ValueTree → ℕ → ValueTree
+value_at ts k = the_value (slice_get ts k)
+
+-- a formula, a term, a field, any value stands at the node
+abbrev pub IsFormula : List ValueTree → ℕ → Type 0
+IsFormula ts k = slice_get ts k ≡ Some (of_truth (formula_at ts k))
+
+abbrev pub IsTerm : List ValueTree → ℕ → Type 0
+IsTerm ts k = slice_get ts k ≡ Some (of_object (term_at ts k))
+
+abbrev pub IsField : List ValueTree → ℕ → Type 0
+IsField ts k = slice_get ts k ≡ Some (of_field (field_at ts k))
+
+abbrev pub IsNumber : List ValueTree → ℕ → Type 0
+IsNumber ts k = slice_get ts k ≡ Some (of_number (number_at ts k))
+
+abbrev pub IsSet : List ValueTree → ℕ → Type 0
+IsSet ts k = slice_get ts k ≡ Some (of_set (set_at ts k))
+
+abbrev pub IsValue : List ValueTree → ℕ → Type 0
+IsValue ts k = slice_get ts k ≡ Some (value_at ts k)
+
+-- the formulas at nodes
+unfoldable pub formulas_at : List ValueTree → Nodes → List FormulaTree
+formulas_at ts n.Nothing = []
+formulas_at ts (n.One x) = formula_at ts x ∷ []
+formulas_at ts (n.Two x y) = formula_at ts x ∷ formula_at ts y ∷ []
+
+unfoldable pub branches_at : List ValueTree → Adds → List (List FormulaTree)
+branches_at ts a.Closes = []
+branches_at ts (a.Goes x) = formulas_at ts x ∷ []
+branches_at ts (a.Splits x y) = formulas_at ts x ∷ formulas_at ts y ∷ []
+
+unfoldable pub rule_at : List ValueTree → NodeRule → Rule
+rule_at ts r = record { needs = formulas_at ts r.needs; adds = branches_at ts r.adds }
+
+unfoldable pub option_rule : List ValueTree → Option NodeRule → Option Rule
+option_rule ts (Some r) = Some (rule_at ts r)
+option_rule ts None = None
+
+unfoldable pub option_formula : List ValueTree → Option ℕ → Option FormulaTree
+option_formula ts (Some k) = Some (formula_at ts k)
+option_formula ts None = None
+
+-- each of the nodes is a formula
+unfoldable pub AreFormulas : List ValueTree → Nodes → Type 0
+AreFormulas ts n.Nothing = Unit {0}
+AreFormulas ts (n.One x) = IsFormula ts x
+AreFormulas ts (n.Two x y) = IsFormula ts x × IsFormula ts y
+
+unfoldable pub AreBranches : List ValueTree → Adds → Type 0
+AreBranches ts a.Closes = Unit {0}
+AreBranches ts (a.Goes x) = AreFormulas ts x
+AreBranches ts (a.Splits x y) = AreFormulas ts x × AreFormulas ts y
+
+unfoldable pub IsRule : List ValueTree → Option NodeRule → Type 0
+IsRule ts (Some r) = AreFormulas ts r.needs × AreBranches ts r.adds
+IsRule ts None = Unit {0}
+
+unfoldable pub IsMade : List ValueTree → Option ℕ → Type 0
+IsMade ts (Some k) = IsFormula ts k
+IsMade ts None = Unit {0}
+
+-- The node is what is wanted, where something is, and there is none where nothing is; want of memory aside.
+abbrev pub Makes : List ValueTree → Option FormulaTree → Result (Option ℕ) NoMemory → Type 0
+Makes ts wanted (Ok made) = (option_formula ts made ≡ wanted) × IsMade ts made
+Makes ts wanted (Err e) = Unit {0}
+
+-- The rule is what is wanted, in the same way.
+abbrev pub Gives : List ValueTree → Option Rule → Result (Option NodeRule) NoMemory → Type 0
+Gives ts wanted (Ok made) = (option_rule ts made ≡ wanted) × IsRule ts made
+Gives ts wanted (Err e) = Unit {0}
+
+-- the name of a term that is a free name
+unfoldable pub name_of : TermTree → Name
+name_of (t.free_object x) = x
+name_of _ = record { text = []; turn = 0 }
+
+abbrev pub IsName : List ValueTree → ℕ → Type 0
+IsName ts k = slice_get ts k ≡ Some (of_object (t.free_object (name_of (term_at ts k))))
+
+-- the step that nodes stand for
+unfoldable pub step_at : List ValueTree → NodeStep → StepTree
+step_at ts d.Absurd = s.absurdity
+step_at ts (d.Pair x) = s.pair (formula_at ts x)
+step_at ts (d.Reflexive x) = s.reflexive (formula_at ts x)
+step_at ts (d.Symmetric x y) = s.symmetric (value_at ts x) (value_at ts y)
+step_at ts (d.Transitive x y z) = s.transitive (value_at ts x) (value_at ts y) (value_at ts z)
+step_at ts (d.Reading k f x y) = s.reading k (field_at ts f) (term_at ts x) (term_at ts y)
+step_at ts (d.Replacing x y v w) = s.replacing (formula_at ts x) (formula_at ts y) (value_at ts v) (value_at ts w)
+step_at ts (d.Conjuncts x) = s.conjuncts (formula_at ts x)
+step_at ts (d.Disjuncts x) = s.disjuncts (formula_at ts x)
+step_at ts (d.Implication x) = s.implication (formula_at ts x)
+step_at ts (d.Equivalence x) = s.equivalence (formula_at ts x)
+step_at ts (d.Inward x) = s.inward (formula_at ts x)
+step_at ts (d.Instance x y) = s.instance_at (formula_at ts x) (term_at ts y)
+step_at ts (d.Witness x y) = s.witness (formula_at ts x) (name_of (term_at ts y))
+step_at ts (d.Cut x) = s.cut (formula_at ts x)
+step_at ts (d.Updating f) = s.updating (field_at ts f)
+step_at ts (d.Relation x) = s.relation (formula_at ts x)
+
+-- its nodes are of their sorts
+unfoldable pub AreOperands : List ValueTree → NodeStep → Type 0
+AreOperands ts d.Absurd = Unit {0}
+AreOperands ts (d.Pair x) = IsFormula ts x
+AreOperands ts (d.Reflexive x) = IsFormula ts x
+AreOperands ts (d.Symmetric x y) = IsValue ts x × IsValue ts y
+AreOperands ts (d.Transitive x y z) = IsValue ts x × IsValue ts y × IsValue ts z
+AreOperands ts (d.Reading k f x y) = IsField ts f × IsTerm ts x × IsTerm ts y
+AreOperands ts (d.Replacing x y v w) = IsFormula ts x × IsFormula ts y × IsValue ts v × IsValue ts w
+AreOperands ts (d.Conjuncts x) = IsFormula ts x
+AreOperands ts (d.Disjuncts x) = IsFormula ts x
+AreOperands ts (d.Implication x) = IsFormula ts x
+AreOperands ts (d.Equivalence x) = IsFormula ts x
+AreOperands ts (d.Inward x) = IsFormula ts x
+AreOperands ts (d.Instance x y) = IsFormula ts x × IsTerm ts y
+AreOperands ts (d.Witness x y) = IsFormula ts x × IsName ts y
+AreOperands ts (d.Cut x) = IsFormula ts x
+AreOperands ts (d.Updating f) = IsField ts f
+AreOperands ts (d.Relation x) = IsFormula ts x

@@ -1,0 +1,17 @@
+//! What the steps of a derivation need and add, over the nodes of a table.
+#![tactic(auto)]
+
+mod adding;
+mod closing;
+mod equations;
+mod forming;
+mod making;
+mod nodes;
+mod opening;
+mod parting;
+mod rules;
+mod updates;
+
+pub use closing::is_closed;
+pub use nodes::{Adds, NodeRule, NodeStep, Nodes};
+pub use rules::rule_of;
