@@ -1,6 +1,5 @@
 pub mod Carried
 pub mod MakeSteps
-pub mod FormSteps
 pub mod Equating
 pub mod Shaping
 pub mod Others

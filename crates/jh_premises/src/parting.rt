@@ -1,5 +1,3 @@
-#![tactic(auto, using(crate::proofs::FormSteps::form_steps))]
-
 ghost use Rattle.std.specs.Prelude.{◌≡◌};
 ghost use Rattle.jh_table.specs.Nodes.{nodes};
 ghost use Rattle.jh_steps.specs.Rules.{conjunction_rule, disjunction_rule, rule_of};
