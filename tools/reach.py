@@ -171,9 +171,9 @@ GROUPS = [
 FILES = [
     ('terms', TERMS, []),
     ('fields', FIELDS, ['use crate::terms::{child_of, not_null, one_object};']),
-    ('axioms', AXIOMS, ['use crate::lists::{each, parents, some};', 'use crate::parts::Part;',
+    ('nine', AXIOMS, ['use crate::lists::{each, parents, some};', 'use crate::parts::Part;',
                         'use crate::terms::{follows_for_three, follows_for_two, for_two, not_null, one_object, way};']),
-    ('groups', GROUPS + WHOLE, ['use crate::axioms::{first_step, last_step, no_way_back, null_reaches_null, one_parent, reach_children, reach_itself, ways_join};',
+    ('groups', GROUPS + WHOLE, ['use crate::nine::{first_step, last_step, no_way_back, null_reaches_null, one_parent, reach_children, reach_itself, ways_join};',
                         'use crate::choices::{changed_ways, ways_compare};', 'use crate::updates::before_change;']),
     ('updates', UPDATES, ['use crate::lists::each;', 'use crate::parts::Part;', 'use crate::terms::{follows_for_two, for_two, not_null};']),
 ]

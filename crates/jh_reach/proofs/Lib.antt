@@ -11,3 +11,4 @@ mod Sound
 pub mod NodeSteps
 pub mod Standings
 pub mod Basing
+mod Entering

@@ -3,3 +3,4 @@ pub mod Truths
 pub mod Standing
 pub mod Parts
 pub mod Based
+pub mod Named

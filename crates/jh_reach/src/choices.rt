@@ -8,7 +8,7 @@ ghost use Rattle.jh_reach.specs.Axioms.{listed, ways_compare, changed_ways};
 ghost use Rattle.jh_reach.specs.Standing.{AreFields, HoldsField, HoldsObject, IsAlong, list_at};
 ghost use Rattle.jh_enter.specs.Entered.{IsList};
 
-use crate::axioms::{ways_on, ways_up};
+use crate::nine::{ways_on, ways_up};
 use crate::updates::{told_by_one, told_by_several};
 use jh_name::NoMemory;
 use jh_table::Table;

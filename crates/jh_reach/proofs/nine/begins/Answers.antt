@@ -1,0 +1,39 @@
+-- Written by tools/reach.py.
+use Rattle.std.proofs.Common.{map}
+use Rattle.jh_tree.specs.Tree.{of_object, of_field, of_truth}
+use Rattle.jh_tree.specs.Tree as t
+use Rattle.jh_table.specs.Nodes.{nodes, tree_in}
+use Rattle.jh_table.specs.declared.shapes.Shape.TheVariants as s
+use Rattle.jh_table.proofs.NodeSteps.{fits-Or, tree-Or}
+use Rattle.jh_table.proofs.Listed.{extends-trans}
+use Rattle.jh_reach.specs.declared.parts.Part.TheVariants as p
+use Rattle.jh_reach.specs.Axioms.{disjoined}
+use Rattle.jh_reach.specs.Parts.{part_tree}
+use Rattle.jh_reach.specs.Standing.{fields_in}
+use Rattle.jh_enter.proofs.Fields.{made-as}
+use Rattle.jh_reach.proofs.Standings.{fields-grow, along-fields, along-grows}
+use Rattle.jh_reach.proofs.nine.begins.Goals as goal
+
+pub returns-in_err-same-clause-grows : goal.returns-in_err-same-clause-grows
+unfolding part_tree
+returns-in_err-same-clause-grows c = c.one_object.ensures.grows
+
+pub some-requires : goal.some-requires
+unfolding part_tree
+some-requires c = record { along = (along-grows c.args.table.now c.one_object.new.table c.args.list c.args.fields.now c.one_object.ensures.grows c.requires.along) }
+
+pub returns-in_err-step-clause-grows : goal.returns-in_err-step-clause-grows
+unfolding part_tree
+returns-in_err-step-clause-grows c = (extends-trans c.args.table.now c.one_object.new.table c.some.new.table c.one_object.ensures.grows c.some.ensures.grows)
+
+pub make-requires : goal.make-requires
+unfolding part_tree
+make-requires c = fits-Or c.some.new.table.pools (nodes c.some.new.table) c.in_ok-same.same c.in_ok-step.step (t.eq_object (t.bound 1) (t.bound 0)) (disjoined (map (part_tree p.ChildReaches (fields_in (nodes c.args.table.now) c.args.fields.now)) (fields_in (nodes c.args.table.now) c.args.fields.now))) (c.some.ensures.grows.nodes.keeps c.in_ok-same.same (of_truth (t.eq_object (t.bound 1) (t.bound 0))) c.in_ok-same.ensures.node) (c.in_ok-step.ensures.node (fields_in (nodes c.args.table.now) c.args.fields.now) (fields-grow c.args.table.now c.one_object.new.table c.args.fields.now (fields_in (nodes c.args.table.now) c.args.fields.now) c.one_object.ensures.grows (along-fields c.args.table.now c.args.list c.args.fields.now c.requires.along)))
+
+pub returns-clause-node : goal.returns-clause-node
+unfolding part_tree
+returns-clause-node c = λ fs h_list. made-as (nodes c.make.new.self) c.make.result (tree_in c.some.new.table (s.Or c.in_ok-same.same c.in_ok-step.step)) (of_truth (t.or (t.eq_object (t.bound 1) (t.bound 0)) (disjoined (map (part_tree p.ChildReaches fs) fs)))) (tree-Or c.some.new.table.pools (nodes c.some.new.table) c.in_ok-same.same c.in_ok-step.step (t.eq_object (t.bound 1) (t.bound 0)) (disjoined (map (part_tree p.ChildReaches fs) fs)) (c.some.ensures.grows.nodes.keeps c.in_ok-same.same (of_truth (t.eq_object (t.bound 1) (t.bound 0))) c.in_ok-same.ensures.node) (c.in_ok-step.ensures.node fs (fields-grow c.args.table.now c.one_object.new.table c.args.fields.now fs c.one_object.ensures.grows h_list))) c.make.ensures.node
+
+pub returns-clause-grows : goal.returns-clause-grows
+unfolding part_tree
+returns-clause-grows c = (extends-trans c.args.table.now c.some.new.table c.make.new.self (extends-trans c.args.table.now c.one_object.new.table c.some.new.table c.one_object.ensures.grows c.some.ensures.grows) c.make.ensures.grows)
