@@ -79,12 +79,7 @@ pub fn opened(
             meanings: &made,
         };
         let node = open_next(table, &context, outside, definition)?;
-        made.put(
-            alloc,
-            definition.class,
-            definition.word.text.text(),
-            node,
-        )?;
+        made.put(alloc, definition.class, definition.word.text.text(), node)?;
     }
     Ok(made)
 }
