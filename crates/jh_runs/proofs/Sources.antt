@@ -93,7 +93,7 @@ swap-is : body_of ((program_of swap).method (callee (codes "swap"))) ≡ Some (
     c.more (c.assign (c.to_new (record { text = codes "t"; type = ty.Object })) (c.an_object (c.object (codes "A.a"))))
     (c.more (c.assign (c.to_name (codes "A.a")) (c.an_object (c.object (codes "A.b"))))
     (c.more (c.assign (c.to_name (codes "A.b")) (c.an_object (c.object (codes "t")))) c.none)))
-unfolding halves first_named class_from def_in declared labels_in with_all_declared declare_all expr_type expr_code stmt_code
+unfolding halves first_named class_from def_in method_in declared labels_in with_all_declared declare_all expr_type expr_code stmt_code
 swap-is = refl
 
 swap-has : (program_of swap).members ≡
@@ -110,15 +110,15 @@ abbrev swapped : ℕ → Outcome
 swapped steps = run (program_of swap) (callee (codes "swap")) two 0 [] [] steps
 
 swap-gives-a : object_after (swapped 4) (codes "A.a") ≡ Some 2
-unfolding halves first_named class_from def_in declared labels_in with_all_declared declare_all expr_type expr_code stmt_code name_equal
+unfolding halves first_named class_from def_in method_in declared labels_in with_all_declared declare_all expr_type expr_code stmt_code name_equal
 swap-gives-a = refl
 
 swap-gives-b : object_after (swapped 4) (codes "A.b") ≡ Some 1
-unfolding halves first_named class_from def_in declared labels_in with_all_declared declare_all expr_type expr_code stmt_code name_equal
+unfolding halves first_named class_from def_in method_in declared labels_in with_all_declared declare_all expr_type expr_code stmt_code name_equal
 swap-gives-b = refl
 
 swap-wants-four-steps : swapped 3 ≡ stopped steps_out
-unfolding halves first_named class_from def_in declared labels_in with_all_declared declare_all expr_type expr_code stmt_code name_equal
+unfolding halves first_named class_from def_in method_in declared labels_in with_all_declared declare_all expr_type expr_code stmt_code name_equal
 swap-wants-four-steps = refl
 
 -- class Node {
