@@ -1,7 +1,8 @@
 -- At most one refusal applies to given bytes.
-use Rattle.std.proofs.Common.{◌≡◌, ◌≢◌, ◌≤◌, ◌<◌, ℕ, List, ap, sym, subst, ◌∙◌, refl, arith, inl, inr}
+use Rattle.std.proofs.Common.{◌≡◌, ◌≢◌, ◌≤◌, ◌<◌, ℕ, suc, List, [], ◌∷◌, ◌++◌, ap, sym, subst, ◌∙◌, refl, arith, inl, inr}
 use Rattle.std.proofs.lemmas.Bool.{cases_order}
 use Rattle.std.specs.Prelude.{Some, None, slice_get}
+use Rattle.std.specs.List.{Contains}
 use Rattle.std.specs.Option.{option_map_or}
 use Rattle.jh_ast.specs.Programs.{ProgramTree}
 use Rattle.jh_lex.specs.declared.error.LexError.{LexError}
@@ -12,7 +13,9 @@ use Rattle.jh_lex.proofs.Unique.{one_list, one_fault, fault_or_list}
 use Rattle.jh_name.specs.declared.place.Place.{Place}
 use Rattle.jh_nest.specs.Nesting.{AllShallow, IsFirstDeep, nesting_at}
 use Rattle.jh_rules.specs.Breaks.{Breaks}
-use Rattle.jahob.specs.Refusals.{Parses, RefusedAt, not_utf8, bad_char, open_comment, open_quote, too_wide, syntax, too_deep, IsMistyped, IsUnbuilt}
+use Rattle.jh_vars.specs.States.{Variable}
+use Rattle.jh_vars.specs.Reading.{IsCyclic, IsFirst, IsFirstCyclic, variables}
+use Rattle.jahob.specs.Refusals.{Parses, RefusedAt, not_utf8, bad_char, open_comment, open_quote, too_wide, syntax, too_deep, IsMistyped, IsCircular, IsUnbuilt}
 use Rattle.jahob.proofs.Verifying.{parses-one, refused-parses}
 
 -- the number and the place of a fault of the text
@@ -103,3 +106,40 @@ refused-built bytes n p refused left = refused-parses bytes n p left.tree refuse
 
 pub ill-built : (bytes : List ℕ) (rule : ℕ) (p : Place) → IsMistyped bytes rule p → IsUnbuilt bytes → ⊥
 ill-built bytes rule p ill left = left.typed rule p (subst (λ t. Breaks t rule p) (parses-one bytes ill.tree left.tree ill.parsed left.parsed) ill.least.breaks)
+
+pub refused-circular : (bytes : List ℕ) (n : ℕ) (p : Place) (name : List ℕ) → RefusedAt bytes n p → IsCircular bytes name → ⊥
+refused-circular bytes n p name refused loop = refused-parses bytes n p loop.tree refused loop.parsed
+
+pub ill-circular : (bytes : List ℕ) (rule : ℕ) (p : Place) (name : List ℕ) → IsMistyped bytes rule p → IsCircular bytes name → ⊥
+ill-circular bytes rule p name ill loop = loop.typed rule p (subst (λ t. Breaks t rule p) (parses-one bytes ill.tree loop.tree ill.parsed loop.parsed) ill.least.breaks)
+
+pub circular-built : (bytes name : List ℕ) → IsCircular bytes name → IsUnbuilt bytes → ⊥
+circular-built bytes name loop left = left.acyclic (record { class = loop.class; name = name }) (subst (λ t. IsFirstCyclic t (record { class = loop.class; name = name })) (parses-one bytes loop.tree left.tree loop.parsed left.parsed) loop.first).here
+
+-- a list has one first item of which something is so
+module _ {X : Type 0} (H : X → Type 0) where
+  heads : {a b : X} {us vs : List X} → a ∷ us ≡ b ∷ vs → a ≡ b
+  heads e = cc
+
+  tails : {a b : X} {us vs : List X} → a ∷ us ≡ b ∷ vs → us ≡ vs
+  tails e = cc
+
+  head-of : (z : X) (a : List X) → Contains (z ∷ a) z
+  head-of z a = (0, omega arith, refl)
+
+  tail-of : (z y : X) (a : List X) → Contains a y → Contains (z ∷ a) y
+  tail-of z y a h = (suc h.0, omega (arith, h.1), h.2)
+
+  one-first : (a b : List X) (x y : X) (us vs : List X) → a ++ x ∷ us ≡ b ++ y ∷ vs → H x → H y → ((z : X) → Contains a z → H z → ⊥) → ((z : X) → Contains b z → H z → ⊥) → x ≡ y
+  one-first [] [] x y us vs e here there n m = heads e
+  one-first [] (w ∷ b) x y us vs e here there n m = absurd (m w (head-of w b) (subst H (heads e) here))
+  one-first (z ∷ a) [] x y us vs e here there n m = absurd (n z (head-of z a) (subst H (sym (heads e)) there))
+  one-first (z ∷ a) (w ∷ b) x y us vs e here there n m = one-first a b x y us vs (tails e) here there (λ v h. n v (tail-of z v a h)) (λ v h. m v (tail-of w v b h))
+
+  pub same-first : (xs : List X) (x y : X) → IsFirst H xs x → IsFirst H xs y → x ≡ y
+  same-first xs x y f g = one-first f.before g.before x y f.behind g.behind (sym f.stands ∙ g.stands) f.here g.here f.none_before g.none_before
+
+pub one-name : (bytes x y : List ℕ) → IsCircular bytes x → IsCircular bytes y → x ≡ y
+one-name bytes x y f g =
+    ap (λ (v : Variable). v.name)
+    (same-first (IsCyclic g.tree) (variables g.tree) (record { class = f.class; name = x }) (record { class = g.class; name = y }) (subst (λ t. IsFirstCyclic t (record { class = f.class; name = x })) (parses-one bytes f.tree g.tree f.parsed g.parsed) f.first) g.first)

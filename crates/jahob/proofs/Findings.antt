@@ -4,10 +4,10 @@ use Rattle.std.specs.Prelude.{◌≢◌, Option, None, Some, IfSome, ◌⊎◌, 
 use Rattle.jahob.specs.declared.tree.Program.{Program}
 use Rattle.jahob.specs.declared.top.Reply.{Reply}
 use Rattle.jahob.specs.declared.top.Reply.TheVariants as reply
-use Rattle.jahob.specs.Causes.{FilesSeen, SinkSeen, Finding, reported, no_job, refused, mistyped, unbuilt, file_failed, file_too_long, no_memory, Comes, Due, due, reply_due, Takes, IsTaken, Delivered, HaveNoFault, Answered, IsExcused, Exact, FitsBytes, FitsFile, Fits, IsFault, fault_text}
+use Rattle.jahob.specs.Causes.{FilesSeen, SinkSeen, Finding, reported, no_job, refused, mistyped, circular, unbuilt, file_failed, file_too_long, no_memory, Comes, Due, due, reply_due, Takes, IsTaken, Delivered, HaveNoFault, Answered, IsExcused, Exact, FitsBytes, FitsFile, Fits, IsFault, fault_text}
 use Rattle.jahob.specs.Verify.{Spells, Tells, Reports, Verifies, all_proved, source_limit}
 use Rattle.jahob.specs.Words.{verify_file}
-use Rattle.jahob.proofs.Verifying.{spells-one, refused-parses, ill-spells, unbuilt-spells, reports-verifies, right-sound}
+use Rattle.jahob.proofs.Verifying.{spells-one, refused-parses, ill-spells, loop-spells, unbuilt-spells, reports-verifies, right-sound}
 
 -- a status is the one that is due, or 5
 takes-status : (sink : SinkSeen) (text : List ℕ) (d status : ℕ) → Takes sink text d status → (status ≡ d) ⊎ (status ≡ 5)
@@ -31,6 +31,7 @@ reports-of words files out err status (reported p answers) comes delivered low =
 reports-of words files out err status no_job comes delivered low = not-low 2 status (omega arith) (takes-status err _ 2 status delivered.0) low
 reports-of words files out err status (refused n place) comes delivered low = not-low 3 status (omega arith) (takes-status err _ 3 status delivered.0) low
 reports-of words files out err status (mistyped n place) comes delivered low = not-low 3 status (omega arith) (takes-status err _ 3 status delivered.0) low
+reports-of words files out err status (circular name) comes delivered low = not-low 3 status (omega arith) (takes-status err _ 3 status delivered.0) low
 reports-of words files out err status unbuilt comes delivered low = not-low 3 status (omega arith) (takes-status err _ 3 status delivered.0) low
 reports-of words files out err status (file_failed file) comes delivered low = not-low 4 status (omega arith) (takes-status err _ 4 status delivered.0) low
 reports-of words files out err status (file_too_long file) comes delivered low = not-low 4 status (omega arith) (takes-status err _ 4 status delivered.0) low
@@ -65,6 +66,7 @@ memory-of words files out err status (reported p answers) delivered six =
 memory-of words files out err status no_job delivered six = delivered.1.written
 memory-of words files out err status (refused n place) delivered six = delivered.1.written
 memory-of words files out err status (mistyped n place) delivered six = delivered.1.written
+memory-of words files out err status (circular name) delivered six = delivered.1.written
 memory-of words files out err status unbuilt delivered six = delivered.1.written
 memory-of words files out err status (file_failed file) delivered six = delivered.1.written
 memory-of words files out err status (file_too_long file) delivered six = delivered.1.written
@@ -93,6 +95,7 @@ usage-of words files out err status (reported p answers) comes delivered none = 
 usage-of words files out err status no_job comes delivered none = takes-status err _ 2 status delivered.0
 usage-of words files out err status (refused n place) comes delivered none = none-some (verify_file words) comes.file none comes.asked
 usage-of words files out err status (mistyped n place) comes delivered none = none-some (verify_file words) comes.file none comes.asked
+usage-of words files out err status (circular name) comes delivered none = none-some (verify_file words) comes.file none comes.asked
 usage-of words files out err status unbuilt comes delivered none = none-some (verify_file words) comes.file none comes.asked
 usage-of words files out err status (file_failed file) comes delivered none = none-some (verify_file words) file none comes.0
 usage-of words files out err status (file_too_long file) comes delivered none = none-some (verify_file words) file none comes.0
@@ -142,6 +145,10 @@ too_long-of words files out err status (mistyped n place) comes delivered file b
     let same : comes.bytes ≡ bytes = told-bytes words files.holds file bytes comes.file comes.bytes asked held comes.asked comes.told in
     let within : length bytes ≤ source_limit = rw (sym same) comes.within in
     absurd (omega (arith, within, long))
+too_long-of words files out err status (circular name) comes delivered file bytes asked held long =
+    let same : comes.bytes ≡ bytes = told-bytes words files.holds file bytes comes.file comes.bytes asked held comes.asked comes.told in
+    let within : length bytes ≤ source_limit = rw (sym same) comes.within in
+    absurd (omega (arith, within, long))
 too_long-of words files out err status unbuilt comes delivered file bytes asked held long =
     let same : comes.bytes ≡ bytes = told-bytes words files.holds file bytes comes.file comes.bytes asked held comes.asked comes.told in
     let within : length bytes ≤ source_limit = rw (sym same) comes.within in
@@ -170,6 +177,7 @@ refused-of words files out err status (reported p answers) comes delivered file 
 refused-of words files out err status no_job comes delivered file bytes asked held short none = none-some (verify_file words) file comes asked
 refused-of words files out err status (refused n place) comes delivered file bytes asked held short none = due-or files err _ file 3 status delivered.0
 refused-of words files out err status (mistyped n place) comes delivered file bytes asked held short none = due-or files err _ file 3 status delivered.0
+refused-of words files out err status (circular name) comes delivered file bytes asked held short none = due-or files err _ file 3 status delivered.0
 refused-of words files out err status unbuilt comes delivered file bytes asked held short none = due-or files err _ file 3 status delivered.0
 refused-of words files out err status (file_failed other) comes delivered file bytes asked held short none = inr (excused-failed words files err _ file other status asked comes delivered.0)
 refused-of words files out err status (file_too_long other) comes delivered file bytes asked held short none =
@@ -196,6 +204,9 @@ reported-of words files out err status (refused n place) comes delivered file by
 reported-of words files out err status (mistyped rule place) comes delivered file bytes p asked held short spells =
     let same : comes.bytes ≡ bytes = told-bytes words files.holds file bytes comes.file comes.bytes asked held comes.asked comes.told in
     absurd (ill-spells bytes rule place p (rw (sym same) comes.why) spells)
+reported-of words files out err status (circular name) comes delivered file bytes p asked held short spells =
+    let same : comes.bytes ≡ bytes = told-bytes words files.holds file bytes comes.file comes.bytes asked held comes.asked comes.told in
+    absurd (loop-spells bytes name p (rw (sym same) comes.why) spells)
 reported-of words files out err status unbuilt comes delivered file bytes p asked held short spells =
     let same : comes.bytes ≡ bytes = told-bytes words files.holds file bytes comes.file comes.bytes asked held comes.asked comes.told in
     absurd (unbuilt-spells bytes p (rw (sym same) comes.why) spells)
@@ -211,6 +222,7 @@ answered-exact words files out err status a = record {
   too_long = too_long-of words files out err status a.finding a.comes a.delivered;
   refused = λ file bytes n place asked held short why. refused-of words files out err status a.finding a.comes a.delivered file bytes asked held short (λ p spells. refused-parses bytes n place spells.tree why spells.parsed);
   mistyped = λ file bytes rule place asked held short why. refused-of words files out err status a.finding a.comes a.delivered file bytes asked held short (λ p spells. ill-spells bytes rule place p why spells);
+  circular = λ file bytes name asked held short why. refused-of words files out err status a.finding a.comes a.delivered file bytes asked held short (λ p spells. loop-spells bytes name p why spells);
   unbuilt = λ file bytes asked held short why. refused-of words files out err status a.finding a.comes a.delivered file bytes asked held short (λ p spells. unbuilt-spells bytes p why spells);
   reported = reported-of words files out err status a.finding a.comes a.delivered;
 }
@@ -233,6 +245,11 @@ read-fits words files file bytes (reply.Mistyped text) asked told short fits = r
   comes = record { file = file; bytes = bytes; asked = asked; told = told; within = short; why = fits.2 };
   is_due = λ i. record { status = 3; on_out = false; text = sym fits.3 i };
 }
+read-fits words files file bytes (reply.Circular text) asked told short fits = record {
+  finding = circular fits.0;
+  comes = record { file = file; bytes = bytes; asked = asked; told = told; within = short; why = fits.1 };
+  is_due = λ i. record { status = 3; on_out = false; text = sym fits.2 i };
+}
 read-fits words files file bytes reply.Unbuilt asked told short fits = record {
   finding = unbuilt;
   comes = record { file = file; bytes = bytes; asked = asked; told = told; within = short; why = fits };
@@ -247,6 +264,7 @@ fault-fits words files file kind o (reply.Report text accepted) asked fits is co
 fault-fits words files file kind o reply.Usage asked fits is comes = absurd fits
 fault-fits words files file kind o (reply.Refused text) asked fits is comes = absurd fits
 fault-fits words files file kind o (reply.Mistyped text) asked fits is comes = absurd fits
+fault-fits words files file kind o (reply.Circular text) asked fits is comes = absurd fits
 fault-fits words files file kind o reply.Unbuilt asked fits is comes = absurd fits
 fault-fits words files file kind o (reply.Fault text) asked fits is comes = record {
   finding = o;

@@ -15,3 +15,4 @@ pub mod Rights
 pub mod Verifying
 pub mod Lines
 pub mod Findings
+mod Sources

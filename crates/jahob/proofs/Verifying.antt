@@ -17,7 +17,10 @@ use Rattle.jh_parse.proofs.MemberComplete.{at_most_one_program}
 use Rattle.jahob.specs.declared.prove.Answer.{Answer}
 use Rattle.jahob.specs.declared.tree.Program.{Program}
 use Rattle.jahob.specs.Obligations.{sequents_of}
-use Rattle.jahob.specs.Refusals.{Parses, RefusedAt, not_utf8, bad_char, open_comment, open_quote, too_wide, syntax, too_deep, IsMistyped, IsUnbuilt, IsWhy, refusal_of}
+use Rattle.jahob.specs.Refusals.{Parses, RefusedAt, not_utf8, bad_char, open_comment, open_quote, too_wide, syntax, too_deep, IsTyped, IsMistyped, IsCircular, IsUnbuilt, IsLoopOf, IsWhy, refusal_of}
+use Rattle.jh_vars.specs.Reading.{IsFirstCyclic}
+use Rattle.jahob.specs.declared.error.Refusal.{Refusal}
+use Rattle.jahob.specs.declared.error.Refusal.TheVariants as refusal
 use Rattle.jh_rules.specs.Breaks.{Breaks}
 use Rattle.jh_type.specs.Refused.{IsRefused}
 use Rattle.jh_type.specs.declared.typed.TypeError.{TypeError}
@@ -52,6 +55,18 @@ ill-spells bytes rule place p ill spells = spells.typed rule place (subst (λ t.
 pub ill-why : (bytes : List ℕ) (tree : ProgramTree) (fault : TypeError) → Parses bytes tree → IsRefused tree fault → IsWhy bytes (refusal_of fault)
 ill-why bytes tree (type.TypeFault rule place) parsed least = record { tree = tree; parsed = parsed; least = least }
 ill-why bytes tree type.Memory parsed least = tt
+
+-- bytes that have a cyclic variable spell none
+pub loop-spells : (bytes name : List ℕ) (p : Program) → IsCircular bytes name → Spells bytes p → ⊥
+loop-spells bytes name p loop spells = spells.acyclic (record { class = loop.class; name = name }) (subst (λ t. IsFirstCyclic t (record { class = loop.class; name = name })) (parses-one bytes loop.tree spells.tree loop.parsed spells.parsed) loop.first).here
+
+-- why a source with a cyclic variable is refused
+pub loop-why : (bytes : List ℕ) (tree : ProgramTree) (r : Refusal) → Parses bytes tree → IsTyped tree → IsLoopOf tree r → IsWhy bytes r
+loop-why bytes tree (refusal.At n place) parsed typed loop = absurd loop
+loop-why bytes tree (refusal.Mistyped rule place) parsed typed loop = absurd loop
+loop-why bytes tree (refusal.Cyclic name) parsed typed loop = record { tree = tree; parsed = parsed; typed = typed; class = loop.0; first = loop.1 }
+loop-why bytes tree refusal.Unbuilt parsed typed loop = absurd loop
+loop-why bytes tree refusal.Memory parsed typed loop = tt
 
 -- bytes that spell a tree that is no program spell none
 pub unbuilt-spells : (bytes : List ℕ) (p : Program) → IsUnbuilt bytes → Spells bytes p → ⊥

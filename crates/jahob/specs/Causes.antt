@@ -10,9 +10,9 @@ use Rattle.jahob.specs.declared.top.Reply.TheVariants as reply
 use Rattle.jahob.specs.Sequents.{AllRight}
 use Rattle.jahob.specs.Obligations.{sequents_of}
 use Rattle.jahob.specs.Report.{report_of}
-use Rattle.jahob.specs.Refusals.{RefusedAt, IsMistyped, IsUnbuilt}
+use Rattle.jahob.specs.Refusals.{RefusedAt, IsMistyped, IsCircular, IsUnbuilt}
 use Rattle.jh_name.specs.declared.place.Place.{Place}
-use Rattle.jahob.specs.Verify.{Spells, Tells, IsRead, IsRefused, IsIll, IsLeft, IsReport, all_proved, source_limit}
+use Rattle.jahob.specs.Verify.{Spells, Tells, IsRead, IsRefused, IsIll, IsLooped, IsLeft, IsReport, all_proved, source_limit}
 use Rattle.jahob.specs.Words.{verify_file}
 
 -- What there is to see of the files over a call: what they hold, and for each name how many calls had
@@ -36,6 +36,7 @@ pub data Finding : Type 0 where
   no_job : Finding
   refused : ℕ → Place → Finding
   mistyped : ℕ → Place → Finding
+  circular : List ℕ → Finding
   unbuilt : Finding
   file_failed : List ℕ → Finding
   file_too_long : List ℕ → Finding
@@ -48,6 +49,7 @@ Comes words files (reported p answers) = IsRead words files.holds p × AllRight 
 Comes words files no_job = verify_file words ≡ None
 Comes words files (refused number place) = IsRefused words files.holds number place
 Comes words files (mistyped rule place) = IsIll words files.holds rule place
+Comes words files (circular name) = IsLooped words files.holds name
 Comes words files unbuilt = IsLeft words files.holds
 Comes words files (file_failed file) = (verify_file words ≡ Some file) × Rose (files.before file) (files.after file)
 Comes words files (file_too_long file) = (verify_file words ≡ Some file) × IfSome (files.holds file) (λ held. source_limit < length held)
@@ -70,6 +72,10 @@ refused_text number place = codes "refused " ++ (decimal number ++ (codes " at "
 abbrev pub mistyped_text : ℕ → Place → List ℕ
 mistyped_text rule place = codes "refused 11 rule " ++ (decimal rule ++ (codes " at " ++ (decimal place.line ++ (codes ":" ++ (decimal place.column ++ 10 ∷ [])))))
 
+-- the line for a source with a cyclic variable of this name
+abbrev pub circular_text : List ℕ → List ℕ
+circular_text name = codes "refused 8 " ++ (name ++ 10 ∷ [])
+
 abbrev pub unbuilt_text : List ℕ
 unbuilt_text = codes "refused 13" ++ 10 ∷ []
 
@@ -85,6 +91,7 @@ due (reported p answers) = record { status = if all_proved answers then 0 else 1
 due no_job = record { status = 2; on_out = false; text = usage_text }
 due (refused number place) = record { status = 3; on_out = false; text = refused_text number place }
 due (mistyped rule place) = record { status = 3; on_out = false; text = mistyped_text rule place }
+due (circular name) = record { status = 3; on_out = false; text = circular_text name }
 due unbuilt = record { status = 3; on_out = false; text = unbuilt_text }
 due (file_failed file) = record { status = 4; on_out = false; text = fault_text (codes "failed") file }
 due (file_too_long file) = record { status = 4; on_out = false; text = fault_text (codes "too long") file }
@@ -127,12 +134,13 @@ abbrev pub IsExcused : FilesSeen → List ℕ → ℕ → Type 0
 IsExcused files file status = ((status ≡ 4) × Rose (files.before file) (files.after file)) ⊎ (status ≡ 5) ⊎ (status ≡ 6)
 
 -- The answers by their conditions. Without a job it is usage. Else, for what the file holds where it tells: 4
--- where it is too long, 3 where it is refused, breaks a type rule or isn't verified so far, and 0 or 1 where it spells a program.
+-- where it is too long, 3 where it is refused, breaks a type rule, has a cyclic variable or isn't verified so far, and 0 or 1 where it spells a program.
 pub record Exact (words : List (List ℕ)) (files : FilesSeen) (status : ℕ) : Type 0 where
   pub usage : verify_file words ≡ None → (status ≡ 2) ⊎ (status ≡ 5)
   pub too_long : (file bytes : List ℕ) → verify_file words ≡ Some file → files.holds file ≡ Some bytes → source_limit < length bytes → (status ≡ 4) ⊎ IsExcused files file status
   pub refused : (file bytes : List ℕ) (number : ℕ) (place : Place) → verify_file words ≡ Some file → files.holds file ≡ Some bytes → length bytes ≤ source_limit → RefusedAt bytes number place → (status ≡ 3) ⊎ IsExcused files file status
   pub mistyped : (file bytes : List ℕ) (rule : ℕ) (place : Place) → verify_file words ≡ Some file → files.holds file ≡ Some bytes → length bytes ≤ source_limit → IsMistyped bytes rule place → (status ≡ 3) ⊎ IsExcused files file status
+  pub circular : (file bytes name : List ℕ) → verify_file words ≡ Some file → files.holds file ≡ Some bytes → length bytes ≤ source_limit → IsCircular bytes name → (status ≡ 3) ⊎ IsExcused files file status
   pub unbuilt : (file bytes : List ℕ) → verify_file words ≡ Some file → files.holds file ≡ Some bytes → length bytes ≤ source_limit → IsUnbuilt bytes → (status ≡ 3) ⊎ IsExcused files file status
   pub reported : (file bytes : List ℕ) (p : Program) → verify_file words ≡ Some file → files.holds file ≡ Some bytes → length bytes ≤ source_limit → Spells bytes p → (status ≡ 0) ⊎ (status ≡ 1) ⊎ IsExcused files file status
 
@@ -142,6 +150,7 @@ reply_due (reply.Report text accepted) = record { status = if accepted then 0 el
 reply_due reply.Usage = record { status = 2; on_out = false; text = usage_text }
 reply_due (reply.Refused text) = record { status = 3; on_out = false; text = string_bytes text }
 reply_due (reply.Mistyped text) = record { status = 3; on_out = false; text = string_bytes text }
+reply_due (reply.Circular text) = record { status = 3; on_out = false; text = string_bytes text }
 reply_due reply.Unbuilt = record { status = 3; on_out = false; text = unbuilt_text }
 reply_due (reply.Fault text) = record { status = 4; on_out = false; text = string_bytes text }
 reply_due reply.NoMemory = record { status = 6; on_out = false; text = no_memory_text }
@@ -152,6 +161,7 @@ IsReply p (reply.Report text accepted) = IsReport p (string_bytes text) accepted
 IsReply p reply.Usage = ⊥
 IsReply p (reply.Refused text) = ⊥
 IsReply p (reply.Mistyped text) = ⊥
+IsReply p (reply.Circular text) = ⊥
 IsReply p reply.Unbuilt = ⊥
 IsReply p (reply.Fault text) = ⊥
 IsReply p reply.NoMemory = Unit {0}
@@ -162,6 +172,7 @@ IsRefusal number place (reply.Report text accepted) = ⊥
 IsRefusal number place reply.Usage = ⊥
 IsRefusal number place (reply.Refused text) = string_bytes text ≡ refused_text number place
 IsRefusal number place (reply.Mistyped text) = ⊥
+IsRefusal number place (reply.Circular text) = ⊥
 IsRefusal number place reply.Unbuilt = ⊥
 IsRefusal number place (reply.Fault text) = ⊥
 IsRefusal number place reply.NoMemory = Unit {0}
@@ -172,6 +183,7 @@ FitsBytes bytes (reply.Report text accepted) = (p : Program) × Spells bytes p �
 FitsBytes bytes reply.Usage = ⊥
 FitsBytes bytes (reply.Refused text) = (number : ℕ) × (place : Place) × RefusedAt bytes number place × (string_bytes text ≡ refused_text number place)
 FitsBytes bytes (reply.Mistyped text) = (rule : ℕ) × (place : Place) × IsMistyped bytes rule place × (string_bytes text ≡ mistyped_text rule place)
+FitsBytes bytes (reply.Circular text) = (name : List ℕ) × IsCircular bytes name × (string_bytes text ≡ circular_text name)
 FitsBytes bytes reply.Unbuilt = IsUnbuilt bytes
 FitsBytes bytes (reply.Fault text) = ⊥
 FitsBytes bytes reply.NoMemory = Unit {0}
@@ -182,9 +194,21 @@ IsIllness rule place (reply.Report text accepted) = ⊥
 IsIllness rule place reply.Usage = ⊥
 IsIllness rule place (reply.Refused text) = ⊥
 IsIllness rule place (reply.Mistyped text) = string_bytes text ≡ mistyped_text rule place
+IsIllness rule place (reply.Circular text) = ⊥
 IsIllness rule place reply.Unbuilt = ⊥
 IsIllness rule place (reply.Fault text) = ⊥
 IsIllness rule place reply.NoMemory = Unit {0}
+
+-- a reply says that a source has a cyclic variable of this name, or is want of memory
+abbrev pub IsLoop : List ℕ → Reply → Type 0
+IsLoop name (reply.Report text accepted) = ⊥
+IsLoop name reply.Usage = ⊥
+IsLoop name (reply.Refused text) = ⊥
+IsLoop name (reply.Mistyped text) = ⊥
+IsLoop name (reply.Circular text) = string_bytes text ≡ circular_text name
+IsLoop name reply.Unbuilt = ⊥
+IsLoop name (reply.Fault text) = ⊥
+IsLoop name reply.NoMemory = Unit {0}
 
 -- a reply says that a file fails in some way, or is want of memory
 abbrev pub IsFault : List ℕ → List ℕ → Reply → Type 0
@@ -192,6 +216,7 @@ IsFault kind file (reply.Report text accepted) = ⊥
 IsFault kind file reply.Usage = ⊥
 IsFault kind file (reply.Refused text) = ⊥
 IsFault kind file (reply.Mistyped text) = ⊥
+IsFault kind file (reply.Circular text) = ⊥
 IsFault kind file reply.Unbuilt = ⊥
 IsFault kind file (reply.Fault text) = string_bytes text ≡ fault_text kind file
 IsFault kind file reply.NoMemory = Unit {0}

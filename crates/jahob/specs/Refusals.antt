@@ -4,12 +4,14 @@ use Rattle.jh_name.specs.declared.place.Place.{Place}
 use Rattle.jh_lex.specs.declared.token.Token.{Token}
 use Rattle.jh_lex.specs.declared.error.LexError.TheVariants as lex
 use Rattle.jh_lex.specs.Lexes.{Lexes, IsFirstFault}
+use Rattle.jh_ast.specs.declared.word.Word.{Word}
 use Rattle.jh_ast.specs.Programs.{ProgramTree}
 use Rattle.jh_nest.specs.Nesting.{AllShallow, IsFirstDeep}
 use Rattle.jh_parse.specs.Members as grammar
 use Rattle.jh_rules.specs.Breaks.{Breaks}
 use Rattle.jh_rules.specs.Faults.{fault}
 use Rattle.jh_spec.specs.Parsed.{IsStart}
+use Rattle.jh_vars.specs.Reading.{IsAcyclic, IsFirstCyclic}
 use Rattle.jh_type.specs.Refused.{IsLeastFault}
 use Rattle.jh_type.specs.declared.typed.TypeError.{TypeError}
 use Rattle.jh_type.specs.declared.typed.TypeError.TheVariants as type
@@ -47,19 +49,41 @@ pub record IsMistyped (bytes : List ℕ) (rule : ℕ) (place : Place) : Type 0 w
 abbrev pub IsTyped : ProgramTree → Type 0
 IsTyped tree = (rule : ℕ) (place : Place) → Breaks tree rule place → ⊥
 
--- The bytes spell a tree that breaks no type rule and is no program of those that are verified so far.
+-- The bytes spell a tree that breaks no type rule and has a variable of this name, the first in the text, whose definition reads it.
+pub record IsCircular (bytes : List ℕ) (name : List ℕ) : Type 0 where
+  pub tree : ProgramTree
+  pub parsed : Parses bytes tree
+  pub typed : IsTyped tree
+  pub class : ℕ
+  pub first : IsFirstCyclic tree (record { class = class; name = name })
+
+-- The bytes spell a tree that breaks no type rule, has no cyclic variable, and is no program of those that are verified so far.
 pub record IsUnbuilt (bytes : List ℕ) : Type 0 where
   pub tree : ProgramTree
   pub parsed : Parses bytes tree
   pub typed : IsTyped tree
+  pub acyclic : IsAcyclic tree
   pub none : (p : Program) → program_of tree ≡ Some p → is_well_named p ≡ true → ⊥
 
 -- a refusal is right
 abbrev pub IsWhy : List ℕ → Refusal → Type 0
 IsWhy bytes (refusal.At n p) = RefusedAt bytes n p
 IsWhy bytes (refusal.Mistyped rule p) = IsMistyped bytes rule p
+IsWhy bytes (refusal.Cyclic name) = IsCircular bytes name.text
 IsWhy bytes refusal.Unbuilt = IsUnbuilt bytes
 IsWhy bytes refusal.Memory = Unit {0}
+
+-- a refusal is that for a cyclic variable of this word, or want of memory
+abbrev pub IsNamed : Word → Refusal → Type 0
+IsNamed w (refusal.Cyclic name) = name ≡ w.text
+IsNamed w refusal.Memory = Unit {0}
+IsNamed w _ = ⊥
+
+-- a refusal is that for a cyclic variable of the tree, the first in the text, or want of memory
+abbrev pub IsLoopOf : ProgramTree → Refusal → Type 0
+IsLoopOf tree (refusal.Cyclic name) = (class : ℕ) × IsFirstCyclic tree (record { class = class; name = name.text })
+IsLoopOf tree refusal.Memory = Unit {0}
+IsLoopOf tree _ = ⊥
 
 -- why a source that breaks a type rule isn't verified
 abbrev pub refusal_of : TypeError → Refusal

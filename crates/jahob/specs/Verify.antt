@@ -7,7 +7,8 @@ use Rattle.jahob.specs.declared.tree.Program.{Program}
 use Rattle.jh_ast.specs.Programs.{ProgramTree}
 use Rattle.jh_name.specs.declared.place.Place.{Place}
 use Rattle.jahob.specs.Checked.{is_well_named}
-use Rattle.jahob.specs.Refusals.{Parses, IsTyped, RefusedAt, IsMistyped, IsUnbuilt}
+use Rattle.jh_vars.specs.Reading.{IsAcyclic}
+use Rattle.jahob.specs.Refusals.{Parses, IsTyped, RefusedAt, IsMistyped, IsCircular, IsUnbuilt}
 use Rattle.jahob.specs.Subset.{program_of}
 use Rattle.jahob.specs.Words.{verify_file}
 use Rattle.jahob.specs.Sequents.{AllRight}
@@ -15,12 +16,13 @@ use Rattle.jahob.specs.Obligations.{sequents_of}
 use Rattle.jahob.specs.Report.{report_of, is_unproved}
 use Rattle.jahob.specs.Sound.{Sound}
 
--- Bytes spell a program: they spell a tree that breaks no type rule and is a program of those that are verified so far, and it is
--- well named.
+-- Bytes spell a program: they spell a tree that breaks no type rule, has no cyclic variable and is a program of those that are
+-- verified so far, and it is well named.
 pub record Spells (bytes : List ℕ) (p : Program) : Type 0 where
   pub tree : ProgramTree
   pub parsed : Parses bytes tree
   pub typed : IsTyped tree
+  pub acyclic : IsAcyclic tree
   pub is : program_of tree ≡ Some p
   pub named : is_well_named p ≡ true
 
@@ -70,6 +72,15 @@ pub record IsIll (words : List (List ℕ)) (holds : List ℕ → Option (List �
   pub told : Tells (holds file) bytes
   pub within : length bytes ≤ source_limit
   pub why : IsMistyped bytes rule place
+
+-- The words ask for a file, whose bytes spell a tree with a cyclic variable of this name.
+pub record IsLooped (words : List (List ℕ)) (holds : List ℕ → Option (List ℕ)) (name : List ℕ) : Type 0 where
+  pub file : List ℕ
+  pub bytes : List ℕ
+  pub asked : verify_file words ≡ Some file
+  pub told : Tells (holds file) bytes
+  pub within : length bytes ≤ source_limit
+  pub why : IsCircular bytes name
 
 -- The words ask for a file, whose bytes spell a tree that is no program of those that are verified so far.
 pub record IsLeft (words : List (List ℕ)) (holds : List ℕ → Option (List ℕ)) : Type 0 where

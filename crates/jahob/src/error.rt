@@ -1,4 +1,4 @@
-use jh_name::{NoMemory, Place};
+use jh_name::{Name, NoMemory, Place};
 use std::alloc::{AllocError, AllocFailed};
 
 /// Why a syntax tree is no program of those that are verified so far.
@@ -44,12 +44,14 @@ impl<T: Drop> From<AllocFailed<T>> for ReadError {
 }
 
 /// Why a source isn't verified.
-#[derive(Clone, Copy, Debug, PartialEq, Eq)]
+#[derive(Debug, Drop)]
 pub enum Refusal {
     /// The source is refused with this number, from 1 to 7, at this place.
     At(u8, Place),
     /// It breaks this type rule, at this place.
     Mistyped(u8, Place),
+    /// The definition of a variable of this name, the first such in the text, reads the variable.
+    Cyclic(Name),
     /// It spells no program of those that are verified so far.
     Unbuilt,
     /// Memory ran out.

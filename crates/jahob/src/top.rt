@@ -10,9 +10,11 @@ ghost use Rattle.jahob.specs.Verify.{Spells, IsReport, Verifies, Reports};
 ghost use Rattle.jh_ast.specs.Bare.{program_tree};
 ghost use Rattle.jh_lex.specs.Lexes.{Lexes};
 ghost use Rattle.jahob.specs.Checked.{is_well_named};
-ghost use Rattle.jahob.specs.Refusals.{Parses, IsTyped, IsWhy, refusal_of};
+ghost use Rattle.jh_vars.specs.Reading.{IsAcyclic};
+ghost use Rattle.jh_defined.specs.Answered.{IsOpening};
+ghost use Rattle.jahob.specs.Refusals.{Parses, IsTyped, IsWhy, IsNamed, IsLoopOf, refusal_of};
 ghost use Rattle.jahob.specs.Subset.{program_of};
-ghost use Rattle.jahob.specs.Causes.{fault_text, refused_text, mistyped_text, IsRefusal, IsIllness, IsReply, IsFault, FitsBytes, FitsFile, Fits, Takes, Delivered, HaveNoFault, reply_due, Answered, Exact};
+ghost use Rattle.jahob.specs.Causes.{fault_text, refused_text, mistyped_text, circular_text, IsRefusal, IsIllness, IsLoop, IsReply, IsFault, FitsBytes, FitsFile, Fits, Takes, Delivered, HaveNoFault, reply_due, Answered, Exact};
 
 use crate::check::is_well_named;
 use crate::command::of_method;
@@ -25,13 +27,15 @@ use crate::subset::subset_program;
 use crate::tree::{Member, Method, Program};
 use crate::words::file_of;
 use crate::wp::wp;
-use jh_ast::Program as Source;
+use jh_ast::{Program as Source, Word};
+use jh_defined::{Opening, in_order};
 use jh_files::{FileFault, Files, Sink, put_all};
 use jh_form::Formula;
 use jh_lex::{LexError, Token, tokens};
-use jh_name::{MethodId, NoMemory, Place};
+use jh_name::{MethodId, Name, NoMemory, Place};
 use jh_parse::program;
 use jh_spec::ParseError;
+use jh_tables::lookups_of;
 use jh_type::{TypeError, Typed, check};
 use std::alloc::Global;
 
@@ -55,6 +59,8 @@ pub enum Reply {
     Refused(String),
     /// The source breaks a type rule; the line says which, and where.
     Mistyped(String),
+    /// The source has a cyclic variable; the line names it.
+    Circular(String),
     /// The source spells no program of those that are verified so far.
     Unbuilt,
     /// The file can't be read; the line says why.
@@ -72,6 +78,7 @@ impl Reply {
             Reply::Usage => 2,
             Reply::Refused(_) => 3,
             Reply::Mistyped(_) => 3,
+            Reply::Circular(_) => 3,
             Reply::Unbuilt => 3,
             Reply::Fault(_) => 4,
             Reply::NoMemory => 6,
@@ -87,6 +94,7 @@ impl Reply {
             Reply::Usage => "usage: jahob verify FILE\n",
             Reply::Refused(text) => text.as_str(),
             Reply::Mistyped(text) => text.as_str(),
+            Reply::Circular(text) => text.as_str(),
             Reply::Unbuilt => "refused 13\n",
             Reply::Fault(text) => text.as_str(),
             Reply::NoMemory => "no memory\n",
@@ -102,6 +110,7 @@ impl Reply {
             Reply::Usage => false,
             Reply::Refused(_) => false,
             Reply::Mistyped(_) => false,
+            Reply::Circular(_) => false,
             Reply::Unbuilt => false,
             Reply::Fault(_) => false,
             Reply::NoMemory => false,
@@ -179,6 +188,37 @@ fn typed(alloc: Global, bytes: &[u8]) -> Result<Typed, Refusal>
     }
 }
 
+/// The name of a word, as it is in a refusal.
+fn cyclic(alloc: Global, word: &Word) -> Refusal
+    ensures { IsNamed word.now result }
+{
+    match word.text.copy(alloc) {
+        Ok(name) => Refusal::Cyclic(name),
+        Err(NoMemory) => Refusal::Memory,
+    }
+}
+
+/// Whether the definitions of a program have an order, or the first variable whose definition reads it.
+fn opening_of<'a>(alloc: Global, source: &'a Typed) -> Result<Opening<'a>, NoMemory>
+    ensures { IfOk result (IsOpening (program_tree source.now)) }
+{
+    let program = source.program();
+    let lookups = lookups_of(alloc, program)?;
+    in_order(alloc, &lookups, program.classes.items())
+}
+
+/// A source without cyclic variables.
+fn acyclic(alloc: Global, source: &Typed) -> Result<(), Refusal>
+    ensures acyclic { OnOk result (IsAcyclic (program_tree source.now)) }
+    ensures why { IfErr result (IsLoopOf (program_tree source.now)) }
+{
+    match opening_of(alloc, source) {
+        Ok(Opening::Ordered(_)) => Ok(()),
+        Ok(Opening::Cyclic(word)) => Err(cyclic(alloc, word)),
+        Err(NoMemory) => Err(Refusal::Memory),
+    }
+}
+
 /// The program that a source spells.
 fn read(alloc: Global, bytes: &[u8]) -> Result<Program, Refusal>
     requires { length bytes.now < 2 ^ 32 - 1 }
@@ -186,6 +226,7 @@ fn read(alloc: Global, bytes: &[u8]) -> Result<Program, Refusal>
     ensures why { IfErr result (IsWhy bytes.now) }
 {
     let source = typed(alloc, bytes)?;
+    acyclic(alloc, &source)?;
     match built(alloc, source.program()) {
         Ok(program) => Ok(program),
         Err(ReadError::Refused) => Err(Refusal::Unbuilt),
@@ -298,6 +339,25 @@ fn reply_to_illness(alloc: Global, rule: u8, place: Place) -> Reply
     }
 }
 
+/// The line for a source with a cyclic variable.
+fn circular_line(alloc: Global, name: &Name) -> Result<String, NoMemory>
+    ensures { IfOk result (λ text. string_bytes text ≡ circular_text name.now.text) }
+{
+    let mut text = String::new(alloc);
+    let name = name.text();
+    writeln!(text, "refused 8 {name}")?;
+    Ok(text)
+}
+
+fn reply_to_loop(alloc: Global, name: &Name) -> Reply
+    ensures { IsLoop name.now.text result }
+{
+    match circular_line(alloc, name) {
+        Ok(text) => Reply::Circular(text),
+        Err(NoMemory) => Reply::NoMemory,
+    }
+}
+
 /// The line for a source that is refused with a number, at a place.
 fn refused_line(alloc: Global, number: u8, place: Place) -> Result<String, NoMemory>
     ensures { IfOk result (λ text. string_bytes text ≡ refused_text number place) }
@@ -335,6 +395,7 @@ fn reply_to_bytes(alloc: Global, bytes: &[u8]) -> Reply
         Ok(program) => reply_to_program(alloc, &program),
         Err(Refusal::At(number, place)) => reply_to_refusal(alloc, number, place),
         Err(Refusal::Mistyped(rule, place)) => reply_to_illness(alloc, rule, place),
+        Err(Refusal::Cyclic(name)) => reply_to_loop(alloc, &name),
         Err(Refusal::Unbuilt) => Reply::Unbuilt,
         Err(Refusal::Memory) => Reply::NoMemory,
     }

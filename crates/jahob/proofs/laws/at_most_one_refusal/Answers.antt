@@ -1,4 +1,4 @@
-use Rattle.jahob.proofs.Apart.{one-number, one-place, refused-typed, refused-built, ill-built}
+use Rattle.jahob.proofs.Apart.{one-number, one-place, one-name, refused-typed, refused-built, refused-circular, ill-built, ill-circular, circular-built}
 use Rattle.jahob.proofs.laws.at_most_one_refusal.Goals as goal
 
 pub returns-clause-number : goal.returns-clause-number
@@ -15,3 +15,15 @@ returns-clause-built c = refused-built
 
 pub returns-clause-apart : goal.returns-clause-apart
 returns-clause-apart c = ill-built
+
+pub returns-clause-circular : goal.returns-clause-circular
+returns-clause-circular c = refused-circular
+
+pub returns-clause-ordered : goal.returns-clause-ordered
+returns-clause-ordered c = ill-circular
+
+pub returns-clause-acyclic : goal.returns-clause-acyclic
+returns-clause-acyclic c = circular-built
+
+pub returns-clause-name : goal.returns-clause-name
+returns-clause-name c = one-name
