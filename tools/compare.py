@@ -55,25 +55,28 @@ def all_ctors():
     yield 'L', None, 'more', ['F.', 'L'], ['f', 'fs']
 
 
-def part_test(kinds, ns):
+def part_test(kinds, ns, labels='w'):
     ms = others(ns)
-    tests = [f"related_{fn_of(core(k))} {n} p {m}" if is_part(k) else f"{EQUAL[core(k)]} {n} {m}" for k, n, m in zip(kinds, ns, ms)]
+    tests = [f"related_{fn_of(core(k))} {n} {labels} p {m}" if is_part(k) else f"{EQUAL[core(k)]} {n} {m}" for k, n, m in zip(kinds, ns, ms)]
     return tests, ms
 
 
 def test_case(code, ctor, kinds, ns):
     tests, ms = part_test(kinds, ns)
+    other = '(seen w s)' if code == 'P' else 's'
     if not kinds:
-        rest = f"{ctor}_with s"
+        rest = f"{ctor}_with {other}"
     else:
-        rest = f"{ctor}_with (λ {' '.join(ms)}. {' && '.join(tests)}) s"
+        rest = f"{ctor}_with (λ {' '.join(ms)}. {' && '.join(tests)}) {other}"
+    if ctor == 'mark':
+        rest = f"by_labels w ({rest}) (related_formula a w p {other})"
     if code in ('V', 'L'):
         return rest
     return f"p (t.{WRAP[code]} {apply('t.' + ctor, ns)}) (t.{WRAP[code]} s) || {rest}"
 
 
 def tests_specs():
-    out = [f"""-- The test of whether a tree is another with some parts exchanged, as the code asks it.
+    out = [f"""-- The test of whether a tree is another with some parts exchanged, as the code asks it. Labels are compared, or passed.
 use Rattle.std.specs.Prelude.{{ℕ, ℤ, Bool, true, false, ◌&&◌, ◌||◌, nat_eq}}
 use Rattle.std.specs.Ordering.{{int_eq}}
 use Rattle.jh_name.specs.declared.naming.Name.{{Name}}
@@ -96,13 +99,28 @@ use Rattle.jh_compare.specs.Marks.{{mark_equal}}
             out.append(f"{f} t.{ctor} = true")
             out.append(f"{f} _ = false")
         out.append('')
-    out.append("unfoldable mutual")
+    out.append("""-- the formula under the labels that stand around it
+unfoldable pub past : FormulaTree → FormulaTree
+past (t.mark k a) = past a
+past a = a
+
+-- a formula as it is compared: with its labels, or past them
+abbrev pub seen : Bool → FormulaTree → FormulaTree
+seen true s = s
+seen false s = past s
+
+-- one thing where labels are compared, and another where they are passed
+abbrev pub by_labels : {X : Type 0} → Bool → X → X → X
+by_labels true x y = x
+by_labels false x y = y
+""")
+    out.append("-- with whether labels are compared, and which parts may be exchanged\nunfoldable mutual")
     for code in ORDER + 'L':
         f = f"related_{fn_of(code)}"
-        out.append(f"  pub {f} : {tree_type(code)} → (ValueTree → ValueTree → Bool) → {tree_type(code)} → Bool")
+        out.append(f"  pub {f} : {tree_type(code)} → Bool → (ValueTree → ValueTree → Bool) → {tree_type(code)} → Bool")
         for c, variant, ctor, kinds, ns in all_ctors():
             if c == code:
-                out.append(f"  {f} {apply('t.' + ctor, ns)} p s = {test_case(code, ctor, kinds, ns)}")
+                out.append(f"  {f} {apply('t.' + ctor, ns)} w p s = {test_case(code, ctor, kinds, ns)}")
         out.append('')
     return '\n'.join(out)
 
@@ -137,7 +155,7 @@ use Rattle.jh_tree.specs.declared.form.FieldTerm.TheBlock.{{shown-the_row-FieldT
 use Rattle.std.specs.declared.boxed.Box.{{Box}}
 use Rattle.std.specs.declared.alloc.Global.{{Global}}
 use Rattle.jh_tree.specs.Bare.{{{', '.join(TYPES[c][2] + '_tree' for c in ORDER)}}}
-use Rattle.jh_compare.specs.Compared.{{{with_names()}, {related_names()}}}
+use Rattle.jh_compare.specs.Compared.{{{with_names()}, {related_names()}, past, seen, by_labels}}
 """]
     rules = []
     for code, variant, ctor, kinds, ns in all_ctors():
@@ -145,9 +163,9 @@ use Rattle.jh_compare.specs.Compared.{{{with_names()}, {related_names()}}}
         lemma = f"{f}-{ctor}"
         rules.append(lemma)
         sig = ''.join(f"({n} : {tree_of(k)}) " for k, n in zip(kinds, ns))
-        out.append(f"pub {lemma} : {sig}(p : ValueTree → ValueTree → Bool) (s : {tree_type(code)}) → {f} {apply('t.' + ctor, ns)} p s ≡ ({test_case(code, ctor, kinds, ns)})")
+        out.append(f"pub {lemma} : {sig}(w : Bool) (p : ValueTree → ValueTree → Bool) (s : {tree_type(code)}) → {f} {apply('t.' + ctor, ns)} w p s ≡ ({test_case(code, ctor, kinds, ns)})")
         out.append(f"unfolding {f}")
-        out.append(f"{call(lemma, ns)} p s = refl\n")
+        out.append(f"{call(lemma, ns)} w p s = refl\n")
         lemma = f"{ctor}_with-here"
         rules.append(lemma)
         q = f"(q : {with_sig(kinds)}) " if kinds else ''
@@ -217,7 +235,7 @@ use Rattle.std.proofs.lemmas.Bool.{{true≢false, eqb-true, eq-eqb}}
 use Rattle.jh_tree.proofs.ClosedLemmas.{{both-left, both-right}}
 use Rattle.jh_tree.proofs.Names.{{name_equal-same, name_equal-true}}
 use Rattle.jh_compare.proofs.MarkLemmas.{{mark_equal-same, mark_equal-true, int_eq-same, int_eq-true}}
-{HEAD}use Rattle.jh_compare.specs.Compared.{{{with_names()}, {related_names()}}}
+{HEAD}use Rattle.jh_compare.specs.Compared.{{{with_names()}, {related_names()}, seen, by_labels}}
 use Rattle.jh_compare.specs.Related.{{{', '.join(REL[c] for c in ORDER + 'L')}}}
 use Rattle.jh_compare.specs.Related as r
 
@@ -258,11 +276,11 @@ module _ (p : ValueTree → ValueTree → Bool) (X : ValueTree → ValueTree →
     unfolding """ + related_names().replace(',', ''))
     for code in ORDER + 'L':
         f = f"{fn_of(code)}-related"
-        out.append(f"    pub {f} : (a s : {tree_type(code)}) → related_{fn_of(code)} a p s ≡ true → {REL[code]} X a s")
+        out.append(f"    pub {f} : (a s : {tree_type(code)}) → related_{fn_of(code)} a true p s ≡ true → {REL[code]} X a s")
         for c, variant, ctor, kinds, ns in all_ctors():
             if c != code:
                 continue
-            tests, ms = part_test(kinds, ns)
+            tests, ms = part_test(kinds, ns, 'true')
             whole = apply('t.' + ctor, ns)
             # the hypotheses on the parts from one on their conjunction
             hyps, hyp, left = [], 'e', list(tests)
@@ -306,22 +324,21 @@ module _ (p : ValueTree → ValueTree → Bool) (X : ValueTree → ValueTree →
         if code == 'V':
             continue
         fn = fn_of(code)
-        out.append(f"  pub {fn}_here-passes : (a s : {tree_type(code)}) → X (t.{WRAP[code]} a) (t.{WRAP[code]} s) → related_{fn} a p s ≡ true")
+        out.append(f"  pub {fn}_here-passes : (w : Bool) (a s : {tree_type(code)}) → X (t.{WRAP[code]} a) (t.{WRAP[code]} s) → related_{fn} a w p s ≡ true")
         out.append(f"  unfolding related_{fn}")
         for c, variant, ctor, kinds, ns in all_ctors():
             if c != code:
                 continue
-            tests, ms = part_test(kinds, ns)
-            rest = f"{ctor}_with s" if not kinds else f"{ctor}_with (λ {' '.join(ms)}. {' && '.join(tests)}) s"
+            rest = test_case(code, ctor, kinds, ns).split(' || ', 1)[1]
             whole = apply('t.' + ctor, ns)
-            out.append(f"  {fn}_here-passes {whole} s here = here_lemma (t.{WRAP[code]} {whole}) (t.{WRAP[code]} s) ({rest}) here")
+            out.append(f"  {fn}_here-passes w {whole} s here = here_lemma (t.{WRAP[code]} {whole}) (t.{WRAP[code]} s) ({rest}) here")
         out.append('')
     out.append("  mutual\n    unfolding " + related_names().replace(',', '') + ' ' + ' '.join(f"{ctor}_with" for _, _, ctor, _, _ in all_ctors()))
     for code in ORDER + 'L':
         f = f"{fn_of(code)}-passes"
-        out.append(f"    pub {f} : (a s : {tree_type(code)}) → {REL[code]} X a s → related_{fn_of(code)} a p s ≡ true")
+        out.append(f"    pub {f} : (a s : {tree_type(code)}) → {REL[code]} X a s → related_{fn_of(code)} a true p s ≡ true")
         if code not in ('V', 'L'):
-            out.append(f"    {f} _ _ (r.{fn_of(code)}_here a s x) = {fn_of(code)}_here-passes a s x")
+            out.append(f"    {f} _ _ (r.{fn_of(code)}_here a s x) = {fn_of(code)}_here-passes true a s x")
         for c, variant, ctor, kinds, ns in all_ctors():
             if c != code:
                 continue
@@ -332,7 +349,7 @@ module _ (p : ValueTree → ValueTree → Bool) (X : ValueTree → ValueTree →
                     args += [n, m]
                     prems.append(f"h{idx}")
                     facts.append(f"({fn_of(core(k))}-passes {n} {m} h{idx})")
-                    tests.append(f"related_{fn_of(core(k))} {n} p {m}")
+                    tests.append(f"related_{fn_of(core(k))} {n} true p {m}")
                 else:
                     args.append(n)
                     facts.append({'u': f"(eq-eqb {n} {n} refl)", 'n': f"(name_equal-same {n} {n} refl)", 'z': f"(int_eq-same {n})", 'k': f"(mark_equal-same {n} {n} refl)"}[core(k)])
@@ -420,7 +437,10 @@ def compare_arm(code, variant, ctor, kinds):
         else:
             tests.append(RUSTEQ[c].format(n, m))
     good = ' && '.join(tests) if tests else 'true'
-    return f"        {pat} => match right {{\n            {opat} => {good},\n            _ => false,\n        }},\n"
+    seen = 'seen' if code == 'P' else 'right'
+    if ctor == 'mark':
+        return f"        {pat} if exchange.labels() => match seen {{\n            {opat} => {good},\n            _ => false,\n        }},\n        {rust}::Mark(_, a) => related_formula(a, seen, exchange),\n"
+    return f"        {pat} => match {seen} {{\n            {opat} => {good},\n            _ => false,\n        }},\n"
 
 
 def comparing():
@@ -428,28 +448,37 @@ def comparing():
 
 ghost use Rattle.std.specs.Prelude.{◌≡◌};
 ghost use Rattle.jh_tree.specs.Bare.{term_tree, int_tree, set_tree, field_tree, value_tree, formula_tree, list_tree};
-ghost use Rattle.jh_compare.specs.Compared.{related_term, related_int, related_set, related_field, related_value, related_formula, related_fields};
+ghost use Rattle.jh_compare.specs.Compared.{seen, related_term, related_int, related_set, related_field, related_value, related_formula, related_fields};
 
 use crate::exchange::Exchange;
-use crate::marks::marks_are_one;
+use crate::marks::{marks_are_one, past_marks};
 use crate::numbers::numbers_are_one;
 use jh_subst::names_are_one;
 use jh_tree::{FieldTerm, Formula, IntTerm, SetTerm, Term, Value};
+
+/// A formula as it is compared: with its labels, or past them.
+fn seen_of(formula: &Formula, labels: bool) -> &Formula
+    ensures { formula_tree result.now ≡ seen labels (formula_tree formula.now) }
+{
+    if labels { formula } else { past_marks(formula) }
+}
 """]
     for code in ORDER:
         rust, tree, fn, variants = TYPES[code]
         first = '' if code == 'V' else f"    if exchange.{ASK[code]}(left, right) {{\n        return true;\n    }}\n"
+        if code == 'P':
+            first += "    let seen = seen_of(right, exchange.labels());\n"
         out.append(f"""
 #[cycle(related)]
 pub fn related_{fn}<E: Exchange>(left: &{rust}, right: &{rust}, exchange: &E) -> bool
-    ensures {{ result ≡ related_{fn} ({fn}_tree left.now) (E.pairs exchange.now) ({fn}_tree right.now) }}
+    ensures {{ result ≡ related_{fn} ({fn}_tree left.now) (E.labels exchange.now) (E.pairs exchange.now) ({fn}_tree right.now) }}
 {{
 {first}    match left {{
 """ + ''.join(compare_arm(code, v, ctor, kinds) for v, ctor, kinds in variants) + "    }\n}\n")
     out.append("""
 #[cycle(related)]
 pub fn related_fields<E: Exchange>(left: &[FieldTerm], right: &[FieldTerm], exchange: &E) -> bool
-    ensures { result ≡ related_fields (list_tree left.now) (E.pairs exchange.now) (list_tree right.now) }
+    ensures { result ≡ related_fields (list_tree left.now) (E.labels exchange.now) (E.pairs exchange.now) (list_tree right.now) }
 {
     if left.len() != right.len() {
         return false;
@@ -470,15 +499,6 @@ UNM = {'L': 'fields'}
 
 def unm(c):
     return f"unmarked_{fn_of(c)}"
-
-
-def same_of(c):
-    return 'same_past' if c == 'P' else f"same_{fn_of(c)}"
-
-
-def same_at(c, n, m):
-    """The test of a part: labels around a formula on the right are passed first."""
-    return f"same_past {n} (past {m})" if c == 'P' else f"{same_of(c)} {n} {m}"
 
 
 def unmarked_file():
@@ -502,65 +522,18 @@ unfoldable mutual"""]
     return '\n'.join(out)
 
 
-def same_case(code, ctor, kinds, ns):
-    if ctor == 'mark':
-        return 'same_past a s'
-    ms = others(ns)
-    tests = [same_at(core(k), n, m) if is_part(k) else f"{EQUAL[core(k)]} {n} {m}" for k, n, m in zip(kinds, ns, ms)]
-    target = 's'
-    if not kinds:
-        return f"{ctor}_with {target}"
-    return f"{ctor}_with (λ {' '.join(ms)}. {' && '.join(tests)}) {target}"
-
-
-def same_specs():
-    out = [f"""-- The test of whether two trees are the same without their labels, as the code asks it.
-use Rattle.std.specs.Prelude.{{Bool, ◌&&◌, nat_eq}}
-use Rattle.std.specs.Ordering.{{int_eq}}
-use Rattle.jh_tree.specs.Tree.{{{TREES}}}
-use Rattle.jh_tree.specs.Tree as t
-use Rattle.jh_tree.specs.Passing.{{name_equal}}
-use Rattle.jh_compare.specs.Compared.{{{', '.join(f"{ctor}_with" for _, _, ctor, _, _ in all_ctors() if ctor != 'mark')}}}
-
--- the formula under the labels that stand around it
-unfoldable pub past : FormulaTree → FormulaTree
-past (t.mark k a) = past a
-past a = a
-
--- where both are formulas, no label stands around the second
-unfoldable mutual"""]
-    for code in ORDER + 'L':
-        f = same_of(code)
-        out.append(f"  pub {f} : {tree_type(code)} → {tree_type(code)} → Bool")
-        for c, variant, ctor, kinds, ns in all_ctors():
-            if c == code:
-                out.append(f"  {f} {apply('t.' + ctor, ns)} s = {same_case(code, ctor, kinds, ns)}")
-        out.append('')
-    return '\n'.join(out)
-
-
-def same_steps():
-    out = [f"""-- The test without labels at each constructor, and what it decides.
+def past_steps():
+    out = [f"""-- Comparing past labels is comparing the trees without labels.
 use Rattle.std.proofs.Common.{{◌≡◌, refl, sym, ap, ◌∙◌, ℕ, ℤ, Bool, true, false, ◌&&◌, nat_eq}}
 {HEAD}use Rattle.jh_tree.specs.declared.form.Formula.{{Formula}}
 use Rattle.jh_tree.specs.declared.form.Formula.TheVariants as formula
 use Rattle.std.specs.declared.boxed.Box.{{Box}}
 use Rattle.std.specs.declared.alloc.Global.{{Global}}
 use Rattle.jh_tree.specs.Bare.{{formula_tree}}
-use Rattle.jh_compare.specs.Compared.{{{with_names()}, {related_names()}}}
+use Rattle.jh_compare.specs.Compared.{{{with_names()}, {related_names()}, past}}
 use Rattle.jh_compare.specs.Exchanged.{{nothing}}
 use Rattle.jh_compare.specs.Unmarked.{{{', '.join(unm(c) for c in ORDER + 'L')}}}
-use Rattle.jh_compare.specs.Sameness.{{past, {', '.join(same_of(c) for c in ORDER + 'L')}}}
 """]
-    rules = []
-    for code, variant, ctor, kinds, ns in all_ctors():
-        f = same_of(code)
-        lemma = f"{f}-{ctor}"
-        rules.append(lemma)
-        sig = ''.join(f"({n} : {tree_of(k)}) " for k, n in zip(kinds, ns))
-        out.append(f"pub {lemma} : {sig}(s : {tree_type(code)}) → {f} {apply('t.' + ctor, ns)} s ≡ {same_case(code, ctor, kinds, ns)}")
-        out.append(f"unfolding {f}")
-        out.append(f"{call(lemma, ns)} s = refl\n")
     out.append("""pub past-mark : (k : Mark) (a : FormulaTree) → past (t.mark k a) ≡ past a
 unfolding past
 past-mark k a = refl
@@ -582,7 +555,7 @@ unfolding past formula_tree""")
             out.append(f"past-else {pat} n = absurd (n k (record {{ ptr = i.ptr; alloc = i.alloc; value = a }}) refl)")
         else:
             out.append(f"past-else {pat} n = refl")
-    out.append(f"\npub ruleset same_steps = ({', '.join(rules)}, past-mark, past-else)\n")
+    out.append("\npub ruleset past_steps = (past-mark, past-else)\n")
     # with at the unmarked tree
     for code, variant, ctor, kinds, ns in all_ctors():
         if ctor == 'mark':
@@ -612,20 +585,24 @@ unfolding past formula_tree""")
                 if c2 == code and ct2 != 'mark':
                     out.append(f"{lemma} {apply('t.' + ct2, n2)} = refl")
         out.append('')
-    out.append("mutual\n  unfolding " + ' '.join([same_of(c) for c in ORDER + 'L'] + [f"related_{fn_of(c)}" for c in ORDER + 'L'] + [unm(c) for c in ORDER + 'L']))
+    out.append("unmarked-past : (a : FormulaTree) → unmarked_formula (past a) ≡ unmarked_formula a\nunfolding past unmarked_formula")
+    for code, variant, ctor, kinds, ns in all_ctors():
+        if code == 'P':
+            out.append("unmarked-past (t.mark k a) = unmarked-past a" if ctor == 'mark' else f"unmarked-past {apply('t.' + ctor, ns)} = refl")
+    out.append("\nmutual\n  unfolding " + ' '.join([f"related_{fn_of(c)}" for c in ORDER + 'L'] + [unm(c) for c in ORDER + 'L']))
     for code in ORDER + 'L':
-        f = f"{same_of(code)}-related"
-        out.append(f"  pub {f} : (a s : {tree_type(code)}) → {same_at(code, 'a', 's')} ≡ related_{fn_of(code)} ({unm(code)} a) nothing ({unm(code)} s)")
+        f = f"{fn_of(code)}-past"
+        out.append(f"  pub {f} : (a s : {tree_type(code)}) → related_{fn_of(code)} a false nothing s ≡ related_{fn_of(code)} ({unm(code)} a) true nothing ({unm(code)} s)")
         for c, variant, ctor, kinds, ns in all_ctors():
             if c != code:
                 continue
             if ctor == 'mark':
-                out.append(f"  {f} (t.mark k a) s = {f} a s")
+                out.append(f"  {f} (t.mark k a) s = {f} a (past s) ∙ ap (λ z. related_formula (unmarked_formula a) true nothing z) (unmarked-past s)")
                 continue
             ms = others(ns)
-            one = [same_at(core(k), n, m) if is_part(k) else f"{EQUAL[core(k)]} {n} {m}" for k, n, m in zip(kinds, ns, ms)]
-            two = [f"related_{fn_of(core(k))} ({unm(core(k))} {n}) nothing {m}" if is_part(k) else f"{EQUAL[core(k)]} {n} {m}" for k, n, m in zip(kinds, ns, ms)]
-            go = [f"{same_of(core(k))}-related {n} {m} i" if is_part(k) else f"{EQUAL[core(k)]} {n} {m}" for k, n, m in zip(kinds, ns, ms)]
+            one = [f"related_{fn_of(core(k))} {n} false nothing {m}" if is_part(k) else f"{EQUAL[core(k)]} {n} {m}" for k, n, m in zip(kinds, ns, ms)]
+            two = [f"related_{fn_of(core(k))} ({unm(core(k))} {n}) true nothing {m}" if is_part(k) else f"{EQUAL[core(k)]} {n} {m}" for k, n, m in zip(kinds, ns, ms)]
+            go = [f"{fn_of(core(k))}-past {n} {m} i" if is_part(k) else f"{EQUAL[core(k)]} {n} {m}" for k, n, m in zip(kinds, ns, ms)]
             lam = ' '.join(ms)
             if kinds:
                 out.append(f"  {f} {apply('t.' + ctor, ns)} s = {ctor}_with-unmarked (λ {lam}. {' && '.join(one)}) (λ {lam}. {' && '.join(two)}) (λ {lam}. λ i. {' && '.join(go)}) s")
@@ -633,90 +610,6 @@ unfolding past formula_tree""")
                 out.append(f"  {f} t.{ctor} s = {ctor}_with-unmarked s")
         out.append('')
     return '\n'.join(out)
-
-
-def same_arm(code, variant, ctor, kinds):
-    rust = TYPES[code][0]
-    if ctor == 'mark':
-        return f"        {rust}::Mark(_, inner) => same_past(inner, right),\n"
-    nice = {'x': 'name', 'fs': 'fields'}
-    ns = ['number' if core(k) in 'uz' else nice.get(n, n) for k, n in zip(kinds, names(kinds))]
-    ms = ['other_' + n for n in ns]
-    pat = f"{rust}::{variant}" + (f"({', '.join(ns)})" if ns else '')
-    opat = f"{rust}::{variant}" + (f"({', '.join(ms)})" if ms else '')
-    tests = []
-    for k, n, m in zip(kinds, ns, ms):
-        c = core(k)
-        if c == 'L':
-            tests.append(f"same_fields({n}.items(), {m}.items())")
-        elif is_part(k):
-            tests.append(f"same_{fn_of(c)}({n}, {m})")
-        else:
-            tests.append(RUSTEQ[c].format(n, m))
-    good = ' && '.join(tests) if tests else 'true'
-    seen = 'right'
-    return f"        {pat} => match {seen} {{\n            {opat} => {good},\n            _ => false,\n        }},\n"
-
-
-def sameness():
-    out = ["""#![tactic(auto, using(jh_tree::proofs::Steps::tree_steps, crate::proofs::CompareSteps::here_steps, crate::proofs::CompareSteps::other_steps, crate::proofs::SameSteps::same_steps))]
-
-ghost use Rattle.std.specs.Prelude.{◌≡◌};
-ghost use Rattle.jh_tree.specs.Bare.{term_tree, int_tree, set_tree, field_tree, value_tree, formula_tree, list_tree};
-ghost use Rattle.jh_compare.specs.Sameness.{past, same_term, same_int, same_set, same_field, same_value, same_past, same_fields};
-
-use crate::numbers::numbers_are_one;
-use jh_subst::names_are_one;
-use jh_tree::{FieldTerm, Formula, IntTerm, SetTerm, Term, Value};
-
-/// The formula under the labels that stand around it.
-fn past_marks(formula: &Formula) -> &Formula
-    ensures { formula_tree result.now ≡ past (formula_tree formula.now) }
-{
-    match formula {
-        Formula::Mark(_, inner) => past_marks(inner),
-        _ => formula,
-    }
-}
-"""]
-    for code in ORDER:
-        rust, tree, fn, variants = TYPES[code]
-        if code == 'P':
-            out.append("""
-/// Whether two formulas are the same without their labels.
-#[cycle(same)]
-pub fn same_formula(left: &Formula, right: &Formula) -> bool
-    ensures { result ≡ same_past (formula_tree left.now) (past (formula_tree right.now)) }
-{
-    same_past(left, past_marks(right))
-}
-""")
-        out.append(f"""
-#[cycle(same)]
-{'' if code == 'P' else 'pub '}fn {same_of(code)}(left: &{rust}, right: &{rust}) -> bool
-    ensures {{ result ≡ {same_of(code)} ({fn}_tree left.now) ({fn}_tree right.now) }}
-{{
-    match left {{
-""" + ''.join(same_arm(code, v, ctor, kinds) for v, ctor, kinds in variants) + "    }\n}\n")
-    out.append("""
-#[cycle(same)]
-pub fn same_fields(left: &[FieldTerm], right: &[FieldTerm]) -> bool
-    ensures { result ≡ same_fields (list_tree left.now) (list_tree right.now) }
-{
-    if left.len() != right.len() {
-        return false;
-    }
-    for place in 0..left.len() {
-        if !same_field(&left[place], &right[place]) {
-            return false;
-        }
-    }
-    true
-}
-""")
-    return ''.join(out)
-
-
 
 
 # what a tree with exchanged parts means, where the parts of a constructor do not all mean the very same
@@ -845,7 +738,5 @@ if __name__ == '__main__':
     open(f'{base}/proofs/Decisions.antt', 'w').write(decides_file())
     open(f'{base}/src/comparing.rt', 'w').write(comparing())
     open(f'{base}/specs/Unmarked.antt', 'w').write(unmarked_file())
-    open(f'{base}/specs/Sameness.antt', 'w').write(same_specs())
-    open(f'{base}/proofs/SameSteps.antt', 'w').write(same_steps())
-    open(f'{base}/src/sameness.rt', 'w').write(sameness())
+    open(f'{base}/proofs/PastSteps.antt', 'w').write(past_steps())
     open(f'{base}/proofs/ExchangeMeanings.antt', 'w').write(exchange_meanings())

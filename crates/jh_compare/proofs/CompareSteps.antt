@@ -25,427 +25,427 @@ use Rattle.jh_tree.specs.declared.form.FieldTerm.TheBlock.{shown-the_row-FieldTe
 use Rattle.std.specs.declared.boxed.Box.{Box}
 use Rattle.std.specs.declared.alloc.Global.{Global}
 use Rattle.jh_tree.specs.Bare.{term_tree, int_tree, set_tree, field_tree, value_tree, formula_tree}
-use Rattle.jh_compare.specs.Compared.{bound_with, free_object_with, null_with, read_object_with, const_with, free_number_with, read_number_with, add_with, sub_with, neg_with, scale_with, card_with, free_set_with, read_set_with, empty_with, univ_with, single_with, union_with, inter_with, diff_with, compl_with, compr_with, free_field_with, update_with, of_object_with, of_number_with, of_truth_with, of_set_with, of_field_with, true_formula_with, false_formula_with, free_truth_with, read_truth_with, negation_with, and_with, or_with, implies_with, iff_with, all_with, ex_with, eq_object_with, eq_number_with, eq_set_with, less_with, less_equal_with, divides_with, member_with, subset_with, reach_with, tree_with, mark_with, none_with, more_with, related_term, related_int, related_set, related_field, related_value, related_formula, related_fields}
+use Rattle.jh_compare.specs.Compared.{bound_with, free_object_with, null_with, read_object_with, const_with, free_number_with, read_number_with, add_with, sub_with, neg_with, scale_with, card_with, free_set_with, read_set_with, empty_with, univ_with, single_with, union_with, inter_with, diff_with, compl_with, compr_with, free_field_with, update_with, of_object_with, of_number_with, of_truth_with, of_set_with, of_field_with, true_formula_with, false_formula_with, free_truth_with, read_truth_with, negation_with, and_with, or_with, implies_with, iff_with, all_with, ex_with, eq_object_with, eq_number_with, eq_set_with, less_with, less_equal_with, divides_with, member_with, subset_with, reach_with, tree_with, mark_with, none_with, more_with, related_term, related_int, related_set, related_field, related_value, related_formula, related_fields, seen, by_labels}
 
-pub related_term-bound : (k : ℕ) (p : ValueTree → ValueTree → Bool) (s : TermTree) → related_term (t.bound k) p s ≡ (p (t.of_object (t.bound k)) (t.of_object s) || bound_with (λ k'. nat_eq k k') s)
+pub related_term-bound : (k : ℕ) (w : Bool) (p : ValueTree → ValueTree → Bool) (s : TermTree) → related_term (t.bound k) w p s ≡ (p (t.of_object (t.bound k)) (t.of_object s) || bound_with (λ k'. nat_eq k k') s)
 unfolding related_term
-related_term-bound k p s = refl
+related_term-bound k w p s = refl
 
 pub bound_with-here : (q : ℕ → Bool) (k : ℕ) → bound_with q (t.bound k) ≡ q k
 unfolding bound_with
 bound_with-here q k = refl
 
-pub related_term-free_object : (x : Name) (p : ValueTree → ValueTree → Bool) (s : TermTree) → related_term (t.free_object x) p s ≡ (p (t.of_object (t.free_object x)) (t.of_object s) || free_object_with (λ x'. name_equal x x') s)
+pub related_term-free_object : (x : Name) (w : Bool) (p : ValueTree → ValueTree → Bool) (s : TermTree) → related_term (t.free_object x) w p s ≡ (p (t.of_object (t.free_object x)) (t.of_object s) || free_object_with (λ x'. name_equal x x') s)
 unfolding related_term
-related_term-free_object x p s = refl
+related_term-free_object x w p s = refl
 
 pub free_object_with-here : (q : Name → Bool) (x : Name) → free_object_with q (t.free_object x) ≡ q x
 unfolding free_object_with
 free_object_with-here q x = refl
 
-pub related_term-null : (p : ValueTree → ValueTree → Bool) (s : TermTree) → related_term t.null p s ≡ (p (t.of_object t.null) (t.of_object s) || null_with s)
+pub related_term-null : (w : Bool) (p : ValueTree → ValueTree → Bool) (s : TermTree) → related_term t.null w p s ≡ (p (t.of_object t.null) (t.of_object s) || null_with s)
 unfolding related_term
-related_term-null p s = refl
+related_term-null w p s = refl
 
 pub null_with-here : null_with t.null ≡ true
 unfolding null_with
 null_with-here = refl
 
-pub related_term-read_object : (a : FieldTree) (b : TermTree) (p : ValueTree → ValueTree → Bool) (s : TermTree) → related_term (t.read_object a b) p s ≡ (p (t.of_object (t.read_object a b)) (t.of_object s) || read_object_with (λ a' b'. related_field a p a' && related_term b p b') s)
+pub related_term-read_object : (a : FieldTree) (b : TermTree) (w : Bool) (p : ValueTree → ValueTree → Bool) (s : TermTree) → related_term (t.read_object a b) w p s ≡ (p (t.of_object (t.read_object a b)) (t.of_object s) || read_object_with (λ a' b'. related_field a w p a' && related_term b w p b') s)
 unfolding related_term
-related_term-read_object a b p s = refl
+related_term-read_object a b w p s = refl
 
 pub read_object_with-here : (q : FieldTree → TermTree → Bool) (a : FieldTree) (b : TermTree) → read_object_with q (t.read_object a b) ≡ q a b
 unfolding read_object_with
 read_object_with-here q a b = refl
 
-pub related_int-const : (z : ℤ) (p : ValueTree → ValueTree → Bool) (s : IntTree) → related_int (t.const z) p s ≡ (p (t.of_number (t.const z)) (t.of_number s) || const_with (λ z'. int_eq z z') s)
+pub related_int-const : (z : ℤ) (w : Bool) (p : ValueTree → ValueTree → Bool) (s : IntTree) → related_int (t.const z) w p s ≡ (p (t.of_number (t.const z)) (t.of_number s) || const_with (λ z'. int_eq z z') s)
 unfolding related_int
-related_int-const z p s = refl
+related_int-const z w p s = refl
 
 pub const_with-here : (q : ℤ → Bool) (z : ℤ) → const_with q (t.const z) ≡ q z
 unfolding const_with
 const_with-here q z = refl
 
-pub related_int-free_number : (x : Name) (p : ValueTree → ValueTree → Bool) (s : IntTree) → related_int (t.free_number x) p s ≡ (p (t.of_number (t.free_number x)) (t.of_number s) || free_number_with (λ x'. name_equal x x') s)
+pub related_int-free_number : (x : Name) (w : Bool) (p : ValueTree → ValueTree → Bool) (s : IntTree) → related_int (t.free_number x) w p s ≡ (p (t.of_number (t.free_number x)) (t.of_number s) || free_number_with (λ x'. name_equal x x') s)
 unfolding related_int
-related_int-free_number x p s = refl
+related_int-free_number x w p s = refl
 
 pub free_number_with-here : (q : Name → Bool) (x : Name) → free_number_with q (t.free_number x) ≡ q x
 unfolding free_number_with
 free_number_with-here q x = refl
 
-pub related_int-read_number : (a : FieldTree) (b : TermTree) (p : ValueTree → ValueTree → Bool) (s : IntTree) → related_int (t.read_number a b) p s ≡ (p (t.of_number (t.read_number a b)) (t.of_number s) || read_number_with (λ a' b'. related_field a p a' && related_term b p b') s)
+pub related_int-read_number : (a : FieldTree) (b : TermTree) (w : Bool) (p : ValueTree → ValueTree → Bool) (s : IntTree) → related_int (t.read_number a b) w p s ≡ (p (t.of_number (t.read_number a b)) (t.of_number s) || read_number_with (λ a' b'. related_field a w p a' && related_term b w p b') s)
 unfolding related_int
-related_int-read_number a b p s = refl
+related_int-read_number a b w p s = refl
 
 pub read_number_with-here : (q : FieldTree → TermTree → Bool) (a : FieldTree) (b : TermTree) → read_number_with q (t.read_number a b) ≡ q a b
 unfolding read_number_with
 read_number_with-here q a b = refl
 
-pub related_int-add : (a : IntTree) (b : IntTree) (p : ValueTree → ValueTree → Bool) (s : IntTree) → related_int (t.add a b) p s ≡ (p (t.of_number (t.add a b)) (t.of_number s) || add_with (λ a' b'. related_int a p a' && related_int b p b') s)
+pub related_int-add : (a : IntTree) (b : IntTree) (w : Bool) (p : ValueTree → ValueTree → Bool) (s : IntTree) → related_int (t.add a b) w p s ≡ (p (t.of_number (t.add a b)) (t.of_number s) || add_with (λ a' b'. related_int a w p a' && related_int b w p b') s)
 unfolding related_int
-related_int-add a b p s = refl
+related_int-add a b w p s = refl
 
 pub add_with-here : (q : IntTree → IntTree → Bool) (a : IntTree) (b : IntTree) → add_with q (t.add a b) ≡ q a b
 unfolding add_with
 add_with-here q a b = refl
 
-pub related_int-sub : (a : IntTree) (b : IntTree) (p : ValueTree → ValueTree → Bool) (s : IntTree) → related_int (t.sub a b) p s ≡ (p (t.of_number (t.sub a b)) (t.of_number s) || sub_with (λ a' b'. related_int a p a' && related_int b p b') s)
+pub related_int-sub : (a : IntTree) (b : IntTree) (w : Bool) (p : ValueTree → ValueTree → Bool) (s : IntTree) → related_int (t.sub a b) w p s ≡ (p (t.of_number (t.sub a b)) (t.of_number s) || sub_with (λ a' b'. related_int a w p a' && related_int b w p b') s)
 unfolding related_int
-related_int-sub a b p s = refl
+related_int-sub a b w p s = refl
 
 pub sub_with-here : (q : IntTree → IntTree → Bool) (a : IntTree) (b : IntTree) → sub_with q (t.sub a b) ≡ q a b
 unfolding sub_with
 sub_with-here q a b = refl
 
-pub related_int-neg : (a : IntTree) (p : ValueTree → ValueTree → Bool) (s : IntTree) → related_int (t.neg a) p s ≡ (p (t.of_number (t.neg a)) (t.of_number s) || neg_with (λ a'. related_int a p a') s)
+pub related_int-neg : (a : IntTree) (w : Bool) (p : ValueTree → ValueTree → Bool) (s : IntTree) → related_int (t.neg a) w p s ≡ (p (t.of_number (t.neg a)) (t.of_number s) || neg_with (λ a'. related_int a w p a') s)
 unfolding related_int
-related_int-neg a p s = refl
+related_int-neg a w p s = refl
 
 pub neg_with-here : (q : IntTree → Bool) (a : IntTree) → neg_with q (t.neg a) ≡ q a
 unfolding neg_with
 neg_with-here q a = refl
 
-pub related_int-scale : (z : ℤ) (a : IntTree) (p : ValueTree → ValueTree → Bool) (s : IntTree) → related_int (t.scale z a) p s ≡ (p (t.of_number (t.scale z a)) (t.of_number s) || scale_with (λ z' a'. int_eq z z' && related_int a p a') s)
+pub related_int-scale : (z : ℤ) (a : IntTree) (w : Bool) (p : ValueTree → ValueTree → Bool) (s : IntTree) → related_int (t.scale z a) w p s ≡ (p (t.of_number (t.scale z a)) (t.of_number s) || scale_with (λ z' a'. int_eq z z' && related_int a w p a') s)
 unfolding related_int
-related_int-scale z a p s = refl
+related_int-scale z a w p s = refl
 
 pub scale_with-here : (q : ℤ → IntTree → Bool) (z : ℤ) (a : IntTree) → scale_with q (t.scale z a) ≡ q z a
 unfolding scale_with
 scale_with-here q z a = refl
 
-pub related_int-card : (a : SetTree) (p : ValueTree → ValueTree → Bool) (s : IntTree) → related_int (t.card a) p s ≡ (p (t.of_number (t.card a)) (t.of_number s) || card_with (λ a'. related_set a p a') s)
+pub related_int-card : (a : SetTree) (w : Bool) (p : ValueTree → ValueTree → Bool) (s : IntTree) → related_int (t.card a) w p s ≡ (p (t.of_number (t.card a)) (t.of_number s) || card_with (λ a'. related_set a w p a') s)
 unfolding related_int
-related_int-card a p s = refl
+related_int-card a w p s = refl
 
 pub card_with-here : (q : SetTree → Bool) (a : SetTree) → card_with q (t.card a) ≡ q a
 unfolding card_with
 card_with-here q a = refl
 
-pub related_set-free_set : (x : Name) (p : ValueTree → ValueTree → Bool) (s : SetTree) → related_set (t.free_set x) p s ≡ (p (t.of_set (t.free_set x)) (t.of_set s) || free_set_with (λ x'. name_equal x x') s)
+pub related_set-free_set : (x : Name) (w : Bool) (p : ValueTree → ValueTree → Bool) (s : SetTree) → related_set (t.free_set x) w p s ≡ (p (t.of_set (t.free_set x)) (t.of_set s) || free_set_with (λ x'. name_equal x x') s)
 unfolding related_set
-related_set-free_set x p s = refl
+related_set-free_set x w p s = refl
 
 pub free_set_with-here : (q : Name → Bool) (x : Name) → free_set_with q (t.free_set x) ≡ q x
 unfolding free_set_with
 free_set_with-here q x = refl
 
-pub related_set-read_set : (a : FieldTree) (b : TermTree) (p : ValueTree → ValueTree → Bool) (s : SetTree) → related_set (t.read_set a b) p s ≡ (p (t.of_set (t.read_set a b)) (t.of_set s) || read_set_with (λ a' b'. related_field a p a' && related_term b p b') s)
+pub related_set-read_set : (a : FieldTree) (b : TermTree) (w : Bool) (p : ValueTree → ValueTree → Bool) (s : SetTree) → related_set (t.read_set a b) w p s ≡ (p (t.of_set (t.read_set a b)) (t.of_set s) || read_set_with (λ a' b'. related_field a w p a' && related_term b w p b') s)
 unfolding related_set
-related_set-read_set a b p s = refl
+related_set-read_set a b w p s = refl
 
 pub read_set_with-here : (q : FieldTree → TermTree → Bool) (a : FieldTree) (b : TermTree) → read_set_with q (t.read_set a b) ≡ q a b
 unfolding read_set_with
 read_set_with-here q a b = refl
 
-pub related_set-empty : (p : ValueTree → ValueTree → Bool) (s : SetTree) → related_set t.empty p s ≡ (p (t.of_set t.empty) (t.of_set s) || empty_with s)
+pub related_set-empty : (w : Bool) (p : ValueTree → ValueTree → Bool) (s : SetTree) → related_set t.empty w p s ≡ (p (t.of_set t.empty) (t.of_set s) || empty_with s)
 unfolding related_set
-related_set-empty p s = refl
+related_set-empty w p s = refl
 
 pub empty_with-here : empty_with t.empty ≡ true
 unfolding empty_with
 empty_with-here = refl
 
-pub related_set-univ : (p : ValueTree → ValueTree → Bool) (s : SetTree) → related_set t.univ p s ≡ (p (t.of_set t.univ) (t.of_set s) || univ_with s)
+pub related_set-univ : (w : Bool) (p : ValueTree → ValueTree → Bool) (s : SetTree) → related_set t.univ w p s ≡ (p (t.of_set t.univ) (t.of_set s) || univ_with s)
 unfolding related_set
-related_set-univ p s = refl
+related_set-univ w p s = refl
 
 pub univ_with-here : univ_with t.univ ≡ true
 unfolding univ_with
 univ_with-here = refl
 
-pub related_set-single : (a : TermTree) (p : ValueTree → ValueTree → Bool) (s : SetTree) → related_set (t.single a) p s ≡ (p (t.of_set (t.single a)) (t.of_set s) || single_with (λ a'. related_term a p a') s)
+pub related_set-single : (a : TermTree) (w : Bool) (p : ValueTree → ValueTree → Bool) (s : SetTree) → related_set (t.single a) w p s ≡ (p (t.of_set (t.single a)) (t.of_set s) || single_with (λ a'. related_term a w p a') s)
 unfolding related_set
-related_set-single a p s = refl
+related_set-single a w p s = refl
 
 pub single_with-here : (q : TermTree → Bool) (a : TermTree) → single_with q (t.single a) ≡ q a
 unfolding single_with
 single_with-here q a = refl
 
-pub related_set-union : (a : SetTree) (b : SetTree) (p : ValueTree → ValueTree → Bool) (s : SetTree) → related_set (t.union a b) p s ≡ (p (t.of_set (t.union a b)) (t.of_set s) || union_with (λ a' b'. related_set a p a' && related_set b p b') s)
+pub related_set-union : (a : SetTree) (b : SetTree) (w : Bool) (p : ValueTree → ValueTree → Bool) (s : SetTree) → related_set (t.union a b) w p s ≡ (p (t.of_set (t.union a b)) (t.of_set s) || union_with (λ a' b'. related_set a w p a' && related_set b w p b') s)
 unfolding related_set
-related_set-union a b p s = refl
+related_set-union a b w p s = refl
 
 pub union_with-here : (q : SetTree → SetTree → Bool) (a : SetTree) (b : SetTree) → union_with q (t.union a b) ≡ q a b
 unfolding union_with
 union_with-here q a b = refl
 
-pub related_set-inter : (a : SetTree) (b : SetTree) (p : ValueTree → ValueTree → Bool) (s : SetTree) → related_set (t.inter a b) p s ≡ (p (t.of_set (t.inter a b)) (t.of_set s) || inter_with (λ a' b'. related_set a p a' && related_set b p b') s)
+pub related_set-inter : (a : SetTree) (b : SetTree) (w : Bool) (p : ValueTree → ValueTree → Bool) (s : SetTree) → related_set (t.inter a b) w p s ≡ (p (t.of_set (t.inter a b)) (t.of_set s) || inter_with (λ a' b'. related_set a w p a' && related_set b w p b') s)
 unfolding related_set
-related_set-inter a b p s = refl
+related_set-inter a b w p s = refl
 
 pub inter_with-here : (q : SetTree → SetTree → Bool) (a : SetTree) (b : SetTree) → inter_with q (t.inter a b) ≡ q a b
 unfolding inter_with
 inter_with-here q a b = refl
 
-pub related_set-diff : (a : SetTree) (b : SetTree) (p : ValueTree → ValueTree → Bool) (s : SetTree) → related_set (t.diff a b) p s ≡ (p (t.of_set (t.diff a b)) (t.of_set s) || diff_with (λ a' b'. related_set a p a' && related_set b p b') s)
+pub related_set-diff : (a : SetTree) (b : SetTree) (w : Bool) (p : ValueTree → ValueTree → Bool) (s : SetTree) → related_set (t.diff a b) w p s ≡ (p (t.of_set (t.diff a b)) (t.of_set s) || diff_with (λ a' b'. related_set a w p a' && related_set b w p b') s)
 unfolding related_set
-related_set-diff a b p s = refl
+related_set-diff a b w p s = refl
 
 pub diff_with-here : (q : SetTree → SetTree → Bool) (a : SetTree) (b : SetTree) → diff_with q (t.diff a b) ≡ q a b
 unfolding diff_with
 diff_with-here q a b = refl
 
-pub related_set-compl : (a : SetTree) (p : ValueTree → ValueTree → Bool) (s : SetTree) → related_set (t.compl a) p s ≡ (p (t.of_set (t.compl a)) (t.of_set s) || compl_with (λ a'. related_set a p a') s)
+pub related_set-compl : (a : SetTree) (w : Bool) (p : ValueTree → ValueTree → Bool) (s : SetTree) → related_set (t.compl a) w p s ≡ (p (t.of_set (t.compl a)) (t.of_set s) || compl_with (λ a'. related_set a w p a') s)
 unfolding related_set
-related_set-compl a p s = refl
+related_set-compl a w p s = refl
 
 pub compl_with-here : (q : SetTree → Bool) (a : SetTree) → compl_with q (t.compl a) ≡ q a
 unfolding compl_with
 compl_with-here q a = refl
 
-pub related_set-compr : (a : FormulaTree) (p : ValueTree → ValueTree → Bool) (s : SetTree) → related_set (t.compr a) p s ≡ (p (t.of_set (t.compr a)) (t.of_set s) || compr_with (λ a'. related_formula a p a') s)
+pub related_set-compr : (a : FormulaTree) (w : Bool) (p : ValueTree → ValueTree → Bool) (s : SetTree) → related_set (t.compr a) w p s ≡ (p (t.of_set (t.compr a)) (t.of_set s) || compr_with (λ a'. related_formula a w p a') s)
 unfolding related_set
-related_set-compr a p s = refl
+related_set-compr a w p s = refl
 
 pub compr_with-here : (q : FormulaTree → Bool) (a : FormulaTree) → compr_with q (t.compr a) ≡ q a
 unfolding compr_with
 compr_with-here q a = refl
 
-pub related_field-free_field : (x : Name) (p : ValueTree → ValueTree → Bool) (s : FieldTree) → related_field (t.free_field x) p s ≡ (p (t.of_field (t.free_field x)) (t.of_field s) || free_field_with (λ x'. name_equal x x') s)
+pub related_field-free_field : (x : Name) (w : Bool) (p : ValueTree → ValueTree → Bool) (s : FieldTree) → related_field (t.free_field x) w p s ≡ (p (t.of_field (t.free_field x)) (t.of_field s) || free_field_with (λ x'. name_equal x x') s)
 unfolding related_field
-related_field-free_field x p s = refl
+related_field-free_field x w p s = refl
 
 pub free_field_with-here : (q : Name → Bool) (x : Name) → free_field_with q (t.free_field x) ≡ q x
 unfolding free_field_with
 free_field_with-here q x = refl
 
-pub related_field-update : (a : FieldTree) (b : TermTree) (c : ValueTree) (p : ValueTree → ValueTree → Bool) (s : FieldTree) → related_field (t.update a b c) p s ≡ (p (t.of_field (t.update a b c)) (t.of_field s) || update_with (λ a' b' c'. related_field a p a' && related_term b p b' && related_value c p c') s)
+pub related_field-update : (a : FieldTree) (b : TermTree) (c : ValueTree) (w : Bool) (p : ValueTree → ValueTree → Bool) (s : FieldTree) → related_field (t.update a b c) w p s ≡ (p (t.of_field (t.update a b c)) (t.of_field s) || update_with (λ a' b' c'. related_field a w p a' && related_term b w p b' && related_value c w p c') s)
 unfolding related_field
-related_field-update a b c p s = refl
+related_field-update a b c w p s = refl
 
 pub update_with-here : (q : FieldTree → TermTree → ValueTree → Bool) (a : FieldTree) (b : TermTree) (c : ValueTree) → update_with q (t.update a b c) ≡ q a b c
 unfolding update_with
 update_with-here q a b c = refl
 
-pub related_value-of_object : (a : TermTree) (p : ValueTree → ValueTree → Bool) (s : ValueTree) → related_value (t.of_object a) p s ≡ (of_object_with (λ a'. related_term a p a') s)
+pub related_value-of_object : (a : TermTree) (w : Bool) (p : ValueTree → ValueTree → Bool) (s : ValueTree) → related_value (t.of_object a) w p s ≡ (of_object_with (λ a'. related_term a w p a') s)
 unfolding related_value
-related_value-of_object a p s = refl
+related_value-of_object a w p s = refl
 
 pub of_object_with-here : (q : TermTree → Bool) (a : TermTree) → of_object_with q (t.of_object a) ≡ q a
 unfolding of_object_with
 of_object_with-here q a = refl
 
-pub related_value-of_number : (a : IntTree) (p : ValueTree → ValueTree → Bool) (s : ValueTree) → related_value (t.of_number a) p s ≡ (of_number_with (λ a'. related_int a p a') s)
+pub related_value-of_number : (a : IntTree) (w : Bool) (p : ValueTree → ValueTree → Bool) (s : ValueTree) → related_value (t.of_number a) w p s ≡ (of_number_with (λ a'. related_int a w p a') s)
 unfolding related_value
-related_value-of_number a p s = refl
+related_value-of_number a w p s = refl
 
 pub of_number_with-here : (q : IntTree → Bool) (a : IntTree) → of_number_with q (t.of_number a) ≡ q a
 unfolding of_number_with
 of_number_with-here q a = refl
 
-pub related_value-of_truth : (a : FormulaTree) (p : ValueTree → ValueTree → Bool) (s : ValueTree) → related_value (t.of_truth a) p s ≡ (of_truth_with (λ a'. related_formula a p a') s)
+pub related_value-of_truth : (a : FormulaTree) (w : Bool) (p : ValueTree → ValueTree → Bool) (s : ValueTree) → related_value (t.of_truth a) w p s ≡ (of_truth_with (λ a'. related_formula a w p a') s)
 unfolding related_value
-related_value-of_truth a p s = refl
+related_value-of_truth a w p s = refl
 
 pub of_truth_with-here : (q : FormulaTree → Bool) (a : FormulaTree) → of_truth_with q (t.of_truth a) ≡ q a
 unfolding of_truth_with
 of_truth_with-here q a = refl
 
-pub related_value-of_set : (a : SetTree) (p : ValueTree → ValueTree → Bool) (s : ValueTree) → related_value (t.of_set a) p s ≡ (of_set_with (λ a'. related_set a p a') s)
+pub related_value-of_set : (a : SetTree) (w : Bool) (p : ValueTree → ValueTree → Bool) (s : ValueTree) → related_value (t.of_set a) w p s ≡ (of_set_with (λ a'. related_set a w p a') s)
 unfolding related_value
-related_value-of_set a p s = refl
+related_value-of_set a w p s = refl
 
 pub of_set_with-here : (q : SetTree → Bool) (a : SetTree) → of_set_with q (t.of_set a) ≡ q a
 unfolding of_set_with
 of_set_with-here q a = refl
 
-pub related_value-of_field : (a : FieldTree) (p : ValueTree → ValueTree → Bool) (s : ValueTree) → related_value (t.of_field a) p s ≡ (of_field_with (λ a'. related_field a p a') s)
+pub related_value-of_field : (a : FieldTree) (w : Bool) (p : ValueTree → ValueTree → Bool) (s : ValueTree) → related_value (t.of_field a) w p s ≡ (of_field_with (λ a'. related_field a w p a') s)
 unfolding related_value
-related_value-of_field a p s = refl
+related_value-of_field a w p s = refl
 
 pub of_field_with-here : (q : FieldTree → Bool) (a : FieldTree) → of_field_with q (t.of_field a) ≡ q a
 unfolding of_field_with
 of_field_with-here q a = refl
 
-pub related_formula-true_formula : (p : ValueTree → ValueTree → Bool) (s : FormulaTree) → related_formula t.true_formula p s ≡ (p (t.of_truth t.true_formula) (t.of_truth s) || true_formula_with s)
+pub related_formula-true_formula : (w : Bool) (p : ValueTree → ValueTree → Bool) (s : FormulaTree) → related_formula t.true_formula w p s ≡ (p (t.of_truth t.true_formula) (t.of_truth s) || true_formula_with (seen w s))
 unfolding related_formula
-related_formula-true_formula p s = refl
+related_formula-true_formula w p s = refl
 
 pub true_formula_with-here : true_formula_with t.true_formula ≡ true
 unfolding true_formula_with
 true_formula_with-here = refl
 
-pub related_formula-false_formula : (p : ValueTree → ValueTree → Bool) (s : FormulaTree) → related_formula t.false_formula p s ≡ (p (t.of_truth t.false_formula) (t.of_truth s) || false_formula_with s)
+pub related_formula-false_formula : (w : Bool) (p : ValueTree → ValueTree → Bool) (s : FormulaTree) → related_formula t.false_formula w p s ≡ (p (t.of_truth t.false_formula) (t.of_truth s) || false_formula_with (seen w s))
 unfolding related_formula
-related_formula-false_formula p s = refl
+related_formula-false_formula w p s = refl
 
 pub false_formula_with-here : false_formula_with t.false_formula ≡ true
 unfolding false_formula_with
 false_formula_with-here = refl
 
-pub related_formula-free_truth : (x : Name) (p : ValueTree → ValueTree → Bool) (s : FormulaTree) → related_formula (t.free_truth x) p s ≡ (p (t.of_truth (t.free_truth x)) (t.of_truth s) || free_truth_with (λ x'. name_equal x x') s)
+pub related_formula-free_truth : (x : Name) (w : Bool) (p : ValueTree → ValueTree → Bool) (s : FormulaTree) → related_formula (t.free_truth x) w p s ≡ (p (t.of_truth (t.free_truth x)) (t.of_truth s) || free_truth_with (λ x'. name_equal x x') (seen w s))
 unfolding related_formula
-related_formula-free_truth x p s = refl
+related_formula-free_truth x w p s = refl
 
 pub free_truth_with-here : (q : Name → Bool) (x : Name) → free_truth_with q (t.free_truth x) ≡ q x
 unfolding free_truth_with
 free_truth_with-here q x = refl
 
-pub related_formula-read_truth : (a : FieldTree) (b : TermTree) (p : ValueTree → ValueTree → Bool) (s : FormulaTree) → related_formula (t.read_truth a b) p s ≡ (p (t.of_truth (t.read_truth a b)) (t.of_truth s) || read_truth_with (λ a' b'. related_field a p a' && related_term b p b') s)
+pub related_formula-read_truth : (a : FieldTree) (b : TermTree) (w : Bool) (p : ValueTree → ValueTree → Bool) (s : FormulaTree) → related_formula (t.read_truth a b) w p s ≡ (p (t.of_truth (t.read_truth a b)) (t.of_truth s) || read_truth_with (λ a' b'. related_field a w p a' && related_term b w p b') (seen w s))
 unfolding related_formula
-related_formula-read_truth a b p s = refl
+related_formula-read_truth a b w p s = refl
 
 pub read_truth_with-here : (q : FieldTree → TermTree → Bool) (a : FieldTree) (b : TermTree) → read_truth_with q (t.read_truth a b) ≡ q a b
 unfolding read_truth_with
 read_truth_with-here q a b = refl
 
-pub related_formula-negation : (a : FormulaTree) (p : ValueTree → ValueTree → Bool) (s : FormulaTree) → related_formula (t.negation a) p s ≡ (p (t.of_truth (t.negation a)) (t.of_truth s) || negation_with (λ a'. related_formula a p a') s)
+pub related_formula-negation : (a : FormulaTree) (w : Bool) (p : ValueTree → ValueTree → Bool) (s : FormulaTree) → related_formula (t.negation a) w p s ≡ (p (t.of_truth (t.negation a)) (t.of_truth s) || negation_with (λ a'. related_formula a w p a') (seen w s))
 unfolding related_formula
-related_formula-negation a p s = refl
+related_formula-negation a w p s = refl
 
 pub negation_with-here : (q : FormulaTree → Bool) (a : FormulaTree) → negation_with q (t.negation a) ≡ q a
 unfolding negation_with
 negation_with-here q a = refl
 
-pub related_formula-and : (a : FormulaTree) (b : FormulaTree) (p : ValueTree → ValueTree → Bool) (s : FormulaTree) → related_formula (t.and a b) p s ≡ (p (t.of_truth (t.and a b)) (t.of_truth s) || and_with (λ a' b'. related_formula a p a' && related_formula b p b') s)
+pub related_formula-and : (a : FormulaTree) (b : FormulaTree) (w : Bool) (p : ValueTree → ValueTree → Bool) (s : FormulaTree) → related_formula (t.and a b) w p s ≡ (p (t.of_truth (t.and a b)) (t.of_truth s) || and_with (λ a' b'. related_formula a w p a' && related_formula b w p b') (seen w s))
 unfolding related_formula
-related_formula-and a b p s = refl
+related_formula-and a b w p s = refl
 
 pub and_with-here : (q : FormulaTree → FormulaTree → Bool) (a : FormulaTree) (b : FormulaTree) → and_with q (t.and a b) ≡ q a b
 unfolding and_with
 and_with-here q a b = refl
 
-pub related_formula-or : (a : FormulaTree) (b : FormulaTree) (p : ValueTree → ValueTree → Bool) (s : FormulaTree) → related_formula (t.or a b) p s ≡ (p (t.of_truth (t.or a b)) (t.of_truth s) || or_with (λ a' b'. related_formula a p a' && related_formula b p b') s)
+pub related_formula-or : (a : FormulaTree) (b : FormulaTree) (w : Bool) (p : ValueTree → ValueTree → Bool) (s : FormulaTree) → related_formula (t.or a b) w p s ≡ (p (t.of_truth (t.or a b)) (t.of_truth s) || or_with (λ a' b'. related_formula a w p a' && related_formula b w p b') (seen w s))
 unfolding related_formula
-related_formula-or a b p s = refl
+related_formula-or a b w p s = refl
 
 pub or_with-here : (q : FormulaTree → FormulaTree → Bool) (a : FormulaTree) (b : FormulaTree) → or_with q (t.or a b) ≡ q a b
 unfolding or_with
 or_with-here q a b = refl
 
-pub related_formula-implies : (a : FormulaTree) (b : FormulaTree) (p : ValueTree → ValueTree → Bool) (s : FormulaTree) → related_formula (t.implies a b) p s ≡ (p (t.of_truth (t.implies a b)) (t.of_truth s) || implies_with (λ a' b'. related_formula a p a' && related_formula b p b') s)
+pub related_formula-implies : (a : FormulaTree) (b : FormulaTree) (w : Bool) (p : ValueTree → ValueTree → Bool) (s : FormulaTree) → related_formula (t.implies a b) w p s ≡ (p (t.of_truth (t.implies a b)) (t.of_truth s) || implies_with (λ a' b'. related_formula a w p a' && related_formula b w p b') (seen w s))
 unfolding related_formula
-related_formula-implies a b p s = refl
+related_formula-implies a b w p s = refl
 
 pub implies_with-here : (q : FormulaTree → FormulaTree → Bool) (a : FormulaTree) (b : FormulaTree) → implies_with q (t.implies a b) ≡ q a b
 unfolding implies_with
 implies_with-here q a b = refl
 
-pub related_formula-iff : (a : FormulaTree) (b : FormulaTree) (p : ValueTree → ValueTree → Bool) (s : FormulaTree) → related_formula (t.iff a b) p s ≡ (p (t.of_truth (t.iff a b)) (t.of_truth s) || iff_with (λ a' b'. related_formula a p a' && related_formula b p b') s)
+pub related_formula-iff : (a : FormulaTree) (b : FormulaTree) (w : Bool) (p : ValueTree → ValueTree → Bool) (s : FormulaTree) → related_formula (t.iff a b) w p s ≡ (p (t.of_truth (t.iff a b)) (t.of_truth s) || iff_with (λ a' b'. related_formula a w p a' && related_formula b w p b') (seen w s))
 unfolding related_formula
-related_formula-iff a b p s = refl
+related_formula-iff a b w p s = refl
 
 pub iff_with-here : (q : FormulaTree → FormulaTree → Bool) (a : FormulaTree) (b : FormulaTree) → iff_with q (t.iff a b) ≡ q a b
 unfolding iff_with
 iff_with-here q a b = refl
 
-pub related_formula-all : (a : FormulaTree) (p : ValueTree → ValueTree → Bool) (s : FormulaTree) → related_formula (t.all a) p s ≡ (p (t.of_truth (t.all a)) (t.of_truth s) || all_with (λ a'. related_formula a p a') s)
+pub related_formula-all : (a : FormulaTree) (w : Bool) (p : ValueTree → ValueTree → Bool) (s : FormulaTree) → related_formula (t.all a) w p s ≡ (p (t.of_truth (t.all a)) (t.of_truth s) || all_with (λ a'. related_formula a w p a') (seen w s))
 unfolding related_formula
-related_formula-all a p s = refl
+related_formula-all a w p s = refl
 
 pub all_with-here : (q : FormulaTree → Bool) (a : FormulaTree) → all_with q (t.all a) ≡ q a
 unfolding all_with
 all_with-here q a = refl
 
-pub related_formula-ex : (a : FormulaTree) (p : ValueTree → ValueTree → Bool) (s : FormulaTree) → related_formula (t.ex a) p s ≡ (p (t.of_truth (t.ex a)) (t.of_truth s) || ex_with (λ a'. related_formula a p a') s)
+pub related_formula-ex : (a : FormulaTree) (w : Bool) (p : ValueTree → ValueTree → Bool) (s : FormulaTree) → related_formula (t.ex a) w p s ≡ (p (t.of_truth (t.ex a)) (t.of_truth s) || ex_with (λ a'. related_formula a w p a') (seen w s))
 unfolding related_formula
-related_formula-ex a p s = refl
+related_formula-ex a w p s = refl
 
 pub ex_with-here : (q : FormulaTree → Bool) (a : FormulaTree) → ex_with q (t.ex a) ≡ q a
 unfolding ex_with
 ex_with-here q a = refl
 
-pub related_formula-eq_object : (a : TermTree) (b : TermTree) (p : ValueTree → ValueTree → Bool) (s : FormulaTree) → related_formula (t.eq_object a b) p s ≡ (p (t.of_truth (t.eq_object a b)) (t.of_truth s) || eq_object_with (λ a' b'. related_term a p a' && related_term b p b') s)
+pub related_formula-eq_object : (a : TermTree) (b : TermTree) (w : Bool) (p : ValueTree → ValueTree → Bool) (s : FormulaTree) → related_formula (t.eq_object a b) w p s ≡ (p (t.of_truth (t.eq_object a b)) (t.of_truth s) || eq_object_with (λ a' b'. related_term a w p a' && related_term b w p b') (seen w s))
 unfolding related_formula
-related_formula-eq_object a b p s = refl
+related_formula-eq_object a b w p s = refl
 
 pub eq_object_with-here : (q : TermTree → TermTree → Bool) (a : TermTree) (b : TermTree) → eq_object_with q (t.eq_object a b) ≡ q a b
 unfolding eq_object_with
 eq_object_with-here q a b = refl
 
-pub related_formula-eq_number : (a : IntTree) (b : IntTree) (p : ValueTree → ValueTree → Bool) (s : FormulaTree) → related_formula (t.eq_number a b) p s ≡ (p (t.of_truth (t.eq_number a b)) (t.of_truth s) || eq_number_with (λ a' b'. related_int a p a' && related_int b p b') s)
+pub related_formula-eq_number : (a : IntTree) (b : IntTree) (w : Bool) (p : ValueTree → ValueTree → Bool) (s : FormulaTree) → related_formula (t.eq_number a b) w p s ≡ (p (t.of_truth (t.eq_number a b)) (t.of_truth s) || eq_number_with (λ a' b'. related_int a w p a' && related_int b w p b') (seen w s))
 unfolding related_formula
-related_formula-eq_number a b p s = refl
+related_formula-eq_number a b w p s = refl
 
 pub eq_number_with-here : (q : IntTree → IntTree → Bool) (a : IntTree) (b : IntTree) → eq_number_with q (t.eq_number a b) ≡ q a b
 unfolding eq_number_with
 eq_number_with-here q a b = refl
 
-pub related_formula-eq_set : (a : SetTree) (b : SetTree) (p : ValueTree → ValueTree → Bool) (s : FormulaTree) → related_formula (t.eq_set a b) p s ≡ (p (t.of_truth (t.eq_set a b)) (t.of_truth s) || eq_set_with (λ a' b'. related_set a p a' && related_set b p b') s)
+pub related_formula-eq_set : (a : SetTree) (b : SetTree) (w : Bool) (p : ValueTree → ValueTree → Bool) (s : FormulaTree) → related_formula (t.eq_set a b) w p s ≡ (p (t.of_truth (t.eq_set a b)) (t.of_truth s) || eq_set_with (λ a' b'. related_set a w p a' && related_set b w p b') (seen w s))
 unfolding related_formula
-related_formula-eq_set a b p s = refl
+related_formula-eq_set a b w p s = refl
 
 pub eq_set_with-here : (q : SetTree → SetTree → Bool) (a : SetTree) (b : SetTree) → eq_set_with q (t.eq_set a b) ≡ q a b
 unfolding eq_set_with
 eq_set_with-here q a b = refl
 
-pub related_formula-less : (a : IntTree) (b : IntTree) (p : ValueTree → ValueTree → Bool) (s : FormulaTree) → related_formula (t.less a b) p s ≡ (p (t.of_truth (t.less a b)) (t.of_truth s) || less_with (λ a' b'. related_int a p a' && related_int b p b') s)
+pub related_formula-less : (a : IntTree) (b : IntTree) (w : Bool) (p : ValueTree → ValueTree → Bool) (s : FormulaTree) → related_formula (t.less a b) w p s ≡ (p (t.of_truth (t.less a b)) (t.of_truth s) || less_with (λ a' b'. related_int a w p a' && related_int b w p b') (seen w s))
 unfolding related_formula
-related_formula-less a b p s = refl
+related_formula-less a b w p s = refl
 
 pub less_with-here : (q : IntTree → IntTree → Bool) (a : IntTree) (b : IntTree) → less_with q (t.less a b) ≡ q a b
 unfolding less_with
 less_with-here q a b = refl
 
-pub related_formula-less_equal : (a : IntTree) (b : IntTree) (p : ValueTree → ValueTree → Bool) (s : FormulaTree) → related_formula (t.less_equal a b) p s ≡ (p (t.of_truth (t.less_equal a b)) (t.of_truth s) || less_equal_with (λ a' b'. related_int a p a' && related_int b p b') s)
+pub related_formula-less_equal : (a : IntTree) (b : IntTree) (w : Bool) (p : ValueTree → ValueTree → Bool) (s : FormulaTree) → related_formula (t.less_equal a b) w p s ≡ (p (t.of_truth (t.less_equal a b)) (t.of_truth s) || less_equal_with (λ a' b'. related_int a w p a' && related_int b w p b') (seen w s))
 unfolding related_formula
-related_formula-less_equal a b p s = refl
+related_formula-less_equal a b w p s = refl
 
 pub less_equal_with-here : (q : IntTree → IntTree → Bool) (a : IntTree) (b : IntTree) → less_equal_with q (t.less_equal a b) ≡ q a b
 unfolding less_equal_with
 less_equal_with-here q a b = refl
 
-pub related_formula-divides : (z : ℤ) (a : IntTree) (p : ValueTree → ValueTree → Bool) (s : FormulaTree) → related_formula (t.divides z a) p s ≡ (p (t.of_truth (t.divides z a)) (t.of_truth s) || divides_with (λ z' a'. int_eq z z' && related_int a p a') s)
+pub related_formula-divides : (z : ℤ) (a : IntTree) (w : Bool) (p : ValueTree → ValueTree → Bool) (s : FormulaTree) → related_formula (t.divides z a) w p s ≡ (p (t.of_truth (t.divides z a)) (t.of_truth s) || divides_with (λ z' a'. int_eq z z' && related_int a w p a') (seen w s))
 unfolding related_formula
-related_formula-divides z a p s = refl
+related_formula-divides z a w p s = refl
 
 pub divides_with-here : (q : ℤ → IntTree → Bool) (z : ℤ) (a : IntTree) → divides_with q (t.divides z a) ≡ q z a
 unfolding divides_with
 divides_with-here q z a = refl
 
-pub related_formula-member : (a : TermTree) (b : SetTree) (p : ValueTree → ValueTree → Bool) (s : FormulaTree) → related_formula (t.member a b) p s ≡ (p (t.of_truth (t.member a b)) (t.of_truth s) || member_with (λ a' b'. related_term a p a' && related_set b p b') s)
+pub related_formula-member : (a : TermTree) (b : SetTree) (w : Bool) (p : ValueTree → ValueTree → Bool) (s : FormulaTree) → related_formula (t.member a b) w p s ≡ (p (t.of_truth (t.member a b)) (t.of_truth s) || member_with (λ a' b'. related_term a w p a' && related_set b w p b') (seen w s))
 unfolding related_formula
-related_formula-member a b p s = refl
+related_formula-member a b w p s = refl
 
 pub member_with-here : (q : TermTree → SetTree → Bool) (a : TermTree) (b : SetTree) → member_with q (t.member a b) ≡ q a b
 unfolding member_with
 member_with-here q a b = refl
 
-pub related_formula-subset : (a : SetTree) (b : SetTree) (p : ValueTree → ValueTree → Bool) (s : FormulaTree) → related_formula (t.subset a b) p s ≡ (p (t.of_truth (t.subset a b)) (t.of_truth s) || subset_with (λ a' b'. related_set a p a' && related_set b p b') s)
+pub related_formula-subset : (a : SetTree) (b : SetTree) (w : Bool) (p : ValueTree → ValueTree → Bool) (s : FormulaTree) → related_formula (t.subset a b) w p s ≡ (p (t.of_truth (t.subset a b)) (t.of_truth s) || subset_with (λ a' b'. related_set a w p a' && related_set b w p b') (seen w s))
 unfolding related_formula
-related_formula-subset a b p s = refl
+related_formula-subset a b w p s = refl
 
 pub subset_with-here : (q : SetTree → SetTree → Bool) (a : SetTree) (b : SetTree) → subset_with q (t.subset a b) ≡ q a b
 unfolding subset_with
 subset_with-here q a b = refl
 
-pub related_formula-reach : (fs : FieldTrees) (a : TermTree) (b : TermTree) (p : ValueTree → ValueTree → Bool) (s : FormulaTree) → related_formula (t.reach fs a b) p s ≡ (p (t.of_truth (t.reach fs a b)) (t.of_truth s) || reach_with (λ fs' a' b'. related_fields fs p fs' && related_term a p a' && related_term b p b') s)
+pub related_formula-reach : (fs : FieldTrees) (a : TermTree) (b : TermTree) (w : Bool) (p : ValueTree → ValueTree → Bool) (s : FormulaTree) → related_formula (t.reach fs a b) w p s ≡ (p (t.of_truth (t.reach fs a b)) (t.of_truth s) || reach_with (λ fs' a' b'. related_fields fs w p fs' && related_term a w p a' && related_term b w p b') (seen w s))
 unfolding related_formula
-related_formula-reach fs a b p s = refl
+related_formula-reach fs a b w p s = refl
 
 pub reach_with-here : (q : FieldTrees → TermTree → TermTree → Bool) (fs : FieldTrees) (a : TermTree) (b : TermTree) → reach_with q (t.reach fs a b) ≡ q fs a b
 unfolding reach_with
 reach_with-here q fs a b = refl
 
-pub related_formula-tree : (fs : FieldTrees) (p : ValueTree → ValueTree → Bool) (s : FormulaTree) → related_formula (t.tree fs) p s ≡ (p (t.of_truth (t.tree fs)) (t.of_truth s) || tree_with (λ fs'. related_fields fs p fs') s)
+pub related_formula-tree : (fs : FieldTrees) (w : Bool) (p : ValueTree → ValueTree → Bool) (s : FormulaTree) → related_formula (t.tree fs) w p s ≡ (p (t.of_truth (t.tree fs)) (t.of_truth s) || tree_with (λ fs'. related_fields fs w p fs') (seen w s))
 unfolding related_formula
-related_formula-tree fs p s = refl
+related_formula-tree fs w p s = refl
 
 pub tree_with-here : (q : FieldTrees → Bool) (fs : FieldTrees) → tree_with q (t.tree fs) ≡ q fs
 unfolding tree_with
 tree_with-here q fs = refl
 
-pub related_formula-mark : (k : Mark) (a : FormulaTree) (p : ValueTree → ValueTree → Bool) (s : FormulaTree) → related_formula (t.mark k a) p s ≡ (p (t.of_truth (t.mark k a)) (t.of_truth s) || mark_with (λ k' a'. mark_equal k k' && related_formula a p a') s)
+pub related_formula-mark : (k : Mark) (a : FormulaTree) (w : Bool) (p : ValueTree → ValueTree → Bool) (s : FormulaTree) → related_formula (t.mark k a) w p s ≡ (p (t.of_truth (t.mark k a)) (t.of_truth s) || by_labels w (mark_with (λ k' a'. mark_equal k k' && related_formula a w p a') (seen w s)) (related_formula a w p (seen w s)))
 unfolding related_formula
-related_formula-mark k a p s = refl
+related_formula-mark k a w p s = refl
 
 pub mark_with-here : (q : Mark → FormulaTree → Bool) (k : Mark) (a : FormulaTree) → mark_with q (t.mark k a) ≡ q k a
 unfolding mark_with
 mark_with-here q k a = refl
 
-pub related_fields-none : (p : ValueTree → ValueTree → Bool) (s : FieldTrees) → related_fields t.none p s ≡ (none_with s)
+pub related_fields-none : (w : Bool) (p : ValueTree → ValueTree → Bool) (s : FieldTrees) → related_fields t.none w p s ≡ (none_with s)
 unfolding related_fields
-related_fields-none p s = refl
+related_fields-none w p s = refl
 
 pub none_with-here : none_with t.none ≡ true
 unfolding none_with
 none_with-here = refl
 
-pub related_fields-more : (f : FieldTree) (fs : FieldTrees) (p : ValueTree → ValueTree → Bool) (s : FieldTrees) → related_fields (t.more f fs) p s ≡ (more_with (λ f' fs'. related_field f p f' && related_fields fs p fs') s)
+pub related_fields-more : (f : FieldTree) (fs : FieldTrees) (w : Bool) (p : ValueTree → ValueTree → Bool) (s : FieldTrees) → related_fields (t.more f fs) w p s ≡ (more_with (λ f' fs'. related_field f w p f' && related_fields fs w p fs') s)
 unfolding related_fields
-related_fields-more f fs p s = refl
+related_fields-more f fs w p s = refl
 
 pub more_with-here : (q : FieldTree → FieldTrees → Bool) (f : FieldTree) (fs : FieldTrees) → more_with q (t.more f fs) ≡ q f fs
 unfolding more_with

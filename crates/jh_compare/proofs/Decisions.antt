@@ -11,7 +11,7 @@ use Rattle.jh_tree.specs.Tree.{TermTree, IntTree, SetTree, FieldTree, ValueTree,
 use Rattle.jh_tree.specs.Tree as t
 use Rattle.jh_tree.specs.Passing.{name_equal}
 use Rattle.jh_compare.specs.Marks.{mark_equal}
-use Rattle.jh_compare.specs.Compared.{bound_with, free_object_with, null_with, read_object_with, const_with, free_number_with, read_number_with, add_with, sub_with, neg_with, scale_with, card_with, free_set_with, read_set_with, empty_with, univ_with, single_with, union_with, inter_with, diff_with, compl_with, compr_with, free_field_with, update_with, of_object_with, of_number_with, of_truth_with, of_set_with, of_field_with, true_formula_with, false_formula_with, free_truth_with, read_truth_with, negation_with, and_with, or_with, implies_with, iff_with, all_with, ex_with, eq_object_with, eq_number_with, eq_set_with, less_with, less_equal_with, divides_with, member_with, subset_with, reach_with, tree_with, mark_with, none_with, more_with, related_term, related_int, related_set, related_field, related_value, related_formula, related_fields}
+use Rattle.jh_compare.specs.Compared.{bound_with, free_object_with, null_with, read_object_with, const_with, free_number_with, read_number_with, add_with, sub_with, neg_with, scale_with, card_with, free_set_with, read_set_with, empty_with, univ_with, single_with, union_with, inter_with, diff_with, compl_with, compr_with, free_field_with, update_with, of_object_with, of_number_with, of_truth_with, of_set_with, of_field_with, true_formula_with, false_formula_with, free_truth_with, read_truth_with, negation_with, and_with, or_with, implies_with, iff_with, all_with, ex_with, eq_object_with, eq_number_with, eq_set_with, less_with, less_equal_with, divides_with, member_with, subset_with, reach_with, tree_with, mark_with, none_with, more_with, related_term, related_int, related_set, related_field, related_value, related_formula, related_fields, seen, by_labels}
 use Rattle.jh_compare.specs.Related.{TermsRelated, IntsRelated, SetsRelated, FieldsRelated, ValuesRelated, FormulasRelated, ListsRelated}
 use Rattle.jh_compare.specs.Related as r
 
@@ -300,212 +300,212 @@ module _ (p : ValueTree → ValueTree → Bool) (X : ValueTree → ValueTree →
   mutual
     unfolding related_term related_int related_set related_field related_value related_formula related_fields
 
-    pub term-related : (a s : TermTree) → related_term a p s ≡ true → TermsRelated X a s
+    pub term-related : (a s : TermTree) → related_term a true p s ≡ true → TermsRelated X a s
     term-related (t.bound k) s h = either (p (t.of_object (t.bound k)) (t.of_object s)) (bound_with (λ k'. nat_eq k k') s) (TermsRelated X (t.bound k) s) (λ e. r.term_here (t.bound k) s (sound (t.of_object (t.bound k)) (t.of_object s) e)) (λ h2. bound_with-inv (λ k'. nat_eq k k') (λ s. TermsRelated X (t.bound k) s) (λ k' e. subst (λ (z0 : ℕ). TermsRelated X (t.bound k) (t.bound z0)) (eqb-true k k' e) (r.bound k)) s h2) h
     term-related (t.free_object x) s h = either (p (t.of_object (t.free_object x)) (t.of_object s)) (free_object_with (λ x'. name_equal x x') s) (TermsRelated X (t.free_object x) s) (λ e. r.term_here (t.free_object x) s (sound (t.of_object (t.free_object x)) (t.of_object s) e)) (λ h2. free_object_with-inv (λ x'. name_equal x x') (λ s. TermsRelated X (t.free_object x) s) (λ x' e. subst (λ (z0 : Name). TermsRelated X (t.free_object x) (t.free_object z0)) (name_equal-true x x' e) (r.free_object x)) s h2) h
     term-related t.null s h = either (p (t.of_object t.null) (t.of_object s)) (null_with s) (TermsRelated X t.null s) (λ e. r.term_here t.null s (sound (t.of_object t.null) (t.of_object s) e)) (λ h2. null_with-inv (λ s. TermsRelated X t.null s) r.null s h2) h
-    term-related (t.read_object a b) s h = either (p (t.of_object (t.read_object a b)) (t.of_object s)) (read_object_with (λ a' b'. related_field a p a' && related_term b p b') s) (TermsRelated X (t.read_object a b) s) (λ e. r.term_here (t.read_object a b) s (sound (t.of_object (t.read_object a b)) (t.of_object s) e)) (λ h2. read_object_with-inv (λ a' b'. related_field a p a' && related_term b p b') (λ s. TermsRelated X (t.read_object a b) s) (λ a' b' e. r.read_object a a' b b' (field-related a a' (both-left (related_field a p a') (related_term b p b') e)) (term-related b b' (both-right (related_field a p a') (related_term b p b') e))) s h2) h
+    term-related (t.read_object a b) s h = either (p (t.of_object (t.read_object a b)) (t.of_object s)) (read_object_with (λ a' b'. related_field a true p a' && related_term b true p b') s) (TermsRelated X (t.read_object a b) s) (λ e. r.term_here (t.read_object a b) s (sound (t.of_object (t.read_object a b)) (t.of_object s) e)) (λ h2. read_object_with-inv (λ a' b'. related_field a true p a' && related_term b true p b') (λ s. TermsRelated X (t.read_object a b) s) (λ a' b' e. r.read_object a a' b b' (field-related a a' (both-left (related_field a true p a') (related_term b true p b') e)) (term-related b b' (both-right (related_field a true p a') (related_term b true p b') e))) s h2) h
 
-    pub int-related : (a s : IntTree) → related_int a p s ≡ true → IntsRelated X a s
+    pub int-related : (a s : IntTree) → related_int a true p s ≡ true → IntsRelated X a s
     int-related (t.const z) s h = either (p (t.of_number (t.const z)) (t.of_number s)) (const_with (λ z'. int_eq z z') s) (IntsRelated X (t.const z) s) (λ e. r.int_here (t.const z) s (sound (t.of_number (t.const z)) (t.of_number s) e)) (λ h2. const_with-inv (λ z'. int_eq z z') (λ s. IntsRelated X (t.const z) s) (λ z' e. subst (λ (z0 : ℤ). IntsRelated X (t.const z) (t.const z0)) (int_eq-true z z' e) (r.const z)) s h2) h
     int-related (t.free_number x) s h = either (p (t.of_number (t.free_number x)) (t.of_number s)) (free_number_with (λ x'. name_equal x x') s) (IntsRelated X (t.free_number x) s) (λ e. r.int_here (t.free_number x) s (sound (t.of_number (t.free_number x)) (t.of_number s) e)) (λ h2. free_number_with-inv (λ x'. name_equal x x') (λ s. IntsRelated X (t.free_number x) s) (λ x' e. subst (λ (z0 : Name). IntsRelated X (t.free_number x) (t.free_number z0)) (name_equal-true x x' e) (r.free_number x)) s h2) h
-    int-related (t.read_number a b) s h = either (p (t.of_number (t.read_number a b)) (t.of_number s)) (read_number_with (λ a' b'. related_field a p a' && related_term b p b') s) (IntsRelated X (t.read_number a b) s) (λ e. r.int_here (t.read_number a b) s (sound (t.of_number (t.read_number a b)) (t.of_number s) e)) (λ h2. read_number_with-inv (λ a' b'. related_field a p a' && related_term b p b') (λ s. IntsRelated X (t.read_number a b) s) (λ a' b' e. r.read_number a a' b b' (field-related a a' (both-left (related_field a p a') (related_term b p b') e)) (term-related b b' (both-right (related_field a p a') (related_term b p b') e))) s h2) h
-    int-related (t.add a b) s h = either (p (t.of_number (t.add a b)) (t.of_number s)) (add_with (λ a' b'. related_int a p a' && related_int b p b') s) (IntsRelated X (t.add a b) s) (λ e. r.int_here (t.add a b) s (sound (t.of_number (t.add a b)) (t.of_number s) e)) (λ h2. add_with-inv (λ a' b'. related_int a p a' && related_int b p b') (λ s. IntsRelated X (t.add a b) s) (λ a' b' e. r.add a a' b b' (int-related a a' (both-left (related_int a p a') (related_int b p b') e)) (int-related b b' (both-right (related_int a p a') (related_int b p b') e))) s h2) h
-    int-related (t.sub a b) s h = either (p (t.of_number (t.sub a b)) (t.of_number s)) (sub_with (λ a' b'. related_int a p a' && related_int b p b') s) (IntsRelated X (t.sub a b) s) (λ e. r.int_here (t.sub a b) s (sound (t.of_number (t.sub a b)) (t.of_number s) e)) (λ h2. sub_with-inv (λ a' b'. related_int a p a' && related_int b p b') (λ s. IntsRelated X (t.sub a b) s) (λ a' b' e. r.sub a a' b b' (int-related a a' (both-left (related_int a p a') (related_int b p b') e)) (int-related b b' (both-right (related_int a p a') (related_int b p b') e))) s h2) h
-    int-related (t.neg a) s h = either (p (t.of_number (t.neg a)) (t.of_number s)) (neg_with (λ a'. related_int a p a') s) (IntsRelated X (t.neg a) s) (λ e. r.int_here (t.neg a) s (sound (t.of_number (t.neg a)) (t.of_number s) e)) (λ h2. neg_with-inv (λ a'. related_int a p a') (λ s. IntsRelated X (t.neg a) s) (λ a' e. r.neg a a' (int-related a a' e)) s h2) h
-    int-related (t.scale z a) s h = either (p (t.of_number (t.scale z a)) (t.of_number s)) (scale_with (λ z' a'. int_eq z z' && related_int a p a') s) (IntsRelated X (t.scale z a) s) (λ e. r.int_here (t.scale z a) s (sound (t.of_number (t.scale z a)) (t.of_number s) e)) (λ h2. scale_with-inv (λ z' a'. int_eq z z' && related_int a p a') (λ s. IntsRelated X (t.scale z a) s) (λ z' a' e. subst (λ (z0 : ℤ). IntsRelated X (t.scale z a) (t.scale z0 a')) (int_eq-true z z' (both-left (int_eq z z') (related_int a p a') e)) (r.scale z a a' (int-related a a' (both-right (int_eq z z') (related_int a p a') e)))) s h2) h
-    int-related (t.card a) s h = either (p (t.of_number (t.card a)) (t.of_number s)) (card_with (λ a'. related_set a p a') s) (IntsRelated X (t.card a) s) (λ e. r.int_here (t.card a) s (sound (t.of_number (t.card a)) (t.of_number s) e)) (λ h2. card_with-inv (λ a'. related_set a p a') (λ s. IntsRelated X (t.card a) s) (λ a' e. r.card a a' (set-related a a' e)) s h2) h
+    int-related (t.read_number a b) s h = either (p (t.of_number (t.read_number a b)) (t.of_number s)) (read_number_with (λ a' b'. related_field a true p a' && related_term b true p b') s) (IntsRelated X (t.read_number a b) s) (λ e. r.int_here (t.read_number a b) s (sound (t.of_number (t.read_number a b)) (t.of_number s) e)) (λ h2. read_number_with-inv (λ a' b'. related_field a true p a' && related_term b true p b') (λ s. IntsRelated X (t.read_number a b) s) (λ a' b' e. r.read_number a a' b b' (field-related a a' (both-left (related_field a true p a') (related_term b true p b') e)) (term-related b b' (both-right (related_field a true p a') (related_term b true p b') e))) s h2) h
+    int-related (t.add a b) s h = either (p (t.of_number (t.add a b)) (t.of_number s)) (add_with (λ a' b'. related_int a true p a' && related_int b true p b') s) (IntsRelated X (t.add a b) s) (λ e. r.int_here (t.add a b) s (sound (t.of_number (t.add a b)) (t.of_number s) e)) (λ h2. add_with-inv (λ a' b'. related_int a true p a' && related_int b true p b') (λ s. IntsRelated X (t.add a b) s) (λ a' b' e. r.add a a' b b' (int-related a a' (both-left (related_int a true p a') (related_int b true p b') e)) (int-related b b' (both-right (related_int a true p a') (related_int b true p b') e))) s h2) h
+    int-related (t.sub a b) s h = either (p (t.of_number (t.sub a b)) (t.of_number s)) (sub_with (λ a' b'. related_int a true p a' && related_int b true p b') s) (IntsRelated X (t.sub a b) s) (λ e. r.int_here (t.sub a b) s (sound (t.of_number (t.sub a b)) (t.of_number s) e)) (λ h2. sub_with-inv (λ a' b'. related_int a true p a' && related_int b true p b') (λ s. IntsRelated X (t.sub a b) s) (λ a' b' e. r.sub a a' b b' (int-related a a' (both-left (related_int a true p a') (related_int b true p b') e)) (int-related b b' (both-right (related_int a true p a') (related_int b true p b') e))) s h2) h
+    int-related (t.neg a) s h = either (p (t.of_number (t.neg a)) (t.of_number s)) (neg_with (λ a'. related_int a true p a') s) (IntsRelated X (t.neg a) s) (λ e. r.int_here (t.neg a) s (sound (t.of_number (t.neg a)) (t.of_number s) e)) (λ h2. neg_with-inv (λ a'. related_int a true p a') (λ s. IntsRelated X (t.neg a) s) (λ a' e. r.neg a a' (int-related a a' e)) s h2) h
+    int-related (t.scale z a) s h = either (p (t.of_number (t.scale z a)) (t.of_number s)) (scale_with (λ z' a'. int_eq z z' && related_int a true p a') s) (IntsRelated X (t.scale z a) s) (λ e. r.int_here (t.scale z a) s (sound (t.of_number (t.scale z a)) (t.of_number s) e)) (λ h2. scale_with-inv (λ z' a'. int_eq z z' && related_int a true p a') (λ s. IntsRelated X (t.scale z a) s) (λ z' a' e. subst (λ (z0 : ℤ). IntsRelated X (t.scale z a) (t.scale z0 a')) (int_eq-true z z' (both-left (int_eq z z') (related_int a true p a') e)) (r.scale z a a' (int-related a a' (both-right (int_eq z z') (related_int a true p a') e)))) s h2) h
+    int-related (t.card a) s h = either (p (t.of_number (t.card a)) (t.of_number s)) (card_with (λ a'. related_set a true p a') s) (IntsRelated X (t.card a) s) (λ e. r.int_here (t.card a) s (sound (t.of_number (t.card a)) (t.of_number s) e)) (λ h2. card_with-inv (λ a'. related_set a true p a') (λ s. IntsRelated X (t.card a) s) (λ a' e. r.card a a' (set-related a a' e)) s h2) h
 
-    pub set-related : (a s : SetTree) → related_set a p s ≡ true → SetsRelated X a s
+    pub set-related : (a s : SetTree) → related_set a true p s ≡ true → SetsRelated X a s
     set-related (t.free_set x) s h = either (p (t.of_set (t.free_set x)) (t.of_set s)) (free_set_with (λ x'. name_equal x x') s) (SetsRelated X (t.free_set x) s) (λ e. r.set_here (t.free_set x) s (sound (t.of_set (t.free_set x)) (t.of_set s) e)) (λ h2. free_set_with-inv (λ x'. name_equal x x') (λ s. SetsRelated X (t.free_set x) s) (λ x' e. subst (λ (z0 : Name). SetsRelated X (t.free_set x) (t.free_set z0)) (name_equal-true x x' e) (r.free_set x)) s h2) h
-    set-related (t.read_set a b) s h = either (p (t.of_set (t.read_set a b)) (t.of_set s)) (read_set_with (λ a' b'. related_field a p a' && related_term b p b') s) (SetsRelated X (t.read_set a b) s) (λ e. r.set_here (t.read_set a b) s (sound (t.of_set (t.read_set a b)) (t.of_set s) e)) (λ h2. read_set_with-inv (λ a' b'. related_field a p a' && related_term b p b') (λ s. SetsRelated X (t.read_set a b) s) (λ a' b' e. r.read_set a a' b b' (field-related a a' (both-left (related_field a p a') (related_term b p b') e)) (term-related b b' (both-right (related_field a p a') (related_term b p b') e))) s h2) h
+    set-related (t.read_set a b) s h = either (p (t.of_set (t.read_set a b)) (t.of_set s)) (read_set_with (λ a' b'. related_field a true p a' && related_term b true p b') s) (SetsRelated X (t.read_set a b) s) (λ e. r.set_here (t.read_set a b) s (sound (t.of_set (t.read_set a b)) (t.of_set s) e)) (λ h2. read_set_with-inv (λ a' b'. related_field a true p a' && related_term b true p b') (λ s. SetsRelated X (t.read_set a b) s) (λ a' b' e. r.read_set a a' b b' (field-related a a' (both-left (related_field a true p a') (related_term b true p b') e)) (term-related b b' (both-right (related_field a true p a') (related_term b true p b') e))) s h2) h
     set-related t.empty s h = either (p (t.of_set t.empty) (t.of_set s)) (empty_with s) (SetsRelated X t.empty s) (λ e. r.set_here t.empty s (sound (t.of_set t.empty) (t.of_set s) e)) (λ h2. empty_with-inv (λ s. SetsRelated X t.empty s) r.empty s h2) h
     set-related t.univ s h = either (p (t.of_set t.univ) (t.of_set s)) (univ_with s) (SetsRelated X t.univ s) (λ e. r.set_here t.univ s (sound (t.of_set t.univ) (t.of_set s) e)) (λ h2. univ_with-inv (λ s. SetsRelated X t.univ s) r.univ s h2) h
-    set-related (t.single a) s h = either (p (t.of_set (t.single a)) (t.of_set s)) (single_with (λ a'. related_term a p a') s) (SetsRelated X (t.single a) s) (λ e. r.set_here (t.single a) s (sound (t.of_set (t.single a)) (t.of_set s) e)) (λ h2. single_with-inv (λ a'. related_term a p a') (λ s. SetsRelated X (t.single a) s) (λ a' e. r.single a a' (term-related a a' e)) s h2) h
-    set-related (t.union a b) s h = either (p (t.of_set (t.union a b)) (t.of_set s)) (union_with (λ a' b'. related_set a p a' && related_set b p b') s) (SetsRelated X (t.union a b) s) (λ e. r.set_here (t.union a b) s (sound (t.of_set (t.union a b)) (t.of_set s) e)) (λ h2. union_with-inv (λ a' b'. related_set a p a' && related_set b p b') (λ s. SetsRelated X (t.union a b) s) (λ a' b' e. r.union a a' b b' (set-related a a' (both-left (related_set a p a') (related_set b p b') e)) (set-related b b' (both-right (related_set a p a') (related_set b p b') e))) s h2) h
-    set-related (t.inter a b) s h = either (p (t.of_set (t.inter a b)) (t.of_set s)) (inter_with (λ a' b'. related_set a p a' && related_set b p b') s) (SetsRelated X (t.inter a b) s) (λ e. r.set_here (t.inter a b) s (sound (t.of_set (t.inter a b)) (t.of_set s) e)) (λ h2. inter_with-inv (λ a' b'. related_set a p a' && related_set b p b') (λ s. SetsRelated X (t.inter a b) s) (λ a' b' e. r.inter a a' b b' (set-related a a' (both-left (related_set a p a') (related_set b p b') e)) (set-related b b' (both-right (related_set a p a') (related_set b p b') e))) s h2) h
-    set-related (t.diff a b) s h = either (p (t.of_set (t.diff a b)) (t.of_set s)) (diff_with (λ a' b'. related_set a p a' && related_set b p b') s) (SetsRelated X (t.diff a b) s) (λ e. r.set_here (t.diff a b) s (sound (t.of_set (t.diff a b)) (t.of_set s) e)) (λ h2. diff_with-inv (λ a' b'. related_set a p a' && related_set b p b') (λ s. SetsRelated X (t.diff a b) s) (λ a' b' e. r.diff a a' b b' (set-related a a' (both-left (related_set a p a') (related_set b p b') e)) (set-related b b' (both-right (related_set a p a') (related_set b p b') e))) s h2) h
-    set-related (t.compl a) s h = either (p (t.of_set (t.compl a)) (t.of_set s)) (compl_with (λ a'. related_set a p a') s) (SetsRelated X (t.compl a) s) (λ e. r.set_here (t.compl a) s (sound (t.of_set (t.compl a)) (t.of_set s) e)) (λ h2. compl_with-inv (λ a'. related_set a p a') (λ s. SetsRelated X (t.compl a) s) (λ a' e. r.compl a a' (set-related a a' e)) s h2) h
-    set-related (t.compr a) s h = either (p (t.of_set (t.compr a)) (t.of_set s)) (compr_with (λ a'. related_formula a p a') s) (SetsRelated X (t.compr a) s) (λ e. r.set_here (t.compr a) s (sound (t.of_set (t.compr a)) (t.of_set s) e)) (λ h2. compr_with-inv (λ a'. related_formula a p a') (λ s. SetsRelated X (t.compr a) s) (λ a' e. r.compr a a' (formula-related a a' e)) s h2) h
+    set-related (t.single a) s h = either (p (t.of_set (t.single a)) (t.of_set s)) (single_with (λ a'. related_term a true p a') s) (SetsRelated X (t.single a) s) (λ e. r.set_here (t.single a) s (sound (t.of_set (t.single a)) (t.of_set s) e)) (λ h2. single_with-inv (λ a'. related_term a true p a') (λ s. SetsRelated X (t.single a) s) (λ a' e. r.single a a' (term-related a a' e)) s h2) h
+    set-related (t.union a b) s h = either (p (t.of_set (t.union a b)) (t.of_set s)) (union_with (λ a' b'. related_set a true p a' && related_set b true p b') s) (SetsRelated X (t.union a b) s) (λ e. r.set_here (t.union a b) s (sound (t.of_set (t.union a b)) (t.of_set s) e)) (λ h2. union_with-inv (λ a' b'. related_set a true p a' && related_set b true p b') (λ s. SetsRelated X (t.union a b) s) (λ a' b' e. r.union a a' b b' (set-related a a' (both-left (related_set a true p a') (related_set b true p b') e)) (set-related b b' (both-right (related_set a true p a') (related_set b true p b') e))) s h2) h
+    set-related (t.inter a b) s h = either (p (t.of_set (t.inter a b)) (t.of_set s)) (inter_with (λ a' b'. related_set a true p a' && related_set b true p b') s) (SetsRelated X (t.inter a b) s) (λ e. r.set_here (t.inter a b) s (sound (t.of_set (t.inter a b)) (t.of_set s) e)) (λ h2. inter_with-inv (λ a' b'. related_set a true p a' && related_set b true p b') (λ s. SetsRelated X (t.inter a b) s) (λ a' b' e. r.inter a a' b b' (set-related a a' (both-left (related_set a true p a') (related_set b true p b') e)) (set-related b b' (both-right (related_set a true p a') (related_set b true p b') e))) s h2) h
+    set-related (t.diff a b) s h = either (p (t.of_set (t.diff a b)) (t.of_set s)) (diff_with (λ a' b'. related_set a true p a' && related_set b true p b') s) (SetsRelated X (t.diff a b) s) (λ e. r.set_here (t.diff a b) s (sound (t.of_set (t.diff a b)) (t.of_set s) e)) (λ h2. diff_with-inv (λ a' b'. related_set a true p a' && related_set b true p b') (λ s. SetsRelated X (t.diff a b) s) (λ a' b' e. r.diff a a' b b' (set-related a a' (both-left (related_set a true p a') (related_set b true p b') e)) (set-related b b' (both-right (related_set a true p a') (related_set b true p b') e))) s h2) h
+    set-related (t.compl a) s h = either (p (t.of_set (t.compl a)) (t.of_set s)) (compl_with (λ a'. related_set a true p a') s) (SetsRelated X (t.compl a) s) (λ e. r.set_here (t.compl a) s (sound (t.of_set (t.compl a)) (t.of_set s) e)) (λ h2. compl_with-inv (λ a'. related_set a true p a') (λ s. SetsRelated X (t.compl a) s) (λ a' e. r.compl a a' (set-related a a' e)) s h2) h
+    set-related (t.compr a) s h = either (p (t.of_set (t.compr a)) (t.of_set s)) (compr_with (λ a'. related_formula a true p a') s) (SetsRelated X (t.compr a) s) (λ e. r.set_here (t.compr a) s (sound (t.of_set (t.compr a)) (t.of_set s) e)) (λ h2. compr_with-inv (λ a'. related_formula a true p a') (λ s. SetsRelated X (t.compr a) s) (λ a' e. r.compr a a' (formula-related a a' e)) s h2) h
 
-    pub field-related : (a s : FieldTree) → related_field a p s ≡ true → FieldsRelated X a s
+    pub field-related : (a s : FieldTree) → related_field a true p s ≡ true → FieldsRelated X a s
     field-related (t.free_field x) s h = either (p (t.of_field (t.free_field x)) (t.of_field s)) (free_field_with (λ x'. name_equal x x') s) (FieldsRelated X (t.free_field x) s) (λ e. r.field_here (t.free_field x) s (sound (t.of_field (t.free_field x)) (t.of_field s) e)) (λ h2. free_field_with-inv (λ x'. name_equal x x') (λ s. FieldsRelated X (t.free_field x) s) (λ x' e. subst (λ (z0 : Name). FieldsRelated X (t.free_field x) (t.free_field z0)) (name_equal-true x x' e) (r.free_field x)) s h2) h
-    field-related (t.update a b c) s h = either (p (t.of_field (t.update a b c)) (t.of_field s)) (update_with (λ a' b' c'. related_field a p a' && related_term b p b' && related_value c p c') s) (FieldsRelated X (t.update a b c) s) (λ e. r.field_here (t.update a b c) s (sound (t.of_field (t.update a b c)) (t.of_field s) e)) (λ h2. update_with-inv (λ a' b' c'. related_field a p a' && related_term b p b' && related_value c p c') (λ s. FieldsRelated X (t.update a b c) s) (λ a' b' c' e. r.update a a' b b' c c' (field-related a a' (both-left (related_field a p a') (related_term b p b') (both-left (related_field a p a' && related_term b p b') (related_value c p c') e))) (term-related b b' (both-right (related_field a p a') (related_term b p b') (both-left (related_field a p a' && related_term b p b') (related_value c p c') e))) (value-related c c' (both-right (related_field a p a' && related_term b p b') (related_value c p c') e))) s h2) h
+    field-related (t.update a b c) s h = either (p (t.of_field (t.update a b c)) (t.of_field s)) (update_with (λ a' b' c'. related_field a true p a' && related_term b true p b' && related_value c true p c') s) (FieldsRelated X (t.update a b c) s) (λ e. r.field_here (t.update a b c) s (sound (t.of_field (t.update a b c)) (t.of_field s) e)) (λ h2. update_with-inv (λ a' b' c'. related_field a true p a' && related_term b true p b' && related_value c true p c') (λ s. FieldsRelated X (t.update a b c) s) (λ a' b' c' e. r.update a a' b b' c c' (field-related a a' (both-left (related_field a true p a') (related_term b true p b') (both-left (related_field a true p a' && related_term b true p b') (related_value c true p c') e))) (term-related b b' (both-right (related_field a true p a') (related_term b true p b') (both-left (related_field a true p a' && related_term b true p b') (related_value c true p c') e))) (value-related c c' (both-right (related_field a true p a' && related_term b true p b') (related_value c true p c') e))) s h2) h
 
-    pub value-related : (a s : ValueTree) → related_value a p s ≡ true → ValuesRelated X a s
-    value-related (t.of_object a) s h2 = of_object_with-inv (λ a'. related_term a p a') (λ s. ValuesRelated X (t.of_object a) s) (λ a' e. r.of_object a a' (term-related a a' e)) s h2
-    value-related (t.of_number a) s h2 = of_number_with-inv (λ a'. related_int a p a') (λ s. ValuesRelated X (t.of_number a) s) (λ a' e. r.of_number a a' (int-related a a' e)) s h2
-    value-related (t.of_truth a) s h2 = of_truth_with-inv (λ a'. related_formula a p a') (λ s. ValuesRelated X (t.of_truth a) s) (λ a' e. r.of_truth a a' (formula-related a a' e)) s h2
-    value-related (t.of_set a) s h2 = of_set_with-inv (λ a'. related_set a p a') (λ s. ValuesRelated X (t.of_set a) s) (λ a' e. r.of_set a a' (set-related a a' e)) s h2
-    value-related (t.of_field a) s h2 = of_field_with-inv (λ a'. related_field a p a') (λ s. ValuesRelated X (t.of_field a) s) (λ a' e. r.of_field a a' (field-related a a' e)) s h2
+    pub value-related : (a s : ValueTree) → related_value a true p s ≡ true → ValuesRelated X a s
+    value-related (t.of_object a) s h2 = of_object_with-inv (λ a'. related_term a true p a') (λ s. ValuesRelated X (t.of_object a) s) (λ a' e. r.of_object a a' (term-related a a' e)) s h2
+    value-related (t.of_number a) s h2 = of_number_with-inv (λ a'. related_int a true p a') (λ s. ValuesRelated X (t.of_number a) s) (λ a' e. r.of_number a a' (int-related a a' e)) s h2
+    value-related (t.of_truth a) s h2 = of_truth_with-inv (λ a'. related_formula a true p a') (λ s. ValuesRelated X (t.of_truth a) s) (λ a' e. r.of_truth a a' (formula-related a a' e)) s h2
+    value-related (t.of_set a) s h2 = of_set_with-inv (λ a'. related_set a true p a') (λ s. ValuesRelated X (t.of_set a) s) (λ a' e. r.of_set a a' (set-related a a' e)) s h2
+    value-related (t.of_field a) s h2 = of_field_with-inv (λ a'. related_field a true p a') (λ s. ValuesRelated X (t.of_field a) s) (λ a' e. r.of_field a a' (field-related a a' e)) s h2
 
-    pub formula-related : (a s : FormulaTree) → related_formula a p s ≡ true → FormulasRelated X a s
+    pub formula-related : (a s : FormulaTree) → related_formula a true p s ≡ true → FormulasRelated X a s
     formula-related t.true_formula s h = either (p (t.of_truth t.true_formula) (t.of_truth s)) (true_formula_with s) (FormulasRelated X t.true_formula s) (λ e. r.formula_here t.true_formula s (sound (t.of_truth t.true_formula) (t.of_truth s) e)) (λ h2. true_formula_with-inv (λ s. FormulasRelated X t.true_formula s) r.true_formula s h2) h
     formula-related t.false_formula s h = either (p (t.of_truth t.false_formula) (t.of_truth s)) (false_formula_with s) (FormulasRelated X t.false_formula s) (λ e. r.formula_here t.false_formula s (sound (t.of_truth t.false_formula) (t.of_truth s) e)) (λ h2. false_formula_with-inv (λ s. FormulasRelated X t.false_formula s) r.false_formula s h2) h
     formula-related (t.free_truth x) s h = either (p (t.of_truth (t.free_truth x)) (t.of_truth s)) (free_truth_with (λ x'. name_equal x x') s) (FormulasRelated X (t.free_truth x) s) (λ e. r.formula_here (t.free_truth x) s (sound (t.of_truth (t.free_truth x)) (t.of_truth s) e)) (λ h2. free_truth_with-inv (λ x'. name_equal x x') (λ s. FormulasRelated X (t.free_truth x) s) (λ x' e. subst (λ (z0 : Name). FormulasRelated X (t.free_truth x) (t.free_truth z0)) (name_equal-true x x' e) (r.free_truth x)) s h2) h
-    formula-related (t.read_truth a b) s h = either (p (t.of_truth (t.read_truth a b)) (t.of_truth s)) (read_truth_with (λ a' b'. related_field a p a' && related_term b p b') s) (FormulasRelated X (t.read_truth a b) s) (λ e. r.formula_here (t.read_truth a b) s (sound (t.of_truth (t.read_truth a b)) (t.of_truth s) e)) (λ h2. read_truth_with-inv (λ a' b'. related_field a p a' && related_term b p b') (λ s. FormulasRelated X (t.read_truth a b) s) (λ a' b' e. r.read_truth a a' b b' (field-related a a' (both-left (related_field a p a') (related_term b p b') e)) (term-related b b' (both-right (related_field a p a') (related_term b p b') e))) s h2) h
-    formula-related (t.negation a) s h = either (p (t.of_truth (t.negation a)) (t.of_truth s)) (negation_with (λ a'. related_formula a p a') s) (FormulasRelated X (t.negation a) s) (λ e. r.formula_here (t.negation a) s (sound (t.of_truth (t.negation a)) (t.of_truth s) e)) (λ h2. negation_with-inv (λ a'. related_formula a p a') (λ s. FormulasRelated X (t.negation a) s) (λ a' e. r.negation a a' (formula-related a a' e)) s h2) h
-    formula-related (t.and a b) s h = either (p (t.of_truth (t.and a b)) (t.of_truth s)) (and_with (λ a' b'. related_formula a p a' && related_formula b p b') s) (FormulasRelated X (t.and a b) s) (λ e. r.formula_here (t.and a b) s (sound (t.of_truth (t.and a b)) (t.of_truth s) e)) (λ h2. and_with-inv (λ a' b'. related_formula a p a' && related_formula b p b') (λ s. FormulasRelated X (t.and a b) s) (λ a' b' e. r.and a a' b b' (formula-related a a' (both-left (related_formula a p a') (related_formula b p b') e)) (formula-related b b' (both-right (related_formula a p a') (related_formula b p b') e))) s h2) h
-    formula-related (t.or a b) s h = either (p (t.of_truth (t.or a b)) (t.of_truth s)) (or_with (λ a' b'. related_formula a p a' && related_formula b p b') s) (FormulasRelated X (t.or a b) s) (λ e. r.formula_here (t.or a b) s (sound (t.of_truth (t.or a b)) (t.of_truth s) e)) (λ h2. or_with-inv (λ a' b'. related_formula a p a' && related_formula b p b') (λ s. FormulasRelated X (t.or a b) s) (λ a' b' e. r.or a a' b b' (formula-related a a' (both-left (related_formula a p a') (related_formula b p b') e)) (formula-related b b' (both-right (related_formula a p a') (related_formula b p b') e))) s h2) h
-    formula-related (t.implies a b) s h = either (p (t.of_truth (t.implies a b)) (t.of_truth s)) (implies_with (λ a' b'. related_formula a p a' && related_formula b p b') s) (FormulasRelated X (t.implies a b) s) (λ e. r.formula_here (t.implies a b) s (sound (t.of_truth (t.implies a b)) (t.of_truth s) e)) (λ h2. implies_with-inv (λ a' b'. related_formula a p a' && related_formula b p b') (λ s. FormulasRelated X (t.implies a b) s) (λ a' b' e. r.implies a a' b b' (formula-related a a' (both-left (related_formula a p a') (related_formula b p b') e)) (formula-related b b' (both-right (related_formula a p a') (related_formula b p b') e))) s h2) h
-    formula-related (t.iff a b) s h = either (p (t.of_truth (t.iff a b)) (t.of_truth s)) (iff_with (λ a' b'. related_formula a p a' && related_formula b p b') s) (FormulasRelated X (t.iff a b) s) (λ e. r.formula_here (t.iff a b) s (sound (t.of_truth (t.iff a b)) (t.of_truth s) e)) (λ h2. iff_with-inv (λ a' b'. related_formula a p a' && related_formula b p b') (λ s. FormulasRelated X (t.iff a b) s) (λ a' b' e. r.iff a a' b b' (formula-related a a' (both-left (related_formula a p a') (related_formula b p b') e)) (formula-related b b' (both-right (related_formula a p a') (related_formula b p b') e))) s h2) h
-    formula-related (t.all a) s h = either (p (t.of_truth (t.all a)) (t.of_truth s)) (all_with (λ a'. related_formula a p a') s) (FormulasRelated X (t.all a) s) (λ e. r.formula_here (t.all a) s (sound (t.of_truth (t.all a)) (t.of_truth s) e)) (λ h2. all_with-inv (λ a'. related_formula a p a') (λ s. FormulasRelated X (t.all a) s) (λ a' e. r.all a a' (formula-related a a' e)) s h2) h
-    formula-related (t.ex a) s h = either (p (t.of_truth (t.ex a)) (t.of_truth s)) (ex_with (λ a'. related_formula a p a') s) (FormulasRelated X (t.ex a) s) (λ e. r.formula_here (t.ex a) s (sound (t.of_truth (t.ex a)) (t.of_truth s) e)) (λ h2. ex_with-inv (λ a'. related_formula a p a') (λ s. FormulasRelated X (t.ex a) s) (λ a' e. r.ex a a' (formula-related a a' e)) s h2) h
-    formula-related (t.eq_object a b) s h = either (p (t.of_truth (t.eq_object a b)) (t.of_truth s)) (eq_object_with (λ a' b'. related_term a p a' && related_term b p b') s) (FormulasRelated X (t.eq_object a b) s) (λ e. r.formula_here (t.eq_object a b) s (sound (t.of_truth (t.eq_object a b)) (t.of_truth s) e)) (λ h2. eq_object_with-inv (λ a' b'. related_term a p a' && related_term b p b') (λ s. FormulasRelated X (t.eq_object a b) s) (λ a' b' e. r.eq_object a a' b b' (term-related a a' (both-left (related_term a p a') (related_term b p b') e)) (term-related b b' (both-right (related_term a p a') (related_term b p b') e))) s h2) h
-    formula-related (t.eq_number a b) s h = either (p (t.of_truth (t.eq_number a b)) (t.of_truth s)) (eq_number_with (λ a' b'. related_int a p a' && related_int b p b') s) (FormulasRelated X (t.eq_number a b) s) (λ e. r.formula_here (t.eq_number a b) s (sound (t.of_truth (t.eq_number a b)) (t.of_truth s) e)) (λ h2. eq_number_with-inv (λ a' b'. related_int a p a' && related_int b p b') (λ s. FormulasRelated X (t.eq_number a b) s) (λ a' b' e. r.eq_number a a' b b' (int-related a a' (both-left (related_int a p a') (related_int b p b') e)) (int-related b b' (both-right (related_int a p a') (related_int b p b') e))) s h2) h
-    formula-related (t.eq_set a b) s h = either (p (t.of_truth (t.eq_set a b)) (t.of_truth s)) (eq_set_with (λ a' b'. related_set a p a' && related_set b p b') s) (FormulasRelated X (t.eq_set a b) s) (λ e. r.formula_here (t.eq_set a b) s (sound (t.of_truth (t.eq_set a b)) (t.of_truth s) e)) (λ h2. eq_set_with-inv (λ a' b'. related_set a p a' && related_set b p b') (λ s. FormulasRelated X (t.eq_set a b) s) (λ a' b' e. r.eq_set a a' b b' (set-related a a' (both-left (related_set a p a') (related_set b p b') e)) (set-related b b' (both-right (related_set a p a') (related_set b p b') e))) s h2) h
-    formula-related (t.less a b) s h = either (p (t.of_truth (t.less a b)) (t.of_truth s)) (less_with (λ a' b'. related_int a p a' && related_int b p b') s) (FormulasRelated X (t.less a b) s) (λ e. r.formula_here (t.less a b) s (sound (t.of_truth (t.less a b)) (t.of_truth s) e)) (λ h2. less_with-inv (λ a' b'. related_int a p a' && related_int b p b') (λ s. FormulasRelated X (t.less a b) s) (λ a' b' e. r.less a a' b b' (int-related a a' (both-left (related_int a p a') (related_int b p b') e)) (int-related b b' (both-right (related_int a p a') (related_int b p b') e))) s h2) h
-    formula-related (t.less_equal a b) s h = either (p (t.of_truth (t.less_equal a b)) (t.of_truth s)) (less_equal_with (λ a' b'. related_int a p a' && related_int b p b') s) (FormulasRelated X (t.less_equal a b) s) (λ e. r.formula_here (t.less_equal a b) s (sound (t.of_truth (t.less_equal a b)) (t.of_truth s) e)) (λ h2. less_equal_with-inv (λ a' b'. related_int a p a' && related_int b p b') (λ s. FormulasRelated X (t.less_equal a b) s) (λ a' b' e. r.less_equal a a' b b' (int-related a a' (both-left (related_int a p a') (related_int b p b') e)) (int-related b b' (both-right (related_int a p a') (related_int b p b') e))) s h2) h
-    formula-related (t.divides z a) s h = either (p (t.of_truth (t.divides z a)) (t.of_truth s)) (divides_with (λ z' a'. int_eq z z' && related_int a p a') s) (FormulasRelated X (t.divides z a) s) (λ e. r.formula_here (t.divides z a) s (sound (t.of_truth (t.divides z a)) (t.of_truth s) e)) (λ h2. divides_with-inv (λ z' a'. int_eq z z' && related_int a p a') (λ s. FormulasRelated X (t.divides z a) s) (λ z' a' e. subst (λ (z0 : ℤ). FormulasRelated X (t.divides z a) (t.divides z0 a')) (int_eq-true z z' (both-left (int_eq z z') (related_int a p a') e)) (r.divides z a a' (int-related a a' (both-right (int_eq z z') (related_int a p a') e)))) s h2) h
-    formula-related (t.member a b) s h = either (p (t.of_truth (t.member a b)) (t.of_truth s)) (member_with (λ a' b'. related_term a p a' && related_set b p b') s) (FormulasRelated X (t.member a b) s) (λ e. r.formula_here (t.member a b) s (sound (t.of_truth (t.member a b)) (t.of_truth s) e)) (λ h2. member_with-inv (λ a' b'. related_term a p a' && related_set b p b') (λ s. FormulasRelated X (t.member a b) s) (λ a' b' e. r.member a a' b b' (term-related a a' (both-left (related_term a p a') (related_set b p b') e)) (set-related b b' (both-right (related_term a p a') (related_set b p b') e))) s h2) h
-    formula-related (t.subset a b) s h = either (p (t.of_truth (t.subset a b)) (t.of_truth s)) (subset_with (λ a' b'. related_set a p a' && related_set b p b') s) (FormulasRelated X (t.subset a b) s) (λ e. r.formula_here (t.subset a b) s (sound (t.of_truth (t.subset a b)) (t.of_truth s) e)) (λ h2. subset_with-inv (λ a' b'. related_set a p a' && related_set b p b') (λ s. FormulasRelated X (t.subset a b) s) (λ a' b' e. r.subset a a' b b' (set-related a a' (both-left (related_set a p a') (related_set b p b') e)) (set-related b b' (both-right (related_set a p a') (related_set b p b') e))) s h2) h
-    formula-related (t.reach fs a b) s h = either (p (t.of_truth (t.reach fs a b)) (t.of_truth s)) (reach_with (λ fs' a' b'. related_fields fs p fs' && related_term a p a' && related_term b p b') s) (FormulasRelated X (t.reach fs a b) s) (λ e. r.formula_here (t.reach fs a b) s (sound (t.of_truth (t.reach fs a b)) (t.of_truth s) e)) (λ h2. reach_with-inv (λ fs' a' b'. related_fields fs p fs' && related_term a p a' && related_term b p b') (λ s. FormulasRelated X (t.reach fs a b) s) (λ fs' a' b' e. r.reach fs fs' a a' b b' (fields-related fs fs' (both-left (related_fields fs p fs') (related_term a p a') (both-left (related_fields fs p fs' && related_term a p a') (related_term b p b') e))) (term-related a a' (both-right (related_fields fs p fs') (related_term a p a') (both-left (related_fields fs p fs' && related_term a p a') (related_term b p b') e))) (term-related b b' (both-right (related_fields fs p fs' && related_term a p a') (related_term b p b') e))) s h2) h
-    formula-related (t.tree fs) s h = either (p (t.of_truth (t.tree fs)) (t.of_truth s)) (tree_with (λ fs'. related_fields fs p fs') s) (FormulasRelated X (t.tree fs) s) (λ e. r.formula_here (t.tree fs) s (sound (t.of_truth (t.tree fs)) (t.of_truth s) e)) (λ h2. tree_with-inv (λ fs'. related_fields fs p fs') (λ s. FormulasRelated X (t.tree fs) s) (λ fs' e. r.tree fs fs' (fields-related fs fs' e)) s h2) h
-    formula-related (t.mark k a) s h = either (p (t.of_truth (t.mark k a)) (t.of_truth s)) (mark_with (λ k' a'. mark_equal k k' && related_formula a p a') s) (FormulasRelated X (t.mark k a) s) (λ e. r.formula_here (t.mark k a) s (sound (t.of_truth (t.mark k a)) (t.of_truth s) e)) (λ h2. mark_with-inv (λ k' a'. mark_equal k k' && related_formula a p a') (λ s. FormulasRelated X (t.mark k a) s) (λ k' a' e. subst (λ (z0 : Mark). FormulasRelated X (t.mark k a) (t.mark z0 a')) (mark_equal-true k k' (both-left (mark_equal k k') (related_formula a p a') e)) (r.mark k a a' (formula-related a a' (both-right (mark_equal k k') (related_formula a p a') e)))) s h2) h
+    formula-related (t.read_truth a b) s h = either (p (t.of_truth (t.read_truth a b)) (t.of_truth s)) (read_truth_with (λ a' b'. related_field a true p a' && related_term b true p b') s) (FormulasRelated X (t.read_truth a b) s) (λ e. r.formula_here (t.read_truth a b) s (sound (t.of_truth (t.read_truth a b)) (t.of_truth s) e)) (λ h2. read_truth_with-inv (λ a' b'. related_field a true p a' && related_term b true p b') (λ s. FormulasRelated X (t.read_truth a b) s) (λ a' b' e. r.read_truth a a' b b' (field-related a a' (both-left (related_field a true p a') (related_term b true p b') e)) (term-related b b' (both-right (related_field a true p a') (related_term b true p b') e))) s h2) h
+    formula-related (t.negation a) s h = either (p (t.of_truth (t.negation a)) (t.of_truth s)) (negation_with (λ a'. related_formula a true p a') s) (FormulasRelated X (t.negation a) s) (λ e. r.formula_here (t.negation a) s (sound (t.of_truth (t.negation a)) (t.of_truth s) e)) (λ h2. negation_with-inv (λ a'. related_formula a true p a') (λ s. FormulasRelated X (t.negation a) s) (λ a' e. r.negation a a' (formula-related a a' e)) s h2) h
+    formula-related (t.and a b) s h = either (p (t.of_truth (t.and a b)) (t.of_truth s)) (and_with (λ a' b'. related_formula a true p a' && related_formula b true p b') s) (FormulasRelated X (t.and a b) s) (λ e. r.formula_here (t.and a b) s (sound (t.of_truth (t.and a b)) (t.of_truth s) e)) (λ h2. and_with-inv (λ a' b'. related_formula a true p a' && related_formula b true p b') (λ s. FormulasRelated X (t.and a b) s) (λ a' b' e. r.and a a' b b' (formula-related a a' (both-left (related_formula a true p a') (related_formula b true p b') e)) (formula-related b b' (both-right (related_formula a true p a') (related_formula b true p b') e))) s h2) h
+    formula-related (t.or a b) s h = either (p (t.of_truth (t.or a b)) (t.of_truth s)) (or_with (λ a' b'. related_formula a true p a' && related_formula b true p b') s) (FormulasRelated X (t.or a b) s) (λ e. r.formula_here (t.or a b) s (sound (t.of_truth (t.or a b)) (t.of_truth s) e)) (λ h2. or_with-inv (λ a' b'. related_formula a true p a' && related_formula b true p b') (λ s. FormulasRelated X (t.or a b) s) (λ a' b' e. r.or a a' b b' (formula-related a a' (both-left (related_formula a true p a') (related_formula b true p b') e)) (formula-related b b' (both-right (related_formula a true p a') (related_formula b true p b') e))) s h2) h
+    formula-related (t.implies a b) s h = either (p (t.of_truth (t.implies a b)) (t.of_truth s)) (implies_with (λ a' b'. related_formula a true p a' && related_formula b true p b') s) (FormulasRelated X (t.implies a b) s) (λ e. r.formula_here (t.implies a b) s (sound (t.of_truth (t.implies a b)) (t.of_truth s) e)) (λ h2. implies_with-inv (λ a' b'. related_formula a true p a' && related_formula b true p b') (λ s. FormulasRelated X (t.implies a b) s) (λ a' b' e. r.implies a a' b b' (formula-related a a' (both-left (related_formula a true p a') (related_formula b true p b') e)) (formula-related b b' (both-right (related_formula a true p a') (related_formula b true p b') e))) s h2) h
+    formula-related (t.iff a b) s h = either (p (t.of_truth (t.iff a b)) (t.of_truth s)) (iff_with (λ a' b'. related_formula a true p a' && related_formula b true p b') s) (FormulasRelated X (t.iff a b) s) (λ e. r.formula_here (t.iff a b) s (sound (t.of_truth (t.iff a b)) (t.of_truth s) e)) (λ h2. iff_with-inv (λ a' b'. related_formula a true p a' && related_formula b true p b') (λ s. FormulasRelated X (t.iff a b) s) (λ a' b' e. r.iff a a' b b' (formula-related a a' (both-left (related_formula a true p a') (related_formula b true p b') e)) (formula-related b b' (both-right (related_formula a true p a') (related_formula b true p b') e))) s h2) h
+    formula-related (t.all a) s h = either (p (t.of_truth (t.all a)) (t.of_truth s)) (all_with (λ a'. related_formula a true p a') s) (FormulasRelated X (t.all a) s) (λ e. r.formula_here (t.all a) s (sound (t.of_truth (t.all a)) (t.of_truth s) e)) (λ h2. all_with-inv (λ a'. related_formula a true p a') (λ s. FormulasRelated X (t.all a) s) (λ a' e. r.all a a' (formula-related a a' e)) s h2) h
+    formula-related (t.ex a) s h = either (p (t.of_truth (t.ex a)) (t.of_truth s)) (ex_with (λ a'. related_formula a true p a') s) (FormulasRelated X (t.ex a) s) (λ e. r.formula_here (t.ex a) s (sound (t.of_truth (t.ex a)) (t.of_truth s) e)) (λ h2. ex_with-inv (λ a'. related_formula a true p a') (λ s. FormulasRelated X (t.ex a) s) (λ a' e. r.ex a a' (formula-related a a' e)) s h2) h
+    formula-related (t.eq_object a b) s h = either (p (t.of_truth (t.eq_object a b)) (t.of_truth s)) (eq_object_with (λ a' b'. related_term a true p a' && related_term b true p b') s) (FormulasRelated X (t.eq_object a b) s) (λ e. r.formula_here (t.eq_object a b) s (sound (t.of_truth (t.eq_object a b)) (t.of_truth s) e)) (λ h2. eq_object_with-inv (λ a' b'. related_term a true p a' && related_term b true p b') (λ s. FormulasRelated X (t.eq_object a b) s) (λ a' b' e. r.eq_object a a' b b' (term-related a a' (both-left (related_term a true p a') (related_term b true p b') e)) (term-related b b' (both-right (related_term a true p a') (related_term b true p b') e))) s h2) h
+    formula-related (t.eq_number a b) s h = either (p (t.of_truth (t.eq_number a b)) (t.of_truth s)) (eq_number_with (λ a' b'. related_int a true p a' && related_int b true p b') s) (FormulasRelated X (t.eq_number a b) s) (λ e. r.formula_here (t.eq_number a b) s (sound (t.of_truth (t.eq_number a b)) (t.of_truth s) e)) (λ h2. eq_number_with-inv (λ a' b'. related_int a true p a' && related_int b true p b') (λ s. FormulasRelated X (t.eq_number a b) s) (λ a' b' e. r.eq_number a a' b b' (int-related a a' (both-left (related_int a true p a') (related_int b true p b') e)) (int-related b b' (both-right (related_int a true p a') (related_int b true p b') e))) s h2) h
+    formula-related (t.eq_set a b) s h = either (p (t.of_truth (t.eq_set a b)) (t.of_truth s)) (eq_set_with (λ a' b'. related_set a true p a' && related_set b true p b') s) (FormulasRelated X (t.eq_set a b) s) (λ e. r.formula_here (t.eq_set a b) s (sound (t.of_truth (t.eq_set a b)) (t.of_truth s) e)) (λ h2. eq_set_with-inv (λ a' b'. related_set a true p a' && related_set b true p b') (λ s. FormulasRelated X (t.eq_set a b) s) (λ a' b' e. r.eq_set a a' b b' (set-related a a' (both-left (related_set a true p a') (related_set b true p b') e)) (set-related b b' (both-right (related_set a true p a') (related_set b true p b') e))) s h2) h
+    formula-related (t.less a b) s h = either (p (t.of_truth (t.less a b)) (t.of_truth s)) (less_with (λ a' b'. related_int a true p a' && related_int b true p b') s) (FormulasRelated X (t.less a b) s) (λ e. r.formula_here (t.less a b) s (sound (t.of_truth (t.less a b)) (t.of_truth s) e)) (λ h2. less_with-inv (λ a' b'. related_int a true p a' && related_int b true p b') (λ s. FormulasRelated X (t.less a b) s) (λ a' b' e. r.less a a' b b' (int-related a a' (both-left (related_int a true p a') (related_int b true p b') e)) (int-related b b' (both-right (related_int a true p a') (related_int b true p b') e))) s h2) h
+    formula-related (t.less_equal a b) s h = either (p (t.of_truth (t.less_equal a b)) (t.of_truth s)) (less_equal_with (λ a' b'. related_int a true p a' && related_int b true p b') s) (FormulasRelated X (t.less_equal a b) s) (λ e. r.formula_here (t.less_equal a b) s (sound (t.of_truth (t.less_equal a b)) (t.of_truth s) e)) (λ h2. less_equal_with-inv (λ a' b'. related_int a true p a' && related_int b true p b') (λ s. FormulasRelated X (t.less_equal a b) s) (λ a' b' e. r.less_equal a a' b b' (int-related a a' (both-left (related_int a true p a') (related_int b true p b') e)) (int-related b b' (both-right (related_int a true p a') (related_int b true p b') e))) s h2) h
+    formula-related (t.divides z a) s h = either (p (t.of_truth (t.divides z a)) (t.of_truth s)) (divides_with (λ z' a'. int_eq z z' && related_int a true p a') s) (FormulasRelated X (t.divides z a) s) (λ e. r.formula_here (t.divides z a) s (sound (t.of_truth (t.divides z a)) (t.of_truth s) e)) (λ h2. divides_with-inv (λ z' a'. int_eq z z' && related_int a true p a') (λ s. FormulasRelated X (t.divides z a) s) (λ z' a' e. subst (λ (z0 : ℤ). FormulasRelated X (t.divides z a) (t.divides z0 a')) (int_eq-true z z' (both-left (int_eq z z') (related_int a true p a') e)) (r.divides z a a' (int-related a a' (both-right (int_eq z z') (related_int a true p a') e)))) s h2) h
+    formula-related (t.member a b) s h = either (p (t.of_truth (t.member a b)) (t.of_truth s)) (member_with (λ a' b'. related_term a true p a' && related_set b true p b') s) (FormulasRelated X (t.member a b) s) (λ e. r.formula_here (t.member a b) s (sound (t.of_truth (t.member a b)) (t.of_truth s) e)) (λ h2. member_with-inv (λ a' b'. related_term a true p a' && related_set b true p b') (λ s. FormulasRelated X (t.member a b) s) (λ a' b' e. r.member a a' b b' (term-related a a' (both-left (related_term a true p a') (related_set b true p b') e)) (set-related b b' (both-right (related_term a true p a') (related_set b true p b') e))) s h2) h
+    formula-related (t.subset a b) s h = either (p (t.of_truth (t.subset a b)) (t.of_truth s)) (subset_with (λ a' b'. related_set a true p a' && related_set b true p b') s) (FormulasRelated X (t.subset a b) s) (λ e. r.formula_here (t.subset a b) s (sound (t.of_truth (t.subset a b)) (t.of_truth s) e)) (λ h2. subset_with-inv (λ a' b'. related_set a true p a' && related_set b true p b') (λ s. FormulasRelated X (t.subset a b) s) (λ a' b' e. r.subset a a' b b' (set-related a a' (both-left (related_set a true p a') (related_set b true p b') e)) (set-related b b' (both-right (related_set a true p a') (related_set b true p b') e))) s h2) h
+    formula-related (t.reach fs a b) s h = either (p (t.of_truth (t.reach fs a b)) (t.of_truth s)) (reach_with (λ fs' a' b'. related_fields fs true p fs' && related_term a true p a' && related_term b true p b') s) (FormulasRelated X (t.reach fs a b) s) (λ e. r.formula_here (t.reach fs a b) s (sound (t.of_truth (t.reach fs a b)) (t.of_truth s) e)) (λ h2. reach_with-inv (λ fs' a' b'. related_fields fs true p fs' && related_term a true p a' && related_term b true p b') (λ s. FormulasRelated X (t.reach fs a b) s) (λ fs' a' b' e. r.reach fs fs' a a' b b' (fields-related fs fs' (both-left (related_fields fs true p fs') (related_term a true p a') (both-left (related_fields fs true p fs' && related_term a true p a') (related_term b true p b') e))) (term-related a a' (both-right (related_fields fs true p fs') (related_term a true p a') (both-left (related_fields fs true p fs' && related_term a true p a') (related_term b true p b') e))) (term-related b b' (both-right (related_fields fs true p fs' && related_term a true p a') (related_term b true p b') e))) s h2) h
+    formula-related (t.tree fs) s h = either (p (t.of_truth (t.tree fs)) (t.of_truth s)) (tree_with (λ fs'. related_fields fs true p fs') s) (FormulasRelated X (t.tree fs) s) (λ e. r.formula_here (t.tree fs) s (sound (t.of_truth (t.tree fs)) (t.of_truth s) e)) (λ h2. tree_with-inv (λ fs'. related_fields fs true p fs') (λ s. FormulasRelated X (t.tree fs) s) (λ fs' e. r.tree fs fs' (fields-related fs fs' e)) s h2) h
+    formula-related (t.mark k a) s h = either (p (t.of_truth (t.mark k a)) (t.of_truth s)) (mark_with (λ k' a'. mark_equal k k' && related_formula a true p a') s) (FormulasRelated X (t.mark k a) s) (λ e. r.formula_here (t.mark k a) s (sound (t.of_truth (t.mark k a)) (t.of_truth s) e)) (λ h2. mark_with-inv (λ k' a'. mark_equal k k' && related_formula a true p a') (λ s. FormulasRelated X (t.mark k a) s) (λ k' a' e. subst (λ (z0 : Mark). FormulasRelated X (t.mark k a) (t.mark z0 a')) (mark_equal-true k k' (both-left (mark_equal k k') (related_formula a true p a') e)) (r.mark k a a' (formula-related a a' (both-right (mark_equal k k') (related_formula a true p a') e)))) s h2) h
 
-    pub fields-related : (a s : FieldTrees) → related_fields a p s ≡ true → ListsRelated X a s
+    pub fields-related : (a s : FieldTrees) → related_fields a true p s ≡ true → ListsRelated X a s
     fields-related t.none s h2 = none_with-inv (λ s. ListsRelated X t.none s) r.none s h2
-    fields-related (t.more f fs) s h2 = more_with-inv (λ f' fs'. related_field f p f' && related_fields fs p fs') (λ s. ListsRelated X (t.more f fs) s) (λ f' fs' e. r.more f f' fs fs' (field-related f f' (both-left (related_field f p f') (related_fields fs p fs') e)) (fields-related fs fs' (both-right (related_field f p f') (related_fields fs p fs') e))) s h2
+    fields-related (t.more f fs) s h2 = more_with-inv (λ f' fs'. related_field f true p f' && related_fields fs true p fs') (λ s. ListsRelated X (t.more f fs) s) (λ f' fs' e. r.more f f' fs fs' (field-related f f' (both-left (related_field f true p f') (related_fields fs true p fs') e)) (fields-related fs fs' (both-right (related_field f true p f') (related_fields fs true p fs') e))) s h2
 
 module _ (p : ValueTree → ValueTree → Bool) (X : ValueTree → ValueTree → Type 0) (complete : (u v : ValueTree) → X u v → p u v ≡ true) where
   here_lemma : (u v : ValueTree) (b : Bool) → X u v → (p u v || b) ≡ true
   here_lemma u v b x = or-left (p u v) b (complete u v x)
 
-  pub term_here-passes : (a s : TermTree) → X (t.of_object a) (t.of_object s) → related_term a p s ≡ true
+  pub term_here-passes : (w : Bool) (a s : TermTree) → X (t.of_object a) (t.of_object s) → related_term a w p s ≡ true
   unfolding related_term
-  term_here-passes (t.bound k) s here = here_lemma (t.of_object (t.bound k)) (t.of_object s) (bound_with (λ k'. nat_eq k k') s) here
-  term_here-passes (t.free_object x) s here = here_lemma (t.of_object (t.free_object x)) (t.of_object s) (free_object_with (λ x'. name_equal x x') s) here
-  term_here-passes t.null s here = here_lemma (t.of_object t.null) (t.of_object s) (null_with s) here
-  term_here-passes (t.read_object a b) s here = here_lemma (t.of_object (t.read_object a b)) (t.of_object s) (read_object_with (λ a' b'. related_field a p a' && related_term b p b') s) here
+  term_here-passes w (t.bound k) s here = here_lemma (t.of_object (t.bound k)) (t.of_object s) (bound_with (λ k'. nat_eq k k') s) here
+  term_here-passes w (t.free_object x) s here = here_lemma (t.of_object (t.free_object x)) (t.of_object s) (free_object_with (λ x'. name_equal x x') s) here
+  term_here-passes w t.null s here = here_lemma (t.of_object t.null) (t.of_object s) (null_with s) here
+  term_here-passes w (t.read_object a b) s here = here_lemma (t.of_object (t.read_object a b)) (t.of_object s) (read_object_with (λ a' b'. related_field a w p a' && related_term b w p b') s) here
 
-  pub int_here-passes : (a s : IntTree) → X (t.of_number a) (t.of_number s) → related_int a p s ≡ true
+  pub int_here-passes : (w : Bool) (a s : IntTree) → X (t.of_number a) (t.of_number s) → related_int a w p s ≡ true
   unfolding related_int
-  int_here-passes (t.const z) s here = here_lemma (t.of_number (t.const z)) (t.of_number s) (const_with (λ z'. int_eq z z') s) here
-  int_here-passes (t.free_number x) s here = here_lemma (t.of_number (t.free_number x)) (t.of_number s) (free_number_with (λ x'. name_equal x x') s) here
-  int_here-passes (t.read_number a b) s here = here_lemma (t.of_number (t.read_number a b)) (t.of_number s) (read_number_with (λ a' b'. related_field a p a' && related_term b p b') s) here
-  int_here-passes (t.add a b) s here = here_lemma (t.of_number (t.add a b)) (t.of_number s) (add_with (λ a' b'. related_int a p a' && related_int b p b') s) here
-  int_here-passes (t.sub a b) s here = here_lemma (t.of_number (t.sub a b)) (t.of_number s) (sub_with (λ a' b'. related_int a p a' && related_int b p b') s) here
-  int_here-passes (t.neg a) s here = here_lemma (t.of_number (t.neg a)) (t.of_number s) (neg_with (λ a'. related_int a p a') s) here
-  int_here-passes (t.scale z a) s here = here_lemma (t.of_number (t.scale z a)) (t.of_number s) (scale_with (λ z' a'. int_eq z z' && related_int a p a') s) here
-  int_here-passes (t.card a) s here = here_lemma (t.of_number (t.card a)) (t.of_number s) (card_with (λ a'. related_set a p a') s) here
+  int_here-passes w (t.const z) s here = here_lemma (t.of_number (t.const z)) (t.of_number s) (const_with (λ z'. int_eq z z') s) here
+  int_here-passes w (t.free_number x) s here = here_lemma (t.of_number (t.free_number x)) (t.of_number s) (free_number_with (λ x'. name_equal x x') s) here
+  int_here-passes w (t.read_number a b) s here = here_lemma (t.of_number (t.read_number a b)) (t.of_number s) (read_number_with (λ a' b'. related_field a w p a' && related_term b w p b') s) here
+  int_here-passes w (t.add a b) s here = here_lemma (t.of_number (t.add a b)) (t.of_number s) (add_with (λ a' b'. related_int a w p a' && related_int b w p b') s) here
+  int_here-passes w (t.sub a b) s here = here_lemma (t.of_number (t.sub a b)) (t.of_number s) (sub_with (λ a' b'. related_int a w p a' && related_int b w p b') s) here
+  int_here-passes w (t.neg a) s here = here_lemma (t.of_number (t.neg a)) (t.of_number s) (neg_with (λ a'. related_int a w p a') s) here
+  int_here-passes w (t.scale z a) s here = here_lemma (t.of_number (t.scale z a)) (t.of_number s) (scale_with (λ z' a'. int_eq z z' && related_int a w p a') s) here
+  int_here-passes w (t.card a) s here = here_lemma (t.of_number (t.card a)) (t.of_number s) (card_with (λ a'. related_set a w p a') s) here
 
-  pub set_here-passes : (a s : SetTree) → X (t.of_set a) (t.of_set s) → related_set a p s ≡ true
+  pub set_here-passes : (w : Bool) (a s : SetTree) → X (t.of_set a) (t.of_set s) → related_set a w p s ≡ true
   unfolding related_set
-  set_here-passes (t.free_set x) s here = here_lemma (t.of_set (t.free_set x)) (t.of_set s) (free_set_with (λ x'. name_equal x x') s) here
-  set_here-passes (t.read_set a b) s here = here_lemma (t.of_set (t.read_set a b)) (t.of_set s) (read_set_with (λ a' b'. related_field a p a' && related_term b p b') s) here
-  set_here-passes t.empty s here = here_lemma (t.of_set t.empty) (t.of_set s) (empty_with s) here
-  set_here-passes t.univ s here = here_lemma (t.of_set t.univ) (t.of_set s) (univ_with s) here
-  set_here-passes (t.single a) s here = here_lemma (t.of_set (t.single a)) (t.of_set s) (single_with (λ a'. related_term a p a') s) here
-  set_here-passes (t.union a b) s here = here_lemma (t.of_set (t.union a b)) (t.of_set s) (union_with (λ a' b'. related_set a p a' && related_set b p b') s) here
-  set_here-passes (t.inter a b) s here = here_lemma (t.of_set (t.inter a b)) (t.of_set s) (inter_with (λ a' b'. related_set a p a' && related_set b p b') s) here
-  set_here-passes (t.diff a b) s here = here_lemma (t.of_set (t.diff a b)) (t.of_set s) (diff_with (λ a' b'. related_set a p a' && related_set b p b') s) here
-  set_here-passes (t.compl a) s here = here_lemma (t.of_set (t.compl a)) (t.of_set s) (compl_with (λ a'. related_set a p a') s) here
-  set_here-passes (t.compr a) s here = here_lemma (t.of_set (t.compr a)) (t.of_set s) (compr_with (λ a'. related_formula a p a') s) here
+  set_here-passes w (t.free_set x) s here = here_lemma (t.of_set (t.free_set x)) (t.of_set s) (free_set_with (λ x'. name_equal x x') s) here
+  set_here-passes w (t.read_set a b) s here = here_lemma (t.of_set (t.read_set a b)) (t.of_set s) (read_set_with (λ a' b'. related_field a w p a' && related_term b w p b') s) here
+  set_here-passes w t.empty s here = here_lemma (t.of_set t.empty) (t.of_set s) (empty_with s) here
+  set_here-passes w t.univ s here = here_lemma (t.of_set t.univ) (t.of_set s) (univ_with s) here
+  set_here-passes w (t.single a) s here = here_lemma (t.of_set (t.single a)) (t.of_set s) (single_with (λ a'. related_term a w p a') s) here
+  set_here-passes w (t.union a b) s here = here_lemma (t.of_set (t.union a b)) (t.of_set s) (union_with (λ a' b'. related_set a w p a' && related_set b w p b') s) here
+  set_here-passes w (t.inter a b) s here = here_lemma (t.of_set (t.inter a b)) (t.of_set s) (inter_with (λ a' b'. related_set a w p a' && related_set b w p b') s) here
+  set_here-passes w (t.diff a b) s here = here_lemma (t.of_set (t.diff a b)) (t.of_set s) (diff_with (λ a' b'. related_set a w p a' && related_set b w p b') s) here
+  set_here-passes w (t.compl a) s here = here_lemma (t.of_set (t.compl a)) (t.of_set s) (compl_with (λ a'. related_set a w p a') s) here
+  set_here-passes w (t.compr a) s here = here_lemma (t.of_set (t.compr a)) (t.of_set s) (compr_with (λ a'. related_formula a w p a') s) here
 
-  pub field_here-passes : (a s : FieldTree) → X (t.of_field a) (t.of_field s) → related_field a p s ≡ true
+  pub field_here-passes : (w : Bool) (a s : FieldTree) → X (t.of_field a) (t.of_field s) → related_field a w p s ≡ true
   unfolding related_field
-  field_here-passes (t.free_field x) s here = here_lemma (t.of_field (t.free_field x)) (t.of_field s) (free_field_with (λ x'. name_equal x x') s) here
-  field_here-passes (t.update a b c) s here = here_lemma (t.of_field (t.update a b c)) (t.of_field s) (update_with (λ a' b' c'. related_field a p a' && related_term b p b' && related_value c p c') s) here
+  field_here-passes w (t.free_field x) s here = here_lemma (t.of_field (t.free_field x)) (t.of_field s) (free_field_with (λ x'. name_equal x x') s) here
+  field_here-passes w (t.update a b c) s here = here_lemma (t.of_field (t.update a b c)) (t.of_field s) (update_with (λ a' b' c'. related_field a w p a' && related_term b w p b' && related_value c w p c') s) here
 
-  pub formula_here-passes : (a s : FormulaTree) → X (t.of_truth a) (t.of_truth s) → related_formula a p s ≡ true
+  pub formula_here-passes : (w : Bool) (a s : FormulaTree) → X (t.of_truth a) (t.of_truth s) → related_formula a w p s ≡ true
   unfolding related_formula
-  formula_here-passes t.true_formula s here = here_lemma (t.of_truth t.true_formula) (t.of_truth s) (true_formula_with s) here
-  formula_here-passes t.false_formula s here = here_lemma (t.of_truth t.false_formula) (t.of_truth s) (false_formula_with s) here
-  formula_here-passes (t.free_truth x) s here = here_lemma (t.of_truth (t.free_truth x)) (t.of_truth s) (free_truth_with (λ x'. name_equal x x') s) here
-  formula_here-passes (t.read_truth a b) s here = here_lemma (t.of_truth (t.read_truth a b)) (t.of_truth s) (read_truth_with (λ a' b'. related_field a p a' && related_term b p b') s) here
-  formula_here-passes (t.negation a) s here = here_lemma (t.of_truth (t.negation a)) (t.of_truth s) (negation_with (λ a'. related_formula a p a') s) here
-  formula_here-passes (t.and a b) s here = here_lemma (t.of_truth (t.and a b)) (t.of_truth s) (and_with (λ a' b'. related_formula a p a' && related_formula b p b') s) here
-  formula_here-passes (t.or a b) s here = here_lemma (t.of_truth (t.or a b)) (t.of_truth s) (or_with (λ a' b'. related_formula a p a' && related_formula b p b') s) here
-  formula_here-passes (t.implies a b) s here = here_lemma (t.of_truth (t.implies a b)) (t.of_truth s) (implies_with (λ a' b'. related_formula a p a' && related_formula b p b') s) here
-  formula_here-passes (t.iff a b) s here = here_lemma (t.of_truth (t.iff a b)) (t.of_truth s) (iff_with (λ a' b'. related_formula a p a' && related_formula b p b') s) here
-  formula_here-passes (t.all a) s here = here_lemma (t.of_truth (t.all a)) (t.of_truth s) (all_with (λ a'. related_formula a p a') s) here
-  formula_here-passes (t.ex a) s here = here_lemma (t.of_truth (t.ex a)) (t.of_truth s) (ex_with (λ a'. related_formula a p a') s) here
-  formula_here-passes (t.eq_object a b) s here = here_lemma (t.of_truth (t.eq_object a b)) (t.of_truth s) (eq_object_with (λ a' b'. related_term a p a' && related_term b p b') s) here
-  formula_here-passes (t.eq_number a b) s here = here_lemma (t.of_truth (t.eq_number a b)) (t.of_truth s) (eq_number_with (λ a' b'. related_int a p a' && related_int b p b') s) here
-  formula_here-passes (t.eq_set a b) s here = here_lemma (t.of_truth (t.eq_set a b)) (t.of_truth s) (eq_set_with (λ a' b'. related_set a p a' && related_set b p b') s) here
-  formula_here-passes (t.less a b) s here = here_lemma (t.of_truth (t.less a b)) (t.of_truth s) (less_with (λ a' b'. related_int a p a' && related_int b p b') s) here
-  formula_here-passes (t.less_equal a b) s here = here_lemma (t.of_truth (t.less_equal a b)) (t.of_truth s) (less_equal_with (λ a' b'. related_int a p a' && related_int b p b') s) here
-  formula_here-passes (t.divides z a) s here = here_lemma (t.of_truth (t.divides z a)) (t.of_truth s) (divides_with (λ z' a'. int_eq z z' && related_int a p a') s) here
-  formula_here-passes (t.member a b) s here = here_lemma (t.of_truth (t.member a b)) (t.of_truth s) (member_with (λ a' b'. related_term a p a' && related_set b p b') s) here
-  formula_here-passes (t.subset a b) s here = here_lemma (t.of_truth (t.subset a b)) (t.of_truth s) (subset_with (λ a' b'. related_set a p a' && related_set b p b') s) here
-  formula_here-passes (t.reach fs a b) s here = here_lemma (t.of_truth (t.reach fs a b)) (t.of_truth s) (reach_with (λ fs' a' b'. related_fields fs p fs' && related_term a p a' && related_term b p b') s) here
-  formula_here-passes (t.tree fs) s here = here_lemma (t.of_truth (t.tree fs)) (t.of_truth s) (tree_with (λ fs'. related_fields fs p fs') s) here
-  formula_here-passes (t.mark k a) s here = here_lemma (t.of_truth (t.mark k a)) (t.of_truth s) (mark_with (λ k' a'. mark_equal k k' && related_formula a p a') s) here
+  formula_here-passes w t.true_formula s here = here_lemma (t.of_truth t.true_formula) (t.of_truth s) (true_formula_with (seen w s)) here
+  formula_here-passes w t.false_formula s here = here_lemma (t.of_truth t.false_formula) (t.of_truth s) (false_formula_with (seen w s)) here
+  formula_here-passes w (t.free_truth x) s here = here_lemma (t.of_truth (t.free_truth x)) (t.of_truth s) (free_truth_with (λ x'. name_equal x x') (seen w s)) here
+  formula_here-passes w (t.read_truth a b) s here = here_lemma (t.of_truth (t.read_truth a b)) (t.of_truth s) (read_truth_with (λ a' b'. related_field a w p a' && related_term b w p b') (seen w s)) here
+  formula_here-passes w (t.negation a) s here = here_lemma (t.of_truth (t.negation a)) (t.of_truth s) (negation_with (λ a'. related_formula a w p a') (seen w s)) here
+  formula_here-passes w (t.and a b) s here = here_lemma (t.of_truth (t.and a b)) (t.of_truth s) (and_with (λ a' b'. related_formula a w p a' && related_formula b w p b') (seen w s)) here
+  formula_here-passes w (t.or a b) s here = here_lemma (t.of_truth (t.or a b)) (t.of_truth s) (or_with (λ a' b'. related_formula a w p a' && related_formula b w p b') (seen w s)) here
+  formula_here-passes w (t.implies a b) s here = here_lemma (t.of_truth (t.implies a b)) (t.of_truth s) (implies_with (λ a' b'. related_formula a w p a' && related_formula b w p b') (seen w s)) here
+  formula_here-passes w (t.iff a b) s here = here_lemma (t.of_truth (t.iff a b)) (t.of_truth s) (iff_with (λ a' b'. related_formula a w p a' && related_formula b w p b') (seen w s)) here
+  formula_here-passes w (t.all a) s here = here_lemma (t.of_truth (t.all a)) (t.of_truth s) (all_with (λ a'. related_formula a w p a') (seen w s)) here
+  formula_here-passes w (t.ex a) s here = here_lemma (t.of_truth (t.ex a)) (t.of_truth s) (ex_with (λ a'. related_formula a w p a') (seen w s)) here
+  formula_here-passes w (t.eq_object a b) s here = here_lemma (t.of_truth (t.eq_object a b)) (t.of_truth s) (eq_object_with (λ a' b'. related_term a w p a' && related_term b w p b') (seen w s)) here
+  formula_here-passes w (t.eq_number a b) s here = here_lemma (t.of_truth (t.eq_number a b)) (t.of_truth s) (eq_number_with (λ a' b'. related_int a w p a' && related_int b w p b') (seen w s)) here
+  formula_here-passes w (t.eq_set a b) s here = here_lemma (t.of_truth (t.eq_set a b)) (t.of_truth s) (eq_set_with (λ a' b'. related_set a w p a' && related_set b w p b') (seen w s)) here
+  formula_here-passes w (t.less a b) s here = here_lemma (t.of_truth (t.less a b)) (t.of_truth s) (less_with (λ a' b'. related_int a w p a' && related_int b w p b') (seen w s)) here
+  formula_here-passes w (t.less_equal a b) s here = here_lemma (t.of_truth (t.less_equal a b)) (t.of_truth s) (less_equal_with (λ a' b'. related_int a w p a' && related_int b w p b') (seen w s)) here
+  formula_here-passes w (t.divides z a) s here = here_lemma (t.of_truth (t.divides z a)) (t.of_truth s) (divides_with (λ z' a'. int_eq z z' && related_int a w p a') (seen w s)) here
+  formula_here-passes w (t.member a b) s here = here_lemma (t.of_truth (t.member a b)) (t.of_truth s) (member_with (λ a' b'. related_term a w p a' && related_set b w p b') (seen w s)) here
+  formula_here-passes w (t.subset a b) s here = here_lemma (t.of_truth (t.subset a b)) (t.of_truth s) (subset_with (λ a' b'. related_set a w p a' && related_set b w p b') (seen w s)) here
+  formula_here-passes w (t.reach fs a b) s here = here_lemma (t.of_truth (t.reach fs a b)) (t.of_truth s) (reach_with (λ fs' a' b'. related_fields fs w p fs' && related_term a w p a' && related_term b w p b') (seen w s)) here
+  formula_here-passes w (t.tree fs) s here = here_lemma (t.of_truth (t.tree fs)) (t.of_truth s) (tree_with (λ fs'. related_fields fs w p fs') (seen w s)) here
+  formula_here-passes w (t.mark k a) s here = here_lemma (t.of_truth (t.mark k a)) (t.of_truth s) (by_labels w (mark_with (λ k' a'. mark_equal k k' && related_formula a w p a') (seen w s)) (related_formula a w p (seen w s))) here
 
   mutual
     unfolding related_term related_int related_set related_field related_value related_formula related_fields bound_with free_object_with null_with read_object_with const_with free_number_with read_number_with add_with sub_with neg_with scale_with card_with free_set_with read_set_with empty_with univ_with single_with union_with inter_with diff_with compl_with compr_with free_field_with update_with of_object_with of_number_with of_truth_with of_set_with of_field_with true_formula_with false_formula_with free_truth_with read_truth_with negation_with and_with or_with implies_with iff_with all_with ex_with eq_object_with eq_number_with eq_set_with less_with less_equal_with divides_with member_with subset_with reach_with tree_with mark_with none_with more_with
 
-    pub term-passes : (a s : TermTree) → TermsRelated X a s → related_term a p s ≡ true
-    term-passes _ _ (r.term_here a s x) = term_here-passes a s x
+    pub term-passes : (a s : TermTree) → TermsRelated X a s → related_term a true p s ≡ true
+    term-passes _ _ (r.term_here a s x) = term_here-passes true a s x
     term-passes _ _ (r.bound k) = or-right (p (t.of_object (t.bound k)) (t.of_object (t.bound k))) (nat_eq k k) (eq-eqb k k refl)
     term-passes _ _ (r.free_object x) = or-right (p (t.of_object (t.free_object x)) (t.of_object (t.free_object x))) (name_equal x x) (name_equal-same x x refl)
     term-passes _ _ r.null = or-right (p (t.of_object t.null) (t.of_object t.null)) (true) refl
-    term-passes _ _ (r.read_object a a' b b' h0 h1) = or-right (p (t.of_object (t.read_object a b)) (t.of_object (t.read_object a' b'))) (related_field a p a' && related_term b p b') (both (related_field a p a') (related_term b p b') (field-passes a a' h0) (term-passes b b' h1))
+    term-passes _ _ (r.read_object a a' b b' h0 h1) = or-right (p (t.of_object (t.read_object a b)) (t.of_object (t.read_object a' b'))) (related_field a true p a' && related_term b true p b') (both (related_field a true p a') (related_term b true p b') (field-passes a a' h0) (term-passes b b' h1))
 
-    pub int-passes : (a s : IntTree) → IntsRelated X a s → related_int a p s ≡ true
-    int-passes _ _ (r.int_here a s x) = int_here-passes a s x
+    pub int-passes : (a s : IntTree) → IntsRelated X a s → related_int a true p s ≡ true
+    int-passes _ _ (r.int_here a s x) = int_here-passes true a s x
     int-passes _ _ (r.const z) = or-right (p (t.of_number (t.const z)) (t.of_number (t.const z))) (int_eq z z) (int_eq-same z)
     int-passes _ _ (r.free_number x) = or-right (p (t.of_number (t.free_number x)) (t.of_number (t.free_number x))) (name_equal x x) (name_equal-same x x refl)
-    int-passes _ _ (r.read_number a a' b b' h0 h1) = or-right (p (t.of_number (t.read_number a b)) (t.of_number (t.read_number a' b'))) (related_field a p a' && related_term b p b') (both (related_field a p a') (related_term b p b') (field-passes a a' h0) (term-passes b b' h1))
-    int-passes _ _ (r.add a a' b b' h0 h1) = or-right (p (t.of_number (t.add a b)) (t.of_number (t.add a' b'))) (related_int a p a' && related_int b p b') (both (related_int a p a') (related_int b p b') (int-passes a a' h0) (int-passes b b' h1))
-    int-passes _ _ (r.sub a a' b b' h0 h1) = or-right (p (t.of_number (t.sub a b)) (t.of_number (t.sub a' b'))) (related_int a p a' && related_int b p b') (both (related_int a p a') (related_int b p b') (int-passes a a' h0) (int-passes b b' h1))
-    int-passes _ _ (r.neg a a' h0) = or-right (p (t.of_number (t.neg a)) (t.of_number (t.neg a'))) (related_int a p a') (int-passes a a' h0)
-    int-passes _ _ (r.scale z a a' h1) = or-right (p (t.of_number (t.scale z a)) (t.of_number (t.scale z a'))) (int_eq z z && related_int a p a') (both (int_eq z z) (related_int a p a') (int_eq-same z) (int-passes a a' h1))
-    int-passes _ _ (r.card a a' h0) = or-right (p (t.of_number (t.card a)) (t.of_number (t.card a'))) (related_set a p a') (set-passes a a' h0)
+    int-passes _ _ (r.read_number a a' b b' h0 h1) = or-right (p (t.of_number (t.read_number a b)) (t.of_number (t.read_number a' b'))) (related_field a true p a' && related_term b true p b') (both (related_field a true p a') (related_term b true p b') (field-passes a a' h0) (term-passes b b' h1))
+    int-passes _ _ (r.add a a' b b' h0 h1) = or-right (p (t.of_number (t.add a b)) (t.of_number (t.add a' b'))) (related_int a true p a' && related_int b true p b') (both (related_int a true p a') (related_int b true p b') (int-passes a a' h0) (int-passes b b' h1))
+    int-passes _ _ (r.sub a a' b b' h0 h1) = or-right (p (t.of_number (t.sub a b)) (t.of_number (t.sub a' b'))) (related_int a true p a' && related_int b true p b') (both (related_int a true p a') (related_int b true p b') (int-passes a a' h0) (int-passes b b' h1))
+    int-passes _ _ (r.neg a a' h0) = or-right (p (t.of_number (t.neg a)) (t.of_number (t.neg a'))) (related_int a true p a') (int-passes a a' h0)
+    int-passes _ _ (r.scale z a a' h1) = or-right (p (t.of_number (t.scale z a)) (t.of_number (t.scale z a'))) (int_eq z z && related_int a true p a') (both (int_eq z z) (related_int a true p a') (int_eq-same z) (int-passes a a' h1))
+    int-passes _ _ (r.card a a' h0) = or-right (p (t.of_number (t.card a)) (t.of_number (t.card a'))) (related_set a true p a') (set-passes a a' h0)
 
-    pub set-passes : (a s : SetTree) → SetsRelated X a s → related_set a p s ≡ true
-    set-passes _ _ (r.set_here a s x) = set_here-passes a s x
+    pub set-passes : (a s : SetTree) → SetsRelated X a s → related_set a true p s ≡ true
+    set-passes _ _ (r.set_here a s x) = set_here-passes true a s x
     set-passes _ _ (r.free_set x) = or-right (p (t.of_set (t.free_set x)) (t.of_set (t.free_set x))) (name_equal x x) (name_equal-same x x refl)
-    set-passes _ _ (r.read_set a a' b b' h0 h1) = or-right (p (t.of_set (t.read_set a b)) (t.of_set (t.read_set a' b'))) (related_field a p a' && related_term b p b') (both (related_field a p a') (related_term b p b') (field-passes a a' h0) (term-passes b b' h1))
+    set-passes _ _ (r.read_set a a' b b' h0 h1) = or-right (p (t.of_set (t.read_set a b)) (t.of_set (t.read_set a' b'))) (related_field a true p a' && related_term b true p b') (both (related_field a true p a') (related_term b true p b') (field-passes a a' h0) (term-passes b b' h1))
     set-passes _ _ r.empty = or-right (p (t.of_set t.empty) (t.of_set t.empty)) (true) refl
     set-passes _ _ r.univ = or-right (p (t.of_set t.univ) (t.of_set t.univ)) (true) refl
-    set-passes _ _ (r.single a a' h0) = or-right (p (t.of_set (t.single a)) (t.of_set (t.single a'))) (related_term a p a') (term-passes a a' h0)
-    set-passes _ _ (r.union a a' b b' h0 h1) = or-right (p (t.of_set (t.union a b)) (t.of_set (t.union a' b'))) (related_set a p a' && related_set b p b') (both (related_set a p a') (related_set b p b') (set-passes a a' h0) (set-passes b b' h1))
-    set-passes _ _ (r.inter a a' b b' h0 h1) = or-right (p (t.of_set (t.inter a b)) (t.of_set (t.inter a' b'))) (related_set a p a' && related_set b p b') (both (related_set a p a') (related_set b p b') (set-passes a a' h0) (set-passes b b' h1))
-    set-passes _ _ (r.diff a a' b b' h0 h1) = or-right (p (t.of_set (t.diff a b)) (t.of_set (t.diff a' b'))) (related_set a p a' && related_set b p b') (both (related_set a p a') (related_set b p b') (set-passes a a' h0) (set-passes b b' h1))
-    set-passes _ _ (r.compl a a' h0) = or-right (p (t.of_set (t.compl a)) (t.of_set (t.compl a'))) (related_set a p a') (set-passes a a' h0)
-    set-passes _ _ (r.compr a a' h0) = or-right (p (t.of_set (t.compr a)) (t.of_set (t.compr a'))) (related_formula a p a') (formula-passes a a' h0)
+    set-passes _ _ (r.single a a' h0) = or-right (p (t.of_set (t.single a)) (t.of_set (t.single a'))) (related_term a true p a') (term-passes a a' h0)
+    set-passes _ _ (r.union a a' b b' h0 h1) = or-right (p (t.of_set (t.union a b)) (t.of_set (t.union a' b'))) (related_set a true p a' && related_set b true p b') (both (related_set a true p a') (related_set b true p b') (set-passes a a' h0) (set-passes b b' h1))
+    set-passes _ _ (r.inter a a' b b' h0 h1) = or-right (p (t.of_set (t.inter a b)) (t.of_set (t.inter a' b'))) (related_set a true p a' && related_set b true p b') (both (related_set a true p a') (related_set b true p b') (set-passes a a' h0) (set-passes b b' h1))
+    set-passes _ _ (r.diff a a' b b' h0 h1) = or-right (p (t.of_set (t.diff a b)) (t.of_set (t.diff a' b'))) (related_set a true p a' && related_set b true p b') (both (related_set a true p a') (related_set b true p b') (set-passes a a' h0) (set-passes b b' h1))
+    set-passes _ _ (r.compl a a' h0) = or-right (p (t.of_set (t.compl a)) (t.of_set (t.compl a'))) (related_set a true p a') (set-passes a a' h0)
+    set-passes _ _ (r.compr a a' h0) = or-right (p (t.of_set (t.compr a)) (t.of_set (t.compr a'))) (related_formula a true p a') (formula-passes a a' h0)
 
-    pub field-passes : (a s : FieldTree) → FieldsRelated X a s → related_field a p s ≡ true
-    field-passes _ _ (r.field_here a s x) = field_here-passes a s x
+    pub field-passes : (a s : FieldTree) → FieldsRelated X a s → related_field a true p s ≡ true
+    field-passes _ _ (r.field_here a s x) = field_here-passes true a s x
     field-passes _ _ (r.free_field x) = or-right (p (t.of_field (t.free_field x)) (t.of_field (t.free_field x))) (name_equal x x) (name_equal-same x x refl)
-    field-passes _ _ (r.update a a' b b' c c' h0 h1 h2) = or-right (p (t.of_field (t.update a b c)) (t.of_field (t.update a' b' c'))) (related_field a p a' && related_term b p b' && related_value c p c') (both (related_field a p a' && related_term b p b') (related_value c p c') (both (related_field a p a') (related_term b p b') (field-passes a a' h0) (term-passes b b' h1)) (value-passes c c' h2))
+    field-passes _ _ (r.update a a' b b' c c' h0 h1 h2) = or-right (p (t.of_field (t.update a b c)) (t.of_field (t.update a' b' c'))) (related_field a true p a' && related_term b true p b' && related_value c true p c') (both (related_field a true p a' && related_term b true p b') (related_value c true p c') (both (related_field a true p a') (related_term b true p b') (field-passes a a' h0) (term-passes b b' h1)) (value-passes c c' h2))
 
-    pub value-passes : (a s : ValueTree) → ValuesRelated X a s → related_value a p s ≡ true
+    pub value-passes : (a s : ValueTree) → ValuesRelated X a s → related_value a true p s ≡ true
     value-passes _ _ (r.of_object a a' h0) = (term-passes a a' h0)
     value-passes _ _ (r.of_number a a' h0) = (int-passes a a' h0)
     value-passes _ _ (r.of_truth a a' h0) = (formula-passes a a' h0)
     value-passes _ _ (r.of_set a a' h0) = (set-passes a a' h0)
     value-passes _ _ (r.of_field a a' h0) = (field-passes a a' h0)
 
-    pub formula-passes : (a s : FormulaTree) → FormulasRelated X a s → related_formula a p s ≡ true
-    formula-passes _ _ (r.formula_here a s x) = formula_here-passes a s x
+    pub formula-passes : (a s : FormulaTree) → FormulasRelated X a s → related_formula a true p s ≡ true
+    formula-passes _ _ (r.formula_here a s x) = formula_here-passes true a s x
     formula-passes _ _ r.true_formula = or-right (p (t.of_truth t.true_formula) (t.of_truth t.true_formula)) (true) refl
     formula-passes _ _ r.false_formula = or-right (p (t.of_truth t.false_formula) (t.of_truth t.false_formula)) (true) refl
     formula-passes _ _ (r.free_truth x) = or-right (p (t.of_truth (t.free_truth x)) (t.of_truth (t.free_truth x))) (name_equal x x) (name_equal-same x x refl)
-    formula-passes _ _ (r.read_truth a a' b b' h0 h1) = or-right (p (t.of_truth (t.read_truth a b)) (t.of_truth (t.read_truth a' b'))) (related_field a p a' && related_term b p b') (both (related_field a p a') (related_term b p b') (field-passes a a' h0) (term-passes b b' h1))
-    formula-passes _ _ (r.negation a a' h0) = or-right (p (t.of_truth (t.negation a)) (t.of_truth (t.negation a'))) (related_formula a p a') (formula-passes a a' h0)
-    formula-passes _ _ (r.and a a' b b' h0 h1) = or-right (p (t.of_truth (t.and a b)) (t.of_truth (t.and a' b'))) (related_formula a p a' && related_formula b p b') (both (related_formula a p a') (related_formula b p b') (formula-passes a a' h0) (formula-passes b b' h1))
-    formula-passes _ _ (r.or a a' b b' h0 h1) = or-right (p (t.of_truth (t.or a b)) (t.of_truth (t.or a' b'))) (related_formula a p a' && related_formula b p b') (both (related_formula a p a') (related_formula b p b') (formula-passes a a' h0) (formula-passes b b' h1))
-    formula-passes _ _ (r.implies a a' b b' h0 h1) = or-right (p (t.of_truth (t.implies a b)) (t.of_truth (t.implies a' b'))) (related_formula a p a' && related_formula b p b') (both (related_formula a p a') (related_formula b p b') (formula-passes a a' h0) (formula-passes b b' h1))
-    formula-passes _ _ (r.iff a a' b b' h0 h1) = or-right (p (t.of_truth (t.iff a b)) (t.of_truth (t.iff a' b'))) (related_formula a p a' && related_formula b p b') (both (related_formula a p a') (related_formula b p b') (formula-passes a a' h0) (formula-passes b b' h1))
-    formula-passes _ _ (r.all a a' h0) = or-right (p (t.of_truth (t.all a)) (t.of_truth (t.all a'))) (related_formula a p a') (formula-passes a a' h0)
-    formula-passes _ _ (r.ex a a' h0) = or-right (p (t.of_truth (t.ex a)) (t.of_truth (t.ex a'))) (related_formula a p a') (formula-passes a a' h0)
-    formula-passes _ _ (r.eq_object a a' b b' h0 h1) = or-right (p (t.of_truth (t.eq_object a b)) (t.of_truth (t.eq_object a' b'))) (related_term a p a' && related_term b p b') (both (related_term a p a') (related_term b p b') (term-passes a a' h0) (term-passes b b' h1))
-    formula-passes _ _ (r.eq_number a a' b b' h0 h1) = or-right (p (t.of_truth (t.eq_number a b)) (t.of_truth (t.eq_number a' b'))) (related_int a p a' && related_int b p b') (both (related_int a p a') (related_int b p b') (int-passes a a' h0) (int-passes b b' h1))
-    formula-passes _ _ (r.eq_set a a' b b' h0 h1) = or-right (p (t.of_truth (t.eq_set a b)) (t.of_truth (t.eq_set a' b'))) (related_set a p a' && related_set b p b') (both (related_set a p a') (related_set b p b') (set-passes a a' h0) (set-passes b b' h1))
-    formula-passes _ _ (r.less a a' b b' h0 h1) = or-right (p (t.of_truth (t.less a b)) (t.of_truth (t.less a' b'))) (related_int a p a' && related_int b p b') (both (related_int a p a') (related_int b p b') (int-passes a a' h0) (int-passes b b' h1))
-    formula-passes _ _ (r.less_equal a a' b b' h0 h1) = or-right (p (t.of_truth (t.less_equal a b)) (t.of_truth (t.less_equal a' b'))) (related_int a p a' && related_int b p b') (both (related_int a p a') (related_int b p b') (int-passes a a' h0) (int-passes b b' h1))
-    formula-passes _ _ (r.divides z a a' h1) = or-right (p (t.of_truth (t.divides z a)) (t.of_truth (t.divides z a'))) (int_eq z z && related_int a p a') (both (int_eq z z) (related_int a p a') (int_eq-same z) (int-passes a a' h1))
-    formula-passes _ _ (r.member a a' b b' h0 h1) = or-right (p (t.of_truth (t.member a b)) (t.of_truth (t.member a' b'))) (related_term a p a' && related_set b p b') (both (related_term a p a') (related_set b p b') (term-passes a a' h0) (set-passes b b' h1))
-    formula-passes _ _ (r.subset a a' b b' h0 h1) = or-right (p (t.of_truth (t.subset a b)) (t.of_truth (t.subset a' b'))) (related_set a p a' && related_set b p b') (both (related_set a p a') (related_set b p b') (set-passes a a' h0) (set-passes b b' h1))
-    formula-passes _ _ (r.reach fs fs' a a' b b' h0 h1 h2) = or-right (p (t.of_truth (t.reach fs a b)) (t.of_truth (t.reach fs' a' b'))) (related_fields fs p fs' && related_term a p a' && related_term b p b') (both (related_fields fs p fs' && related_term a p a') (related_term b p b') (both (related_fields fs p fs') (related_term a p a') (fields-passes fs fs' h0) (term-passes a a' h1)) (term-passes b b' h2))
-    formula-passes _ _ (r.tree fs fs' h0) = or-right (p (t.of_truth (t.tree fs)) (t.of_truth (t.tree fs'))) (related_fields fs p fs') (fields-passes fs fs' h0)
-    formula-passes _ _ (r.mark k a a' h1) = or-right (p (t.of_truth (t.mark k a)) (t.of_truth (t.mark k a'))) (mark_equal k k && related_formula a p a') (both (mark_equal k k) (related_formula a p a') (mark_equal-same k k refl) (formula-passes a a' h1))
+    formula-passes _ _ (r.read_truth a a' b b' h0 h1) = or-right (p (t.of_truth (t.read_truth a b)) (t.of_truth (t.read_truth a' b'))) (related_field a true p a' && related_term b true p b') (both (related_field a true p a') (related_term b true p b') (field-passes a a' h0) (term-passes b b' h1))
+    formula-passes _ _ (r.negation a a' h0) = or-right (p (t.of_truth (t.negation a)) (t.of_truth (t.negation a'))) (related_formula a true p a') (formula-passes a a' h0)
+    formula-passes _ _ (r.and a a' b b' h0 h1) = or-right (p (t.of_truth (t.and a b)) (t.of_truth (t.and a' b'))) (related_formula a true p a' && related_formula b true p b') (both (related_formula a true p a') (related_formula b true p b') (formula-passes a a' h0) (formula-passes b b' h1))
+    formula-passes _ _ (r.or a a' b b' h0 h1) = or-right (p (t.of_truth (t.or a b)) (t.of_truth (t.or a' b'))) (related_formula a true p a' && related_formula b true p b') (both (related_formula a true p a') (related_formula b true p b') (formula-passes a a' h0) (formula-passes b b' h1))
+    formula-passes _ _ (r.implies a a' b b' h0 h1) = or-right (p (t.of_truth (t.implies a b)) (t.of_truth (t.implies a' b'))) (related_formula a true p a' && related_formula b true p b') (both (related_formula a true p a') (related_formula b true p b') (formula-passes a a' h0) (formula-passes b b' h1))
+    formula-passes _ _ (r.iff a a' b b' h0 h1) = or-right (p (t.of_truth (t.iff a b)) (t.of_truth (t.iff a' b'))) (related_formula a true p a' && related_formula b true p b') (both (related_formula a true p a') (related_formula b true p b') (formula-passes a a' h0) (formula-passes b b' h1))
+    formula-passes _ _ (r.all a a' h0) = or-right (p (t.of_truth (t.all a)) (t.of_truth (t.all a'))) (related_formula a true p a') (formula-passes a a' h0)
+    formula-passes _ _ (r.ex a a' h0) = or-right (p (t.of_truth (t.ex a)) (t.of_truth (t.ex a'))) (related_formula a true p a') (formula-passes a a' h0)
+    formula-passes _ _ (r.eq_object a a' b b' h0 h1) = or-right (p (t.of_truth (t.eq_object a b)) (t.of_truth (t.eq_object a' b'))) (related_term a true p a' && related_term b true p b') (both (related_term a true p a') (related_term b true p b') (term-passes a a' h0) (term-passes b b' h1))
+    formula-passes _ _ (r.eq_number a a' b b' h0 h1) = or-right (p (t.of_truth (t.eq_number a b)) (t.of_truth (t.eq_number a' b'))) (related_int a true p a' && related_int b true p b') (both (related_int a true p a') (related_int b true p b') (int-passes a a' h0) (int-passes b b' h1))
+    formula-passes _ _ (r.eq_set a a' b b' h0 h1) = or-right (p (t.of_truth (t.eq_set a b)) (t.of_truth (t.eq_set a' b'))) (related_set a true p a' && related_set b true p b') (both (related_set a true p a') (related_set b true p b') (set-passes a a' h0) (set-passes b b' h1))
+    formula-passes _ _ (r.less a a' b b' h0 h1) = or-right (p (t.of_truth (t.less a b)) (t.of_truth (t.less a' b'))) (related_int a true p a' && related_int b true p b') (both (related_int a true p a') (related_int b true p b') (int-passes a a' h0) (int-passes b b' h1))
+    formula-passes _ _ (r.less_equal a a' b b' h0 h1) = or-right (p (t.of_truth (t.less_equal a b)) (t.of_truth (t.less_equal a' b'))) (related_int a true p a' && related_int b true p b') (both (related_int a true p a') (related_int b true p b') (int-passes a a' h0) (int-passes b b' h1))
+    formula-passes _ _ (r.divides z a a' h1) = or-right (p (t.of_truth (t.divides z a)) (t.of_truth (t.divides z a'))) (int_eq z z && related_int a true p a') (both (int_eq z z) (related_int a true p a') (int_eq-same z) (int-passes a a' h1))
+    formula-passes _ _ (r.member a a' b b' h0 h1) = or-right (p (t.of_truth (t.member a b)) (t.of_truth (t.member a' b'))) (related_term a true p a' && related_set b true p b') (both (related_term a true p a') (related_set b true p b') (term-passes a a' h0) (set-passes b b' h1))
+    formula-passes _ _ (r.subset a a' b b' h0 h1) = or-right (p (t.of_truth (t.subset a b)) (t.of_truth (t.subset a' b'))) (related_set a true p a' && related_set b true p b') (both (related_set a true p a') (related_set b true p b') (set-passes a a' h0) (set-passes b b' h1))
+    formula-passes _ _ (r.reach fs fs' a a' b b' h0 h1 h2) = or-right (p (t.of_truth (t.reach fs a b)) (t.of_truth (t.reach fs' a' b'))) (related_fields fs true p fs' && related_term a true p a' && related_term b true p b') (both (related_fields fs true p fs' && related_term a true p a') (related_term b true p b') (both (related_fields fs true p fs') (related_term a true p a') (fields-passes fs fs' h0) (term-passes a a' h1)) (term-passes b b' h2))
+    formula-passes _ _ (r.tree fs fs' h0) = or-right (p (t.of_truth (t.tree fs)) (t.of_truth (t.tree fs'))) (related_fields fs true p fs') (fields-passes fs fs' h0)
+    formula-passes _ _ (r.mark k a a' h1) = or-right (p (t.of_truth (t.mark k a)) (t.of_truth (t.mark k a'))) (mark_equal k k && related_formula a true p a') (both (mark_equal k k) (related_formula a true p a') (mark_equal-same k k refl) (formula-passes a a' h1))
 
-    pub fields-passes : (a s : FieldTrees) → ListsRelated X a s → related_fields a p s ≡ true
+    pub fields-passes : (a s : FieldTrees) → ListsRelated X a s → related_fields a true p s ≡ true
     fields-passes _ _ r.none = refl
-    fields-passes _ _ (r.more f f' fs fs' h0 h1) = (both (related_field f p f') (related_fields fs p fs') (field-passes f f' h0) (fields-passes fs fs' h1))
+    fields-passes _ _ (r.more f f' fs fs' h0 h1) = (both (related_field f true p f') (related_fields fs true p fs') (field-passes f f' h0) (fields-passes fs fs' h1))
 
 -- nothing may be exchanged
 abbrev pub never : ValueTree → ValueTree → Type 0

@@ -1,13 +1,12 @@
 -- What the tests of equality and of exchanges decide.
-use Rattle.std.proofs.Common.{◌≡◌, sym, ap, ◌∙◌, Bool, true, ◌&&◌}
+use Rattle.std.proofs.Common.{◌≡◌, sym, ap, ◌∙◌, Bool, true, false, ◌&&◌}
 use Rattle.std.proofs.lemmas.Bool.{true≢false}
 use Rattle.jh_tree.specs.Tree.{ValueTree, FormulaTree}
 use Rattle.jh_tree.proofs.ClosedLemmas.{both-left, both-right}
 use Rattle.jh_compare.specs.Compared.{related_formula}
 use Rattle.jh_compare.specs.Exchanged.{nothing, equal_trees, Exchanged}
 use Rattle.jh_compare.specs.Unmarked.{unmarked_formula}
-use Rattle.jh_compare.specs.Sameness.{past, same_past}
-use Rattle.jh_compare.proofs.SameSteps.{same_past-related}
+use Rattle.jh_compare.proofs.PastSteps.{formula-past}
 use Rattle.jh_compare.proofs.Decisions.{never, both, value-related, value-passes, value-equal, value-itself, formula-related, formula-passes, formula-equal, formula-itself}
 
 no_pair : (u v : ValueTree) → nothing u v ≡ true → never u v
@@ -35,18 +34,18 @@ module _ (old new : ValueTree) where
   pairs-same : (u v : ValueTree) → Pairs u v → pairs u v ≡ true
   pairs-same u v p = both (equal_trees u old) (equal_trees v new) (equal_trees-same u old p.0) (equal_trees-same v new p.1)
 
-  pub exchanged-true : (a b : FormulaTree) → related_formula a pairs b ≡ true → Exchanged a b old new
+  pub exchanged-true : (a b : FormulaTree) → related_formula a true pairs b ≡ true → Exchanged a b old new
   exchanged-true a b h = formula-related pairs Pairs pairs-true a b h
 
-  pub exchanged-passes : (a b : FormulaTree) → Exchanged a b old new → related_formula a pairs b ≡ true
+  pub exchanged-passes : (a b : FormulaTree) → Exchanged a b old new → related_formula a true pairs b ≡ true
   exchanged-passes a b x = formula-passes pairs Pairs pairs-same a b x
 
-pub same-true : (a b : FormulaTree) → same_past a (past b) ≡ true → unmarked_formula a ≡ unmarked_formula b
+pub same-true : (a b : FormulaTree) → related_formula a false nothing b ≡ true → unmarked_formula a ≡ unmarked_formula b
 same-true a b h =
-    formula-equal (unmarked_formula a) (unmarked_formula b) (formula-related nothing never no_pair (unmarked_formula a) (unmarked_formula b) (sym (same_past-related a b) ∙ h))
+    formula-equal (unmarked_formula a) (unmarked_formula b) (formula-related nothing never no_pair (unmarked_formula a) (unmarked_formula b) (sym (formula-past a b) ∙ h))
 
-pub same-passes : (a b : FormulaTree) → unmarked_formula a ≡ unmarked_formula b → same_past a (past b) ≡ true
+pub same-passes : (a b : FormulaTree) → unmarked_formula a ≡ unmarked_formula b → related_formula a false nothing b ≡ true
 same-passes a b e =
-    same_past-related a b
-    ∙ ap (λ c. related_formula (unmarked_formula a) nothing c) (sym e)
+    formula-past a b
+    ∙ ap (λ c. related_formula (unmarked_formula a) true nothing c) (sym e)
     ∙ formula-passes nothing never none_passes (unmarked_formula a) (unmarked_formula a) (formula-itself never (unmarked_formula a))

@@ -1,11 +1,9 @@
 -- Exchanging parts for others of the same meaning keeps the meaning.
-use Rattle.std.proofs.Common.{◌≡◌, refl, sym, ap, subst, ◌∙◌, ℕ, zero, suc, ◌<◌, ◌==◌, not, ◌&&◌, ◌||◌, List, [], ◌∷◌, slice_index, pos, ◌+ℤ◌, ◌-ℤ◌, ◌*ℤ◌, neg_ℤ, int_lt, int_le, arith}
+use Rattle.std.proofs.Common.{◌≡◌, refl, sym, ap, subst, ◌∙◌, ℕ, zero, suc, ◌<◌, ◌==◌, not, ◌&&◌, ◌||◌, List, [], ◌∷◌, pos, ◌+ℤ◌, ◌-ℤ◌, ◌*ℤ◌, neg_ℤ, int_lt, int_le, arith}
 use Rattle.std.specs.Ordering.{int_eq}
-use Rattle.jh_name.specs.declared.naming.Name.{Name}
-use Rattle.jh_tree.specs.declared.mark.Mark.{Mark}
 use Rattle.jh_tree.specs.Tree.{TermTree, IntTree, SetTree, FieldTree, ValueTree, FormulaTree, FieldTrees}
 use Rattle.jh_tree.specs.Tree as t
-use Rattle.jh_tree.specs.Meaning.{Datum, Interp, InUniverse, every, some, agree, divides_number, reaches, term_value, int_value, set_value, field_value, datum, truth, fields_value}
+use Rattle.jh_tree.specs.Meaning.{Datum, Interp, InUniverse, agree, divides_number, reaches, term_value, int_value, set_value, field_value, datum, truth, fields_value}
 use Rattle.jh_tree.proofs.Universes.{term_inside}
 use Rattle.jh_tree.proofs.ClosedLemmas.{datum-closed}
 use Rattle.jh_compare.specs.Related.{TermsRelated, IntsRelated, SetsRelated, FieldsRelated, ValuesRelated, FormulasRelated, ListsRelated}

@@ -1,5 +1,5 @@
 -- What is the same for all objects of a universe.
-use Rattle.std.proofs.Common.{◌≡◌, refl, sym, ap, ◌∙◌, ℕ, zero, suc, ◌+◌, ◌<◌, ◌==◌, Bool, true, false, not, ◌&&◌, ◌||◌, if◌then◌else◌, List, [], ◌∷◌, length, arith}
+use Rattle.std.proofs.Common.{◌≡◌, refl, ap, ◌∙◌, ℕ, zero, suc, ◌+◌, ◌<◌, ◌==◌, Bool, true, false, not, ◌&&◌, ◌||◌, if◌then◌else◌, List, [], ◌∷◌, length, arith}
 use Rattle.std.specs.List.{list_all, list_any}
 use Rattle.jh_tree.specs.Meaning.{Fields, Datum, an_object, a_number, a_truth, a_set, a_field, all_below, any_below, count_below, every, some, updated, leads, reaches, no_cycle, edge, no_sharing, is_forest}
 use Rattle.jh_compare.specs.Inside.{SameMembers, SameFields, SameIn}

@@ -3,8 +3,7 @@ pub mod CompareSteps
 pub mod Decisions
 pub mod FieldLists
 pub mod DerivedEq
-pub mod SameSteps
+pub mod PastSteps
 pub mod Equalities
-pub mod SameLists
 pub mod ExchangeMeanings
 mod Insides

@@ -1,4 +1,4 @@
--- The test of whether a tree is another with some parts exchanged, as the code asks it.
+-- The test of whether a tree is another with some parts exchanged, as the code asks it. Labels are compared, or passed.
 use Rattle.std.specs.Prelude.{ℕ, ℤ, Bool, true, false, ◌&&◌, ◌||◌, nat_eq}
 use Rattle.std.specs.Ordering.{int_eq}
 use Rattle.jh_name.specs.declared.naming.Name.{Name}
@@ -221,70 +221,86 @@ unfoldable pub more_with : (FieldTree → FieldTrees → Bool) → FieldTrees �
 more_with q (t.more f fs) = q f fs
 more_with q _ = false
 
+-- the formula under the labels that stand around it
+unfoldable pub past : FormulaTree → FormulaTree
+past (t.mark k a) = past a
+past a = a
+
+-- a formula as it is compared: with its labels, or past them
+abbrev pub seen : Bool → FormulaTree → FormulaTree
+seen true s = s
+seen false s = past s
+
+-- one thing where labels are compared, and another where they are passed
+abbrev pub by_labels : {X : Type 0} → Bool → X → X → X
+by_labels true x y = x
+by_labels false x y = y
+
+-- with whether labels are compared, and which parts may be exchanged
 unfoldable mutual
-  pub related_term : TermTree → (ValueTree → ValueTree → Bool) → TermTree → Bool
-  related_term (t.bound k) p s = p (t.of_object (t.bound k)) (t.of_object s) || bound_with (λ k'. nat_eq k k') s
-  related_term (t.free_object x) p s = p (t.of_object (t.free_object x)) (t.of_object s) || free_object_with (λ x'. name_equal x x') s
-  related_term t.null p s = p (t.of_object t.null) (t.of_object s) || null_with s
-  related_term (t.read_object a b) p s = p (t.of_object (t.read_object a b)) (t.of_object s) || read_object_with (λ a' b'. related_field a p a' && related_term b p b') s
+  pub related_term : TermTree → Bool → (ValueTree → ValueTree → Bool) → TermTree → Bool
+  related_term (t.bound k) w p s = p (t.of_object (t.bound k)) (t.of_object s) || bound_with (λ k'. nat_eq k k') s
+  related_term (t.free_object x) w p s = p (t.of_object (t.free_object x)) (t.of_object s) || free_object_with (λ x'. name_equal x x') s
+  related_term t.null w p s = p (t.of_object t.null) (t.of_object s) || null_with s
+  related_term (t.read_object a b) w p s = p (t.of_object (t.read_object a b)) (t.of_object s) || read_object_with (λ a' b'. related_field a w p a' && related_term b w p b') s
 
-  pub related_int : IntTree → (ValueTree → ValueTree → Bool) → IntTree → Bool
-  related_int (t.const z) p s = p (t.of_number (t.const z)) (t.of_number s) || const_with (λ z'. int_eq z z') s
-  related_int (t.free_number x) p s = p (t.of_number (t.free_number x)) (t.of_number s) || free_number_with (λ x'. name_equal x x') s
-  related_int (t.read_number a b) p s = p (t.of_number (t.read_number a b)) (t.of_number s) || read_number_with (λ a' b'. related_field a p a' && related_term b p b') s
-  related_int (t.add a b) p s = p (t.of_number (t.add a b)) (t.of_number s) || add_with (λ a' b'. related_int a p a' && related_int b p b') s
-  related_int (t.sub a b) p s = p (t.of_number (t.sub a b)) (t.of_number s) || sub_with (λ a' b'. related_int a p a' && related_int b p b') s
-  related_int (t.neg a) p s = p (t.of_number (t.neg a)) (t.of_number s) || neg_with (λ a'. related_int a p a') s
-  related_int (t.scale z a) p s = p (t.of_number (t.scale z a)) (t.of_number s) || scale_with (λ z' a'. int_eq z z' && related_int a p a') s
-  related_int (t.card a) p s = p (t.of_number (t.card a)) (t.of_number s) || card_with (λ a'. related_set a p a') s
+  pub related_int : IntTree → Bool → (ValueTree → ValueTree → Bool) → IntTree → Bool
+  related_int (t.const z) w p s = p (t.of_number (t.const z)) (t.of_number s) || const_with (λ z'. int_eq z z') s
+  related_int (t.free_number x) w p s = p (t.of_number (t.free_number x)) (t.of_number s) || free_number_with (λ x'. name_equal x x') s
+  related_int (t.read_number a b) w p s = p (t.of_number (t.read_number a b)) (t.of_number s) || read_number_with (λ a' b'. related_field a w p a' && related_term b w p b') s
+  related_int (t.add a b) w p s = p (t.of_number (t.add a b)) (t.of_number s) || add_with (λ a' b'. related_int a w p a' && related_int b w p b') s
+  related_int (t.sub a b) w p s = p (t.of_number (t.sub a b)) (t.of_number s) || sub_with (λ a' b'. related_int a w p a' && related_int b w p b') s
+  related_int (t.neg a) w p s = p (t.of_number (t.neg a)) (t.of_number s) || neg_with (λ a'. related_int a w p a') s
+  related_int (t.scale z a) w p s = p (t.of_number (t.scale z a)) (t.of_number s) || scale_with (λ z' a'. int_eq z z' && related_int a w p a') s
+  related_int (t.card a) w p s = p (t.of_number (t.card a)) (t.of_number s) || card_with (λ a'. related_set a w p a') s
 
-  pub related_set : SetTree → (ValueTree → ValueTree → Bool) → SetTree → Bool
-  related_set (t.free_set x) p s = p (t.of_set (t.free_set x)) (t.of_set s) || free_set_with (λ x'. name_equal x x') s
-  related_set (t.read_set a b) p s = p (t.of_set (t.read_set a b)) (t.of_set s) || read_set_with (λ a' b'. related_field a p a' && related_term b p b') s
-  related_set t.empty p s = p (t.of_set t.empty) (t.of_set s) || empty_with s
-  related_set t.univ p s = p (t.of_set t.univ) (t.of_set s) || univ_with s
-  related_set (t.single a) p s = p (t.of_set (t.single a)) (t.of_set s) || single_with (λ a'. related_term a p a') s
-  related_set (t.union a b) p s = p (t.of_set (t.union a b)) (t.of_set s) || union_with (λ a' b'. related_set a p a' && related_set b p b') s
-  related_set (t.inter a b) p s = p (t.of_set (t.inter a b)) (t.of_set s) || inter_with (λ a' b'. related_set a p a' && related_set b p b') s
-  related_set (t.diff a b) p s = p (t.of_set (t.diff a b)) (t.of_set s) || diff_with (λ a' b'. related_set a p a' && related_set b p b') s
-  related_set (t.compl a) p s = p (t.of_set (t.compl a)) (t.of_set s) || compl_with (λ a'. related_set a p a') s
-  related_set (t.compr a) p s = p (t.of_set (t.compr a)) (t.of_set s) || compr_with (λ a'. related_formula a p a') s
+  pub related_set : SetTree → Bool → (ValueTree → ValueTree → Bool) → SetTree → Bool
+  related_set (t.free_set x) w p s = p (t.of_set (t.free_set x)) (t.of_set s) || free_set_with (λ x'. name_equal x x') s
+  related_set (t.read_set a b) w p s = p (t.of_set (t.read_set a b)) (t.of_set s) || read_set_with (λ a' b'. related_field a w p a' && related_term b w p b') s
+  related_set t.empty w p s = p (t.of_set t.empty) (t.of_set s) || empty_with s
+  related_set t.univ w p s = p (t.of_set t.univ) (t.of_set s) || univ_with s
+  related_set (t.single a) w p s = p (t.of_set (t.single a)) (t.of_set s) || single_with (λ a'. related_term a w p a') s
+  related_set (t.union a b) w p s = p (t.of_set (t.union a b)) (t.of_set s) || union_with (λ a' b'. related_set a w p a' && related_set b w p b') s
+  related_set (t.inter a b) w p s = p (t.of_set (t.inter a b)) (t.of_set s) || inter_with (λ a' b'. related_set a w p a' && related_set b w p b') s
+  related_set (t.diff a b) w p s = p (t.of_set (t.diff a b)) (t.of_set s) || diff_with (λ a' b'. related_set a w p a' && related_set b w p b') s
+  related_set (t.compl a) w p s = p (t.of_set (t.compl a)) (t.of_set s) || compl_with (λ a'. related_set a w p a') s
+  related_set (t.compr a) w p s = p (t.of_set (t.compr a)) (t.of_set s) || compr_with (λ a'. related_formula a w p a') s
 
-  pub related_field : FieldTree → (ValueTree → ValueTree → Bool) → FieldTree → Bool
-  related_field (t.free_field x) p s = p (t.of_field (t.free_field x)) (t.of_field s) || free_field_with (λ x'. name_equal x x') s
-  related_field (t.update a b c) p s = p (t.of_field (t.update a b c)) (t.of_field s) || update_with (λ a' b' c'. related_field a p a' && related_term b p b' && related_value c p c') s
+  pub related_field : FieldTree → Bool → (ValueTree → ValueTree → Bool) → FieldTree → Bool
+  related_field (t.free_field x) w p s = p (t.of_field (t.free_field x)) (t.of_field s) || free_field_with (λ x'. name_equal x x') s
+  related_field (t.update a b c) w p s = p (t.of_field (t.update a b c)) (t.of_field s) || update_with (λ a' b' c'. related_field a w p a' && related_term b w p b' && related_value c w p c') s
 
-  pub related_value : ValueTree → (ValueTree → ValueTree → Bool) → ValueTree → Bool
-  related_value (t.of_object a) p s = of_object_with (λ a'. related_term a p a') s
-  related_value (t.of_number a) p s = of_number_with (λ a'. related_int a p a') s
-  related_value (t.of_truth a) p s = of_truth_with (λ a'. related_formula a p a') s
-  related_value (t.of_set a) p s = of_set_with (λ a'. related_set a p a') s
-  related_value (t.of_field a) p s = of_field_with (λ a'. related_field a p a') s
+  pub related_value : ValueTree → Bool → (ValueTree → ValueTree → Bool) → ValueTree → Bool
+  related_value (t.of_object a) w p s = of_object_with (λ a'. related_term a w p a') s
+  related_value (t.of_number a) w p s = of_number_with (λ a'. related_int a w p a') s
+  related_value (t.of_truth a) w p s = of_truth_with (λ a'. related_formula a w p a') s
+  related_value (t.of_set a) w p s = of_set_with (λ a'. related_set a w p a') s
+  related_value (t.of_field a) w p s = of_field_with (λ a'. related_field a w p a') s
 
-  pub related_formula : FormulaTree → (ValueTree → ValueTree → Bool) → FormulaTree → Bool
-  related_formula t.true_formula p s = p (t.of_truth t.true_formula) (t.of_truth s) || true_formula_with s
-  related_formula t.false_formula p s = p (t.of_truth t.false_formula) (t.of_truth s) || false_formula_with s
-  related_formula (t.free_truth x) p s = p (t.of_truth (t.free_truth x)) (t.of_truth s) || free_truth_with (λ x'. name_equal x x') s
-  related_formula (t.read_truth a b) p s = p (t.of_truth (t.read_truth a b)) (t.of_truth s) || read_truth_with (λ a' b'. related_field a p a' && related_term b p b') s
-  related_formula (t.negation a) p s = p (t.of_truth (t.negation a)) (t.of_truth s) || negation_with (λ a'. related_formula a p a') s
-  related_formula (t.and a b) p s = p (t.of_truth (t.and a b)) (t.of_truth s) || and_with (λ a' b'. related_formula a p a' && related_formula b p b') s
-  related_formula (t.or a b) p s = p (t.of_truth (t.or a b)) (t.of_truth s) || or_with (λ a' b'. related_formula a p a' && related_formula b p b') s
-  related_formula (t.implies a b) p s = p (t.of_truth (t.implies a b)) (t.of_truth s) || implies_with (λ a' b'. related_formula a p a' && related_formula b p b') s
-  related_formula (t.iff a b) p s = p (t.of_truth (t.iff a b)) (t.of_truth s) || iff_with (λ a' b'. related_formula a p a' && related_formula b p b') s
-  related_formula (t.all a) p s = p (t.of_truth (t.all a)) (t.of_truth s) || all_with (λ a'. related_formula a p a') s
-  related_formula (t.ex a) p s = p (t.of_truth (t.ex a)) (t.of_truth s) || ex_with (λ a'. related_formula a p a') s
-  related_formula (t.eq_object a b) p s = p (t.of_truth (t.eq_object a b)) (t.of_truth s) || eq_object_with (λ a' b'. related_term a p a' && related_term b p b') s
-  related_formula (t.eq_number a b) p s = p (t.of_truth (t.eq_number a b)) (t.of_truth s) || eq_number_with (λ a' b'. related_int a p a' && related_int b p b') s
-  related_formula (t.eq_set a b) p s = p (t.of_truth (t.eq_set a b)) (t.of_truth s) || eq_set_with (λ a' b'. related_set a p a' && related_set b p b') s
-  related_formula (t.less a b) p s = p (t.of_truth (t.less a b)) (t.of_truth s) || less_with (λ a' b'. related_int a p a' && related_int b p b') s
-  related_formula (t.less_equal a b) p s = p (t.of_truth (t.less_equal a b)) (t.of_truth s) || less_equal_with (λ a' b'. related_int a p a' && related_int b p b') s
-  related_formula (t.divides z a) p s = p (t.of_truth (t.divides z a)) (t.of_truth s) || divides_with (λ z' a'. int_eq z z' && related_int a p a') s
-  related_formula (t.member a b) p s = p (t.of_truth (t.member a b)) (t.of_truth s) || member_with (λ a' b'. related_term a p a' && related_set b p b') s
-  related_formula (t.subset a b) p s = p (t.of_truth (t.subset a b)) (t.of_truth s) || subset_with (λ a' b'. related_set a p a' && related_set b p b') s
-  related_formula (t.reach fs a b) p s = p (t.of_truth (t.reach fs a b)) (t.of_truth s) || reach_with (λ fs' a' b'. related_fields fs p fs' && related_term a p a' && related_term b p b') s
-  related_formula (t.tree fs) p s = p (t.of_truth (t.tree fs)) (t.of_truth s) || tree_with (λ fs'. related_fields fs p fs') s
-  related_formula (t.mark k a) p s = p (t.of_truth (t.mark k a)) (t.of_truth s) || mark_with (λ k' a'. mark_equal k k' && related_formula a p a') s
+  pub related_formula : FormulaTree → Bool → (ValueTree → ValueTree → Bool) → FormulaTree → Bool
+  related_formula t.true_formula w p s = p (t.of_truth t.true_formula) (t.of_truth s) || true_formula_with (seen w s)
+  related_formula t.false_formula w p s = p (t.of_truth t.false_formula) (t.of_truth s) || false_formula_with (seen w s)
+  related_formula (t.free_truth x) w p s = p (t.of_truth (t.free_truth x)) (t.of_truth s) || free_truth_with (λ x'. name_equal x x') (seen w s)
+  related_formula (t.read_truth a b) w p s = p (t.of_truth (t.read_truth a b)) (t.of_truth s) || read_truth_with (λ a' b'. related_field a w p a' && related_term b w p b') (seen w s)
+  related_formula (t.negation a) w p s = p (t.of_truth (t.negation a)) (t.of_truth s) || negation_with (λ a'. related_formula a w p a') (seen w s)
+  related_formula (t.and a b) w p s = p (t.of_truth (t.and a b)) (t.of_truth s) || and_with (λ a' b'. related_formula a w p a' && related_formula b w p b') (seen w s)
+  related_formula (t.or a b) w p s = p (t.of_truth (t.or a b)) (t.of_truth s) || or_with (λ a' b'. related_formula a w p a' && related_formula b w p b') (seen w s)
+  related_formula (t.implies a b) w p s = p (t.of_truth (t.implies a b)) (t.of_truth s) || implies_with (λ a' b'. related_formula a w p a' && related_formula b w p b') (seen w s)
+  related_formula (t.iff a b) w p s = p (t.of_truth (t.iff a b)) (t.of_truth s) || iff_with (λ a' b'. related_formula a w p a' && related_formula b w p b') (seen w s)
+  related_formula (t.all a) w p s = p (t.of_truth (t.all a)) (t.of_truth s) || all_with (λ a'. related_formula a w p a') (seen w s)
+  related_formula (t.ex a) w p s = p (t.of_truth (t.ex a)) (t.of_truth s) || ex_with (λ a'. related_formula a w p a') (seen w s)
+  related_formula (t.eq_object a b) w p s = p (t.of_truth (t.eq_object a b)) (t.of_truth s) || eq_object_with (λ a' b'. related_term a w p a' && related_term b w p b') (seen w s)
+  related_formula (t.eq_number a b) w p s = p (t.of_truth (t.eq_number a b)) (t.of_truth s) || eq_number_with (λ a' b'. related_int a w p a' && related_int b w p b') (seen w s)
+  related_formula (t.eq_set a b) w p s = p (t.of_truth (t.eq_set a b)) (t.of_truth s) || eq_set_with (λ a' b'. related_set a w p a' && related_set b w p b') (seen w s)
+  related_formula (t.less a b) w p s = p (t.of_truth (t.less a b)) (t.of_truth s) || less_with (λ a' b'. related_int a w p a' && related_int b w p b') (seen w s)
+  related_formula (t.less_equal a b) w p s = p (t.of_truth (t.less_equal a b)) (t.of_truth s) || less_equal_with (λ a' b'. related_int a w p a' && related_int b w p b') (seen w s)
+  related_formula (t.divides z a) w p s = p (t.of_truth (t.divides z a)) (t.of_truth s) || divides_with (λ z' a'. int_eq z z' && related_int a w p a') (seen w s)
+  related_formula (t.member a b) w p s = p (t.of_truth (t.member a b)) (t.of_truth s) || member_with (λ a' b'. related_term a w p a' && related_set b w p b') (seen w s)
+  related_formula (t.subset a b) w p s = p (t.of_truth (t.subset a b)) (t.of_truth s) || subset_with (λ a' b'. related_set a w p a' && related_set b w p b') (seen w s)
+  related_formula (t.reach fs a b) w p s = p (t.of_truth (t.reach fs a b)) (t.of_truth s) || reach_with (λ fs' a' b'. related_fields fs w p fs' && related_term a w p a' && related_term b w p b') (seen w s)
+  related_formula (t.tree fs) w p s = p (t.of_truth (t.tree fs)) (t.of_truth s) || tree_with (λ fs'. related_fields fs w p fs') (seen w s)
+  related_formula (t.mark k a) w p s = p (t.of_truth (t.mark k a)) (t.of_truth s) || by_labels w (mark_with (λ k' a'. mark_equal k k' && related_formula a w p a') (seen w s)) (related_formula a w p (seen w s))
 
-  pub related_fields : FieldTrees → (ValueTree → ValueTree → Bool) → FieldTrees → Bool
-  related_fields t.none p s = none_with s
-  related_fields (t.more f fs) p s = more_with (λ f' fs'. related_field f p f' && related_fields fs p fs') s
+  pub related_fields : FieldTrees → Bool → (ValueTree → ValueTree → Bool) → FieldTrees → Bool
+  related_fields t.none w p s = none_with s
+  related_fields (t.more f fs) w p s = more_with (λ f' fs'. related_field f w p f' && related_fields fs w p fs') s

@@ -18,7 +18,7 @@ nothing u v = false
 
 -- the test of equality of two trees, labels included
 abbrev pub equal_trees : ValueTree → ValueTree → Bool
-equal_trees u v = related_value u nothing v
+equal_trees u v = related_value u true nothing v
 
 -- Exchanging a closed value for another of the same meaning keeps the meaning of the whole, under objects of
 -- the universe. Two sets have the same meaning where they have the same members in the universe, so where

@@ -4,4 +4,3 @@ pub mod Compared
 pub mod Exchanged
 pub mod Inside
 pub mod Unmarked
-pub mod Sameness

@@ -2,17 +2,24 @@
 
 ghost use Rattle.std.specs.Prelude.{◌≡◌};
 ghost use Rattle.jh_tree.specs.Bare.{term_tree, int_tree, set_tree, field_tree, value_tree, formula_tree, list_tree};
-ghost use Rattle.jh_compare.specs.Compared.{related_term, related_int, related_set, related_field, related_value, related_formula, related_fields};
+ghost use Rattle.jh_compare.specs.Compared.{seen, related_term, related_int, related_set, related_field, related_value, related_formula, related_fields};
 
 use crate::exchange::Exchange;
-use crate::marks::marks_are_one;
+use crate::marks::{marks_are_one, past_marks};
 use crate::numbers::numbers_are_one;
 use jh_subst::names_are_one;
 use jh_tree::{FieldTerm, Formula, IntTerm, SetTerm, Term, Value};
 
+/// A formula as it is compared: with its labels, or past them.
+fn seen_of(formula: &Formula, labels: bool) -> &Formula
+    ensures { formula_tree result.now ≡ seen labels (formula_tree formula.now) }
+{
+    if labels { formula } else { past_marks(formula) }
+}
+
 #[cycle(related)]
 pub fn related_term<E: Exchange>(left: &Term, right: &Term, exchange: &E) -> bool
-    ensures { result ≡ related_term (term_tree left.now) (E.pairs exchange.now) (term_tree right.now) }
+    ensures { result ≡ related_term (term_tree left.now) (E.labels exchange.now) (E.pairs exchange.now) (term_tree right.now) }
 {
     if exchange.terms(left, right) {
         return true;
@@ -40,7 +47,7 @@ pub fn related_term<E: Exchange>(left: &Term, right: &Term, exchange: &E) -> boo
 
 #[cycle(related)]
 pub fn related_int<E: Exchange>(left: &IntTerm, right: &IntTerm, exchange: &E) -> bool
-    ensures { result ≡ related_int (int_tree left.now) (E.pairs exchange.now) (int_tree right.now) }
+    ensures { result ≡ related_int (int_tree left.now) (E.labels exchange.now) (E.pairs exchange.now) (int_tree right.now) }
 {
     if exchange.ints(left, right) {
         return true;
@@ -87,7 +94,7 @@ pub fn related_int<E: Exchange>(left: &IntTerm, right: &IntTerm, exchange: &E) -
 
 #[cycle(related)]
 pub fn related_set<E: Exchange>(left: &SetTerm, right: &SetTerm, exchange: &E) -> bool
-    ensures { result ≡ related_set (set_tree left.now) (E.pairs exchange.now) (set_tree right.now) }
+    ensures { result ≡ related_set (set_tree left.now) (E.labels exchange.now) (E.pairs exchange.now) (set_tree right.now) }
 {
     if exchange.sets(left, right) {
         return true;
@@ -142,7 +149,7 @@ pub fn related_set<E: Exchange>(left: &SetTerm, right: &SetTerm, exchange: &E) -
 
 #[cycle(related)]
 pub fn related_field<E: Exchange>(left: &FieldTerm, right: &FieldTerm, exchange: &E) -> bool
-    ensures { result ≡ related_field (field_tree left.now) (E.pairs exchange.now) (field_tree right.now) }
+    ensures { result ≡ related_field (field_tree left.now) (E.labels exchange.now) (E.pairs exchange.now) (field_tree right.now) }
 {
     if exchange.fields(left, right) {
         return true;
@@ -163,7 +170,7 @@ pub fn related_field<E: Exchange>(left: &FieldTerm, right: &FieldTerm, exchange:
 
 #[cycle(related)]
 pub fn related_value<E: Exchange>(left: &Value, right: &Value, exchange: &E) -> bool
-    ensures { result ≡ related_value (value_tree left.now) (E.pairs exchange.now) (value_tree right.now) }
+    ensures { result ≡ related_value (value_tree left.now) (E.labels exchange.now) (E.pairs exchange.now) (value_tree right.now) }
 {
     match left {
         Value::Obj(a) => match right {
@@ -191,102 +198,103 @@ pub fn related_value<E: Exchange>(left: &Value, right: &Value, exchange: &E) -> 
 
 #[cycle(related)]
 pub fn related_formula<E: Exchange>(left: &Formula, right: &Formula, exchange: &E) -> bool
-    ensures { result ≡ related_formula (formula_tree left.now) (E.pairs exchange.now) (formula_tree right.now) }
+    ensures { result ≡ related_formula (formula_tree left.now) (E.labels exchange.now) (E.pairs exchange.now) (formula_tree right.now) }
 {
     if exchange.formulas(left, right) {
         return true;
     }
+    let seen = seen_of(right, exchange.labels());
     match left {
-        Formula::True => match right {
+        Formula::True => match seen {
             Formula::True => true,
             _ => false,
         },
-        Formula::False => match right {
+        Formula::False => match seen {
             Formula::False => true,
             _ => false,
         },
-        Formula::Free(name) => match right {
+        Formula::Free(name) => match seen {
             Formula::Free(other_name) => names_are_one(name, other_name),
             _ => false,
         },
-        Formula::Read(a, b) => match right {
+        Formula::Read(a, b) => match seen {
             Formula::Read(other_a, other_b) => related_field(a, other_a, exchange)
                 && related_term(b, other_b, exchange),
             _ => false,
         },
-        Formula::Not(a) => match right {
+        Formula::Not(a) => match seen {
             Formula::Not(other_a) => related_formula(a, other_a, exchange),
             _ => false,
         },
-        Formula::And(a, b) => match right {
+        Formula::And(a, b) => match seen {
             Formula::And(other_a, other_b) => related_formula(a, other_a, exchange)
                 && related_formula(b, other_b, exchange),
             _ => false,
         },
-        Formula::Or(a, b) => match right {
+        Formula::Or(a, b) => match seen {
             Formula::Or(other_a, other_b) => related_formula(a, other_a, exchange)
                 && related_formula(b, other_b, exchange),
             _ => false,
         },
-        Formula::Implies(a, b) => match right {
+        Formula::Implies(a, b) => match seen {
             Formula::Implies(other_a, other_b) => related_formula(a, other_a, exchange)
                 && related_formula(b, other_b, exchange),
             _ => false,
         },
-        Formula::Iff(a, b) => match right {
+        Formula::Iff(a, b) => match seen {
             Formula::Iff(other_a, other_b) => related_formula(a, other_a, exchange)
                 && related_formula(b, other_b, exchange),
             _ => false,
         },
-        Formula::All(a) => match right {
+        Formula::All(a) => match seen {
             Formula::All(other_a) => related_formula(a, other_a, exchange),
             _ => false,
         },
-        Formula::Ex(a) => match right {
+        Formula::Ex(a) => match seen {
             Formula::Ex(other_a) => related_formula(a, other_a, exchange),
             _ => false,
         },
-        Formula::EqObj(a, b) => match right {
+        Formula::EqObj(a, b) => match seen {
             Formula::EqObj(other_a, other_b) => related_term(a, other_a, exchange)
                 && related_term(b, other_b, exchange),
             _ => false,
         },
-        Formula::EqInt(a, b) => match right {
+        Formula::EqInt(a, b) => match seen {
             Formula::EqInt(other_a, other_b) => related_int(a, other_a, exchange)
                 && related_int(b, other_b, exchange),
             _ => false,
         },
-        Formula::EqSet(a, b) => match right {
+        Formula::EqSet(a, b) => match seen {
             Formula::EqSet(other_a, other_b) => related_set(a, other_a, exchange)
                 && related_set(b, other_b, exchange),
             _ => false,
         },
-        Formula::Less(a, b) => match right {
+        Formula::Less(a, b) => match seen {
             Formula::Less(other_a, other_b) => related_int(a, other_a, exchange)
                 && related_int(b, other_b, exchange),
             _ => false,
         },
-        Formula::LessEq(a, b) => match right {
+        Formula::LessEq(a, b) => match seen {
             Formula::LessEq(other_a, other_b) => related_int(a, other_a, exchange)
                 && related_int(b, other_b, exchange),
             _ => false,
         },
-        Formula::Divides(number, a) => match right {
+        Formula::Divides(number, a) => match seen {
             Formula::Divides(other_number, other_a) => numbers_are_one(number, other_number)
                 && related_int(a, other_a, exchange),
             _ => false,
         },
-        Formula::Member(a, b) => match right {
+        Formula::Member(a, b) => match seen {
             Formula::Member(other_a, other_b) => related_term(a, other_a, exchange)
                 && related_set(b, other_b, exchange),
             _ => false,
         },
-        Formula::Subset(a, b) => match right {
+        Formula::Subset(a, b) => match seen {
             Formula::Subset(other_a, other_b) => related_set(a, other_a, exchange)
                 && related_set(b, other_b, exchange),
             _ => false,
         },
-        Formula::Reach(fields, a, b) => match right {
+        Formula::Reach(fields, a, b) => match seen {
             Formula::Reach(other_fields, other_a, other_b) => related_fields(
                 fields.items(),
                 other_fields.items(),
@@ -295,7 +303,7 @@ pub fn related_formula<E: Exchange>(left: &Formula, right: &Formula, exchange: &
                 && related_term(b, other_b, exchange),
             _ => false,
         },
-        Formula::Tree(fields) => match right {
+        Formula::Tree(fields) => match seen {
             Formula::Tree(other_fields) => related_fields(
                 fields.items(),
                 other_fields.items(),
@@ -303,17 +311,18 @@ pub fn related_formula<E: Exchange>(left: &Formula, right: &Formula, exchange: &
             ),
             _ => false,
         },
-        Formula::Mark(mark, a) => match right {
+        Formula::Mark(mark, a) if exchange.labels() => match seen {
             Formula::Mark(other_mark, other_a) => marks_are_one(mark, other_mark)
                 && related_formula(a, other_a, exchange),
             _ => false,
         },
+        Formula::Mark(_, a) => related_formula(a, seen, exchange),
     }
 }
 
 #[cycle(related)]
 pub fn related_fields<E: Exchange>(left: &[FieldTerm], right: &[FieldTerm], exchange: &E) -> bool
-    ensures { result ≡ related_fields (list_tree left.now) (E.pairs exchange.now) (list_tree right.now) }
+    ensures { result ≡ related_fields (list_tree left.now) (E.labels exchange.now) (E.pairs exchange.now) (list_tree right.now) }
 {
     if left.len() != right.len() {
         return false;

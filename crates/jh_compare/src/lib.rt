@@ -9,7 +9,6 @@ mod marks;
 mod numbers;
 mod replacing;
 mod same_formulas;
-mod sameness;
 
 pub use laws::exchange_keeps_meaning;
 pub use replacing::replaces;

@@ -1,9 +1,11 @@
-#![tactic(auto, using(crate::proofs::MarkLemmas::mark_steps))]
+#![tactic(auto, using(jh_tree::proofs::Steps::tree_steps, crate::proofs::MarkLemmas::mark_steps, crate::proofs::PastSteps::past_steps))]
 
 ghost use Rattle.std.specs.Prelude.{◌≡◌, ◌↔◌, IsTrue};
+ghost use Rattle.jh_tree.specs.Bare.{formula_tree};
 ghost use Rattle.jh_compare.specs.Marks.{mark_equal};
+ghost use Rattle.jh_compare.specs.Compared.{past};
 
-use jh_tree::Mark;
+use jh_tree::{Formula, Mark};
 
 fn sources_match(left: &Mark, right: &Mark) -> bool
     ensures { IsTrue result ↔ ((left.now.kind ≡ right.now.kind) × (left.now.place ≡ right.now.place)) }
@@ -22,4 +24,14 @@ pub fn marks_are_one(left: &Mark, right: &Mark) -> bool
     ensures { result ≡ mark_equal left.now right.now }
 {
     sources_match(left, right) && names_match(left, right)
+}
+
+/// The formula under the labels that stand around it.
+pub fn past_marks(formula: &Formula) -> &Formula
+    ensures { formula_tree result.now ≡ past (formula_tree formula.now) }
+{
+    match formula {
+        Formula::Mark(_, inner) => past_marks(inner),
+        _ => formula,
+    }
 }

@@ -1,47 +1,19 @@
 #![tactic(auto, using(jh_tree::proofs::Steps::tree_steps, crate::proofs::CompareSteps::here_steps, crate::proofs::CompareSteps::compare_steps, crate::proofs::CompareSteps::other_steps))]
 
-ghost use Rattle.std.specs.Prelude.{◌≡◌, ◌↔◌, ◌&&◌, IsTrue, false};
+ghost use Rattle.std.specs.Prelude.{◌≡◌, ◌↔◌, ◌&&◌, IsTrue, true};
 ghost use Rattle.jh_tree.specs.Tree as tree;
 ghost use Rattle.jh_tree.specs.Bare.{term_tree, int_tree, set_tree, field_tree, value_tree, formula_tree};
 ghost use Rattle.jh_compare.specs.Exchanged.{Exchanged, equal_trees};
 
 use crate::comparing::{related_field, related_formula, related_int, related_set, related_term};
-use crate::exchange::Exchange;
+use crate::exchange::{Exchange, Nothing};
 use jh_tree::{FieldTerm, Formula, IntTerm, SetTerm, Term, Value};
-
-/// Nothing may be exchanged.
-#[derive(Clone, Copy, Debug)]
-struct Nothing;
-
-impl Exchange for Nothing {
-    ghost pairs = { λ _ u v. false };
-
-    fn terms(&self, _left: &Term, _right: &Term) -> bool {
-        false
-    }
-
-    fn ints(&self, _left: &IntTerm, _right: &IntTerm) -> bool {
-        false
-    }
-
-    fn sets(&self, _left: &SetTerm, _right: &SetTerm) -> bool {
-        false
-    }
-
-    fn fields(&self, _left: &FieldTerm, _right: &FieldTerm) -> bool {
-        false
-    }
-
-    fn formulas(&self, _left: &Formula, _right: &Formula) -> bool {
-        false
-    }
-}
 
 fn is_term(term: &Term, value: &Value) -> bool
     ensures { result ≡ equal_trees (tree.of_object (term_tree term.now)) (value_tree value.now) }
 {
     match value {
-        Value::Obj(other) => related_term(term, other, &Nothing),
+        Value::Obj(other) => related_term(term, other, &Nothing { labels: true }),
         _ => false,
     }
 }
@@ -50,7 +22,7 @@ fn is_int(term: &IntTerm, value: &Value) -> bool
     ensures { result ≡ equal_trees (tree.of_number (int_tree term.now)) (value_tree value.now) }
 {
     match value {
-        Value::Int(other) => related_int(term, other, &Nothing),
+        Value::Int(other) => related_int(term, other, &Nothing { labels: true }),
         _ => false,
     }
 }
@@ -59,7 +31,7 @@ fn is_set(term: &SetTerm, value: &Value) -> bool
     ensures { result ≡ equal_trees (tree.of_set (set_tree term.now)) (value_tree value.now) }
 {
     match value {
-        Value::Set(other) => related_set(term, other, &Nothing),
+        Value::Set(other) => related_set(term, other, &Nothing { labels: true }),
         _ => false,
     }
 }
@@ -68,7 +40,7 @@ fn is_field(field: &FieldTerm, value: &Value) -> bool
     ensures { result ≡ equal_trees (tree.of_field (field_tree field.now)) (value_tree value.now) }
 {
     match value {
-        Value::Field(other) => related_field(field, other, &Nothing),
+        Value::Field(other) => related_field(field, other, &Nothing { labels: true }),
         _ => false,
     }
 }
@@ -77,7 +49,7 @@ fn is_formula(formula: &Formula, value: &Value) -> bool
     ensures { result ≡ equal_trees (tree.of_truth (formula_tree formula.now)) (value_tree value.now) }
 {
     match value {
-        Value::Bool(other) => related_formula(formula, other, &Nothing),
+        Value::Bool(other) => related_formula(formula, other, &Nothing { labels: true }),
         _ => false,
     }
 }
@@ -90,7 +62,13 @@ struct Exchanging<'a> {
 }
 
 impl Exchange for Exchanging<'_> {
+    ghost labels = { λ s. true };
+
     ghost pairs = { λ s u v. equal_trees u (value_tree s.old.now) && equal_trees v (value_tree s.new.now) };
+
+    fn labels(&self) -> bool {
+        true
+    }
 
     fn terms(&self, left: &Term, right: &Term) -> bool {
         is_term(left, self.old) && is_term(right, self.new)

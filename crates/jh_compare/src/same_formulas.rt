@@ -2,7 +2,8 @@ ghost use Rattle.std.specs.Prelude.{◌≡◌, ◌↔◌, IsTrue};
 ghost use Rattle.jh_tree.specs.Bare.{formula_tree};
 ghost use Rattle.jh_compare.specs.Unmarked.{unmarked_formula};
 
-use crate::sameness::same_formula;
+use crate::comparing::related_formula;
+use crate::exchange::Nothing;
 use jh_tree::Formula;
 
 /// Whether two formulas are the same tree where the labels of all parts are taken off. It takes no
@@ -10,5 +11,5 @@ use jh_tree::Formula;
 pub fn same(left: &Formula, right: &Formula) -> bool
     ensures { IsTrue result ↔ (unmarked_formula (formula_tree left.now) ≡ unmarked_formula (formula_tree right.now)) }
 {
-    same_formula(left, right)
+    related_formula(left, right, &Nothing { labels: false })
 }

@@ -5,6 +5,6 @@ use Rattle.jh_compare.proofs.same_formulas.same.Goals as goal
 
 pub returns : goal.returns
 returns c = (
-  λ h. same-true (formula_tree c.args.left.now) (formula_tree c.args.right.now) (sym c.same_formula.ensures ∙ h),
-  λ e. c.same_formula.ensures ∙ same-passes (formula_tree c.args.left.now) (formula_tree c.args.right.now) e,
+  λ h. same-true (formula_tree c.args.left.now) (formula_tree c.args.right.now) (sym c.related_formula.ensures ∙ h),
+  λ e. c.related_formula.ensures ∙ same-passes (formula_tree c.args.left.now) (formula_tree c.args.right.now) e,
 )

@@ -1,5 +1,5 @@
--- The test without labels at each constructor, and what it decides.
-use Rattle.std.proofs.Common.{◌≡◌, refl, ℕ, ℤ, Bool, ◌&&◌, nat_eq}
+-- Comparing past labels is comparing the trees without labels.
+use Rattle.std.proofs.Common.{◌≡◌, refl, ap, ◌∙◌, ℕ, ℤ, Bool, true, false, ◌&&◌, nat_eq}
 use Rattle.std.specs.Ordering.{int_eq}
 use Rattle.jh_name.specs.declared.naming.Name.{Name}
 use Rattle.jh_tree.specs.declared.mark.Mark.{Mark}
@@ -11,222 +11,9 @@ use Rattle.jh_tree.specs.declared.form.Formula.TheVariants as formula
 use Rattle.std.specs.declared.boxed.Box.{Box}
 use Rattle.std.specs.declared.alloc.Global.{Global}
 use Rattle.jh_tree.specs.Bare.{formula_tree}
-use Rattle.jh_compare.specs.Compared.{bound_with, free_object_with, null_with, read_object_with, const_with, free_number_with, read_number_with, add_with, sub_with, neg_with, scale_with, card_with, free_set_with, read_set_with, empty_with, univ_with, single_with, union_with, inter_with, diff_with, compl_with, compr_with, free_field_with, update_with, of_object_with, of_number_with, of_truth_with, of_set_with, of_field_with, true_formula_with, false_formula_with, free_truth_with, read_truth_with, negation_with, and_with, or_with, implies_with, iff_with, all_with, ex_with, eq_object_with, eq_number_with, eq_set_with, less_with, less_equal_with, divides_with, member_with, subset_with, reach_with, tree_with, none_with, more_with, related_term, related_int, related_set, related_field, related_value, related_formula, related_fields}
+use Rattle.jh_compare.specs.Compared.{bound_with, free_object_with, null_with, read_object_with, const_with, free_number_with, read_number_with, add_with, sub_with, neg_with, scale_with, card_with, free_set_with, read_set_with, empty_with, univ_with, single_with, union_with, inter_with, diff_with, compl_with, compr_with, free_field_with, update_with, of_object_with, of_number_with, of_truth_with, of_set_with, of_field_with, true_formula_with, false_formula_with, free_truth_with, read_truth_with, negation_with, and_with, or_with, implies_with, iff_with, all_with, ex_with, eq_object_with, eq_number_with, eq_set_with, less_with, less_equal_with, divides_with, member_with, subset_with, reach_with, tree_with, none_with, more_with, related_term, related_int, related_set, related_field, related_value, related_formula, related_fields, past}
 use Rattle.jh_compare.specs.Exchanged.{nothing}
 use Rattle.jh_compare.specs.Unmarked.{unmarked_term, unmarked_int, unmarked_set, unmarked_field, unmarked_value, unmarked_formula, unmarked_fields}
-use Rattle.jh_compare.specs.Sameness.{past, same_term, same_int, same_set, same_field, same_value, same_past, same_fields}
-
-pub same_term-bound : (k : ℕ) (s : TermTree) → same_term (t.bound k) s ≡ bound_with (λ k'. nat_eq k k') s
-unfolding same_term
-same_term-bound k s = refl
-
-pub same_term-free_object : (x : Name) (s : TermTree) → same_term (t.free_object x) s ≡ free_object_with (λ x'. name_equal x x') s
-unfolding same_term
-same_term-free_object x s = refl
-
-pub same_term-null : (s : TermTree) → same_term t.null s ≡ null_with s
-unfolding same_term
-same_term-null s = refl
-
-pub same_term-read_object : (a : FieldTree) (b : TermTree) (s : TermTree) → same_term (t.read_object a b) s ≡ read_object_with (λ a' b'. same_field a a' && same_term b b') s
-unfolding same_term
-same_term-read_object a b s = refl
-
-pub same_int-const : (z : ℤ) (s : IntTree) → same_int (t.const z) s ≡ const_with (λ z'. int_eq z z') s
-unfolding same_int
-same_int-const z s = refl
-
-pub same_int-free_number : (x : Name) (s : IntTree) → same_int (t.free_number x) s ≡ free_number_with (λ x'. name_equal x x') s
-unfolding same_int
-same_int-free_number x s = refl
-
-pub same_int-read_number : (a : FieldTree) (b : TermTree) (s : IntTree) → same_int (t.read_number a b) s ≡ read_number_with (λ a' b'. same_field a a' && same_term b b') s
-unfolding same_int
-same_int-read_number a b s = refl
-
-pub same_int-add : (a : IntTree) (b : IntTree) (s : IntTree) → same_int (t.add a b) s ≡ add_with (λ a' b'. same_int a a' && same_int b b') s
-unfolding same_int
-same_int-add a b s = refl
-
-pub same_int-sub : (a : IntTree) (b : IntTree) (s : IntTree) → same_int (t.sub a b) s ≡ sub_with (λ a' b'. same_int a a' && same_int b b') s
-unfolding same_int
-same_int-sub a b s = refl
-
-pub same_int-neg : (a : IntTree) (s : IntTree) → same_int (t.neg a) s ≡ neg_with (λ a'. same_int a a') s
-unfolding same_int
-same_int-neg a s = refl
-
-pub same_int-scale : (z : ℤ) (a : IntTree) (s : IntTree) → same_int (t.scale z a) s ≡ scale_with (λ z' a'. int_eq z z' && same_int a a') s
-unfolding same_int
-same_int-scale z a s = refl
-
-pub same_int-card : (a : SetTree) (s : IntTree) → same_int (t.card a) s ≡ card_with (λ a'. same_set a a') s
-unfolding same_int
-same_int-card a s = refl
-
-pub same_set-free_set : (x : Name) (s : SetTree) → same_set (t.free_set x) s ≡ free_set_with (λ x'. name_equal x x') s
-unfolding same_set
-same_set-free_set x s = refl
-
-pub same_set-read_set : (a : FieldTree) (b : TermTree) (s : SetTree) → same_set (t.read_set a b) s ≡ read_set_with (λ a' b'. same_field a a' && same_term b b') s
-unfolding same_set
-same_set-read_set a b s = refl
-
-pub same_set-empty : (s : SetTree) → same_set t.empty s ≡ empty_with s
-unfolding same_set
-same_set-empty s = refl
-
-pub same_set-univ : (s : SetTree) → same_set t.univ s ≡ univ_with s
-unfolding same_set
-same_set-univ s = refl
-
-pub same_set-single : (a : TermTree) (s : SetTree) → same_set (t.single a) s ≡ single_with (λ a'. same_term a a') s
-unfolding same_set
-same_set-single a s = refl
-
-pub same_set-union : (a : SetTree) (b : SetTree) (s : SetTree) → same_set (t.union a b) s ≡ union_with (λ a' b'. same_set a a' && same_set b b') s
-unfolding same_set
-same_set-union a b s = refl
-
-pub same_set-inter : (a : SetTree) (b : SetTree) (s : SetTree) → same_set (t.inter a b) s ≡ inter_with (λ a' b'. same_set a a' && same_set b b') s
-unfolding same_set
-same_set-inter a b s = refl
-
-pub same_set-diff : (a : SetTree) (b : SetTree) (s : SetTree) → same_set (t.diff a b) s ≡ diff_with (λ a' b'. same_set a a' && same_set b b') s
-unfolding same_set
-same_set-diff a b s = refl
-
-pub same_set-compl : (a : SetTree) (s : SetTree) → same_set (t.compl a) s ≡ compl_with (λ a'. same_set a a') s
-unfolding same_set
-same_set-compl a s = refl
-
-pub same_set-compr : (a : FormulaTree) (s : SetTree) → same_set (t.compr a) s ≡ compr_with (λ a'. same_past a (past a')) s
-unfolding same_set
-same_set-compr a s = refl
-
-pub same_field-free_field : (x : Name) (s : FieldTree) → same_field (t.free_field x) s ≡ free_field_with (λ x'. name_equal x x') s
-unfolding same_field
-same_field-free_field x s = refl
-
-pub same_field-update : (a : FieldTree) (b : TermTree) (c : ValueTree) (s : FieldTree) → same_field (t.update a b c) s ≡ update_with (λ a' b' c'. same_field a a' && same_term b b' && same_value c c') s
-unfolding same_field
-same_field-update a b c s = refl
-
-pub same_value-of_object : (a : TermTree) (s : ValueTree) → same_value (t.of_object a) s ≡ of_object_with (λ a'. same_term a a') s
-unfolding same_value
-same_value-of_object a s = refl
-
-pub same_value-of_number : (a : IntTree) (s : ValueTree) → same_value (t.of_number a) s ≡ of_number_with (λ a'. same_int a a') s
-unfolding same_value
-same_value-of_number a s = refl
-
-pub same_value-of_truth : (a : FormulaTree) (s : ValueTree) → same_value (t.of_truth a) s ≡ of_truth_with (λ a'. same_past a (past a')) s
-unfolding same_value
-same_value-of_truth a s = refl
-
-pub same_value-of_set : (a : SetTree) (s : ValueTree) → same_value (t.of_set a) s ≡ of_set_with (λ a'. same_set a a') s
-unfolding same_value
-same_value-of_set a s = refl
-
-pub same_value-of_field : (a : FieldTree) (s : ValueTree) → same_value (t.of_field a) s ≡ of_field_with (λ a'. same_field a a') s
-unfolding same_value
-same_value-of_field a s = refl
-
-pub same_past-true_formula : (s : FormulaTree) → same_past t.true_formula s ≡ true_formula_with s
-unfolding same_past
-same_past-true_formula s = refl
-
-pub same_past-false_formula : (s : FormulaTree) → same_past t.false_formula s ≡ false_formula_with s
-unfolding same_past
-same_past-false_formula s = refl
-
-pub same_past-free_truth : (x : Name) (s : FormulaTree) → same_past (t.free_truth x) s ≡ free_truth_with (λ x'. name_equal x x') s
-unfolding same_past
-same_past-free_truth x s = refl
-
-pub same_past-read_truth : (a : FieldTree) (b : TermTree) (s : FormulaTree) → same_past (t.read_truth a b) s ≡ read_truth_with (λ a' b'. same_field a a' && same_term b b') s
-unfolding same_past
-same_past-read_truth a b s = refl
-
-pub same_past-negation : (a : FormulaTree) (s : FormulaTree) → same_past (t.negation a) s ≡ negation_with (λ a'. same_past a (past a')) s
-unfolding same_past
-same_past-negation a s = refl
-
-pub same_past-and : (a : FormulaTree) (b : FormulaTree) (s : FormulaTree) → same_past (t.and a b) s ≡ and_with (λ a' b'. same_past a (past a') && same_past b (past b')) s
-unfolding same_past
-same_past-and a b s = refl
-
-pub same_past-or : (a : FormulaTree) (b : FormulaTree) (s : FormulaTree) → same_past (t.or a b) s ≡ or_with (λ a' b'. same_past a (past a') && same_past b (past b')) s
-unfolding same_past
-same_past-or a b s = refl
-
-pub same_past-implies : (a : FormulaTree) (b : FormulaTree) (s : FormulaTree) → same_past (t.implies a b) s ≡ implies_with (λ a' b'. same_past a (past a') && same_past b (past b')) s
-unfolding same_past
-same_past-implies a b s = refl
-
-pub same_past-iff : (a : FormulaTree) (b : FormulaTree) (s : FormulaTree) → same_past (t.iff a b) s ≡ iff_with (λ a' b'. same_past a (past a') && same_past b (past b')) s
-unfolding same_past
-same_past-iff a b s = refl
-
-pub same_past-all : (a : FormulaTree) (s : FormulaTree) → same_past (t.all a) s ≡ all_with (λ a'. same_past a (past a')) s
-unfolding same_past
-same_past-all a s = refl
-
-pub same_past-ex : (a : FormulaTree) (s : FormulaTree) → same_past (t.ex a) s ≡ ex_with (λ a'. same_past a (past a')) s
-unfolding same_past
-same_past-ex a s = refl
-
-pub same_past-eq_object : (a : TermTree) (b : TermTree) (s : FormulaTree) → same_past (t.eq_object a b) s ≡ eq_object_with (λ a' b'. same_term a a' && same_term b b') s
-unfolding same_past
-same_past-eq_object a b s = refl
-
-pub same_past-eq_number : (a : IntTree) (b : IntTree) (s : FormulaTree) → same_past (t.eq_number a b) s ≡ eq_number_with (λ a' b'. same_int a a' && same_int b b') s
-unfolding same_past
-same_past-eq_number a b s = refl
-
-pub same_past-eq_set : (a : SetTree) (b : SetTree) (s : FormulaTree) → same_past (t.eq_set a b) s ≡ eq_set_with (λ a' b'. same_set a a' && same_set b b') s
-unfolding same_past
-same_past-eq_set a b s = refl
-
-pub same_past-less : (a : IntTree) (b : IntTree) (s : FormulaTree) → same_past (t.less a b) s ≡ less_with (λ a' b'. same_int a a' && same_int b b') s
-unfolding same_past
-same_past-less a b s = refl
-
-pub same_past-less_equal : (a : IntTree) (b : IntTree) (s : FormulaTree) → same_past (t.less_equal a b) s ≡ less_equal_with (λ a' b'. same_int a a' && same_int b b') s
-unfolding same_past
-same_past-less_equal a b s = refl
-
-pub same_past-divides : (z : ℤ) (a : IntTree) (s : FormulaTree) → same_past (t.divides z a) s ≡ divides_with (λ z' a'. int_eq z z' && same_int a a') s
-unfolding same_past
-same_past-divides z a s = refl
-
-pub same_past-member : (a : TermTree) (b : SetTree) (s : FormulaTree) → same_past (t.member a b) s ≡ member_with (λ a' b'. same_term a a' && same_set b b') s
-unfolding same_past
-same_past-member a b s = refl
-
-pub same_past-subset : (a : SetTree) (b : SetTree) (s : FormulaTree) → same_past (t.subset a b) s ≡ subset_with (λ a' b'. same_set a a' && same_set b b') s
-unfolding same_past
-same_past-subset a b s = refl
-
-pub same_past-reach : (fs : FieldTrees) (a : TermTree) (b : TermTree) (s : FormulaTree) → same_past (t.reach fs a b) s ≡ reach_with (λ fs' a' b'. same_fields fs fs' && same_term a a' && same_term b b') s
-unfolding same_past
-same_past-reach fs a b s = refl
-
-pub same_past-tree : (fs : FieldTrees) (s : FormulaTree) → same_past (t.tree fs) s ≡ tree_with (λ fs'. same_fields fs fs') s
-unfolding same_past
-same_past-tree fs s = refl
-
-pub same_past-mark : (k : Mark) (a : FormulaTree) (s : FormulaTree) → same_past (t.mark k a) s ≡ same_past a s
-unfolding same_past
-same_past-mark k a s = refl
-
-pub same_fields-none : (s : FieldTrees) → same_fields t.none s ≡ none_with s
-unfolding same_fields
-same_fields-none s = refl
-
-pub same_fields-more : (f : FieldTree) (fs : FieldTrees) (s : FieldTrees) → same_fields (t.more f fs) s ≡ more_with (λ f' fs'. same_field f f' && same_fields fs fs') s
-unfolding same_fields
-same_fields-more f fs s = refl
 
 pub past-mark : (k : Mark) (a : FormulaTree) → past (t.mark k a) ≡ past a
 unfolding past
@@ -257,7 +44,7 @@ past-else (formula.Reach' shape fs a b) n = refl
 past-else (formula.Tree' shape fs) n = refl
 past-else (formula.Mark' k i a) n = absurd (n k (record { ptr = i.ptr; alloc = i.alloc; value = a }) refl)
 
-pub ruleset same_steps = (same_term-bound, same_term-free_object, same_term-null, same_term-read_object, same_int-const, same_int-free_number, same_int-read_number, same_int-add, same_int-sub, same_int-neg, same_int-scale, same_int-card, same_set-free_set, same_set-read_set, same_set-empty, same_set-univ, same_set-single, same_set-union, same_set-inter, same_set-diff, same_set-compl, same_set-compr, same_field-free_field, same_field-update, same_value-of_object, same_value-of_number, same_value-of_truth, same_value-of_set, same_value-of_field, same_past-true_formula, same_past-false_formula, same_past-free_truth, same_past-read_truth, same_past-negation, same_past-and, same_past-or, same_past-implies, same_past-iff, same_past-all, same_past-ex, same_past-eq_object, same_past-eq_number, same_past-eq_set, same_past-less, same_past-less_equal, same_past-divides, same_past-member, same_past-subset, same_past-reach, same_past-tree, same_past-mark, same_fields-none, same_fields-more, past-mark, past-else)
+pub ruleset past_steps = (past-mark, past-else)
 
 bound_with-unmarked : (q r : ℕ → Bool) → ((k : ℕ) → q k ≡ r k) → (s : TermTree) → bound_with q s ≡ bound_with r (unmarked_term s)
 unfolding bound_with unmarked_term past
@@ -1090,72 +877,97 @@ unfolding more_with unmarked_fields past
 more_with-unmarked q r h (t.more f fs) = h f fs
 more_with-unmarked q r h t.none = refl
 
+unmarked-past : (a : FormulaTree) → unmarked_formula (past a) ≡ unmarked_formula a
+unfolding past unmarked_formula
+unmarked-past t.true_formula = refl
+unmarked-past t.false_formula = refl
+unmarked-past (t.free_truth x) = refl
+unmarked-past (t.read_truth a b) = refl
+unmarked-past (t.negation a) = refl
+unmarked-past (t.and a b) = refl
+unmarked-past (t.or a b) = refl
+unmarked-past (t.implies a b) = refl
+unmarked-past (t.iff a b) = refl
+unmarked-past (t.all a) = refl
+unmarked-past (t.ex a) = refl
+unmarked-past (t.eq_object a b) = refl
+unmarked-past (t.eq_number a b) = refl
+unmarked-past (t.eq_set a b) = refl
+unmarked-past (t.less a b) = refl
+unmarked-past (t.less_equal a b) = refl
+unmarked-past (t.divides z a) = refl
+unmarked-past (t.member a b) = refl
+unmarked-past (t.subset a b) = refl
+unmarked-past (t.reach fs a b) = refl
+unmarked-past (t.tree fs) = refl
+unmarked-past (t.mark k a) = unmarked-past a
+
 mutual
-  unfolding same_term same_int same_set same_field same_value same_past same_fields related_term related_int related_set related_field related_value related_formula related_fields unmarked_term unmarked_int unmarked_set unmarked_field unmarked_value unmarked_formula unmarked_fields
+  unfolding related_term related_int related_set related_field related_value related_formula related_fields unmarked_term unmarked_int unmarked_set unmarked_field unmarked_value unmarked_formula unmarked_fields
 
-  pub same_term-related : (a s : TermTree) → same_term a s ≡ related_term (unmarked_term a) nothing (unmarked_term s)
-  same_term-related (t.bound k) s = bound_with-unmarked (λ k'. nat_eq k k') (λ k'. nat_eq k k') (λ k'. λ i. nat_eq k k') s
-  same_term-related (t.free_object x) s = free_object_with-unmarked (λ x'. name_equal x x') (λ x'. name_equal x x') (λ x'. λ i. name_equal x x') s
-  same_term-related t.null s = null_with-unmarked s
-  same_term-related (t.read_object a b) s = read_object_with-unmarked (λ a' b'. same_field a a' && same_term b b') (λ a' b'. related_field (unmarked_field a) nothing a' && related_term (unmarked_term b) nothing b') (λ a' b'. λ i. same_field-related a a' i && same_term-related b b' i) s
+  pub term-past : (a s : TermTree) → related_term a false nothing s ≡ related_term (unmarked_term a) true nothing (unmarked_term s)
+  term-past (t.bound k) s = bound_with-unmarked (λ k'. nat_eq k k') (λ k'. nat_eq k k') (λ k'. λ i. nat_eq k k') s
+  term-past (t.free_object x) s = free_object_with-unmarked (λ x'. name_equal x x') (λ x'. name_equal x x') (λ x'. λ i. name_equal x x') s
+  term-past t.null s = null_with-unmarked s
+  term-past (t.read_object a b) s = read_object_with-unmarked (λ a' b'. related_field a false nothing a' && related_term b false nothing b') (λ a' b'. related_field (unmarked_field a) true nothing a' && related_term (unmarked_term b) true nothing b') (λ a' b'. λ i. field-past a a' i && term-past b b' i) s
 
-  pub same_int-related : (a s : IntTree) → same_int a s ≡ related_int (unmarked_int a) nothing (unmarked_int s)
-  same_int-related (t.const z) s = const_with-unmarked (λ z'. int_eq z z') (λ z'. int_eq z z') (λ z'. λ i. int_eq z z') s
-  same_int-related (t.free_number x) s = free_number_with-unmarked (λ x'. name_equal x x') (λ x'. name_equal x x') (λ x'. λ i. name_equal x x') s
-  same_int-related (t.read_number a b) s = read_number_with-unmarked (λ a' b'. same_field a a' && same_term b b') (λ a' b'. related_field (unmarked_field a) nothing a' && related_term (unmarked_term b) nothing b') (λ a' b'. λ i. same_field-related a a' i && same_term-related b b' i) s
-  same_int-related (t.add a b) s = add_with-unmarked (λ a' b'. same_int a a' && same_int b b') (λ a' b'. related_int (unmarked_int a) nothing a' && related_int (unmarked_int b) nothing b') (λ a' b'. λ i. same_int-related a a' i && same_int-related b b' i) s
-  same_int-related (t.sub a b) s = sub_with-unmarked (λ a' b'. same_int a a' && same_int b b') (λ a' b'. related_int (unmarked_int a) nothing a' && related_int (unmarked_int b) nothing b') (λ a' b'. λ i. same_int-related a a' i && same_int-related b b' i) s
-  same_int-related (t.neg a) s = neg_with-unmarked (λ a'. same_int a a') (λ a'. related_int (unmarked_int a) nothing a') (λ a'. λ i. same_int-related a a' i) s
-  same_int-related (t.scale z a) s = scale_with-unmarked (λ z' a'. int_eq z z' && same_int a a') (λ z' a'. int_eq z z' && related_int (unmarked_int a) nothing a') (λ z' a'. λ i. int_eq z z' && same_int-related a a' i) s
-  same_int-related (t.card a) s = card_with-unmarked (λ a'. same_set a a') (λ a'. related_set (unmarked_set a) nothing a') (λ a'. λ i. same_set-related a a' i) s
+  pub int-past : (a s : IntTree) → related_int a false nothing s ≡ related_int (unmarked_int a) true nothing (unmarked_int s)
+  int-past (t.const z) s = const_with-unmarked (λ z'. int_eq z z') (λ z'. int_eq z z') (λ z'. λ i. int_eq z z') s
+  int-past (t.free_number x) s = free_number_with-unmarked (λ x'. name_equal x x') (λ x'. name_equal x x') (λ x'. λ i. name_equal x x') s
+  int-past (t.read_number a b) s = read_number_with-unmarked (λ a' b'. related_field a false nothing a' && related_term b false nothing b') (λ a' b'. related_field (unmarked_field a) true nothing a' && related_term (unmarked_term b) true nothing b') (λ a' b'. λ i. field-past a a' i && term-past b b' i) s
+  int-past (t.add a b) s = add_with-unmarked (λ a' b'. related_int a false nothing a' && related_int b false nothing b') (λ a' b'. related_int (unmarked_int a) true nothing a' && related_int (unmarked_int b) true nothing b') (λ a' b'. λ i. int-past a a' i && int-past b b' i) s
+  int-past (t.sub a b) s = sub_with-unmarked (λ a' b'. related_int a false nothing a' && related_int b false nothing b') (λ a' b'. related_int (unmarked_int a) true nothing a' && related_int (unmarked_int b) true nothing b') (λ a' b'. λ i. int-past a a' i && int-past b b' i) s
+  int-past (t.neg a) s = neg_with-unmarked (λ a'. related_int a false nothing a') (λ a'. related_int (unmarked_int a) true nothing a') (λ a'. λ i. int-past a a' i) s
+  int-past (t.scale z a) s = scale_with-unmarked (λ z' a'. int_eq z z' && related_int a false nothing a') (λ z' a'. int_eq z z' && related_int (unmarked_int a) true nothing a') (λ z' a'. λ i. int_eq z z' && int-past a a' i) s
+  int-past (t.card a) s = card_with-unmarked (λ a'. related_set a false nothing a') (λ a'. related_set (unmarked_set a) true nothing a') (λ a'. λ i. set-past a a' i) s
 
-  pub same_set-related : (a s : SetTree) → same_set a s ≡ related_set (unmarked_set a) nothing (unmarked_set s)
-  same_set-related (t.free_set x) s = free_set_with-unmarked (λ x'. name_equal x x') (λ x'. name_equal x x') (λ x'. λ i. name_equal x x') s
-  same_set-related (t.read_set a b) s = read_set_with-unmarked (λ a' b'. same_field a a' && same_term b b') (λ a' b'. related_field (unmarked_field a) nothing a' && related_term (unmarked_term b) nothing b') (λ a' b'. λ i. same_field-related a a' i && same_term-related b b' i) s
-  same_set-related t.empty s = empty_with-unmarked s
-  same_set-related t.univ s = univ_with-unmarked s
-  same_set-related (t.single a) s = single_with-unmarked (λ a'. same_term a a') (λ a'. related_term (unmarked_term a) nothing a') (λ a'. λ i. same_term-related a a' i) s
-  same_set-related (t.union a b) s = union_with-unmarked (λ a' b'. same_set a a' && same_set b b') (λ a' b'. related_set (unmarked_set a) nothing a' && related_set (unmarked_set b) nothing b') (λ a' b'. λ i. same_set-related a a' i && same_set-related b b' i) s
-  same_set-related (t.inter a b) s = inter_with-unmarked (λ a' b'. same_set a a' && same_set b b') (λ a' b'. related_set (unmarked_set a) nothing a' && related_set (unmarked_set b) nothing b') (λ a' b'. λ i. same_set-related a a' i && same_set-related b b' i) s
-  same_set-related (t.diff a b) s = diff_with-unmarked (λ a' b'. same_set a a' && same_set b b') (λ a' b'. related_set (unmarked_set a) nothing a' && related_set (unmarked_set b) nothing b') (λ a' b'. λ i. same_set-related a a' i && same_set-related b b' i) s
-  same_set-related (t.compl a) s = compl_with-unmarked (λ a'. same_set a a') (λ a'. related_set (unmarked_set a) nothing a') (λ a'. λ i. same_set-related a a' i) s
-  same_set-related (t.compr a) s = compr_with-unmarked (λ a'. same_past a (past a')) (λ a'. related_formula (unmarked_formula a) nothing a') (λ a'. λ i. same_past-related a a' i) s
+  pub set-past : (a s : SetTree) → related_set a false nothing s ≡ related_set (unmarked_set a) true nothing (unmarked_set s)
+  set-past (t.free_set x) s = free_set_with-unmarked (λ x'. name_equal x x') (λ x'. name_equal x x') (λ x'. λ i. name_equal x x') s
+  set-past (t.read_set a b) s = read_set_with-unmarked (λ a' b'. related_field a false nothing a' && related_term b false nothing b') (λ a' b'. related_field (unmarked_field a) true nothing a' && related_term (unmarked_term b) true nothing b') (λ a' b'. λ i. field-past a a' i && term-past b b' i) s
+  set-past t.empty s = empty_with-unmarked s
+  set-past t.univ s = univ_with-unmarked s
+  set-past (t.single a) s = single_with-unmarked (λ a'. related_term a false nothing a') (λ a'. related_term (unmarked_term a) true nothing a') (λ a'. λ i. term-past a a' i) s
+  set-past (t.union a b) s = union_with-unmarked (λ a' b'. related_set a false nothing a' && related_set b false nothing b') (λ a' b'. related_set (unmarked_set a) true nothing a' && related_set (unmarked_set b) true nothing b') (λ a' b'. λ i. set-past a a' i && set-past b b' i) s
+  set-past (t.inter a b) s = inter_with-unmarked (λ a' b'. related_set a false nothing a' && related_set b false nothing b') (λ a' b'. related_set (unmarked_set a) true nothing a' && related_set (unmarked_set b) true nothing b') (λ a' b'. λ i. set-past a a' i && set-past b b' i) s
+  set-past (t.diff a b) s = diff_with-unmarked (λ a' b'. related_set a false nothing a' && related_set b false nothing b') (λ a' b'. related_set (unmarked_set a) true nothing a' && related_set (unmarked_set b) true nothing b') (λ a' b'. λ i. set-past a a' i && set-past b b' i) s
+  set-past (t.compl a) s = compl_with-unmarked (λ a'. related_set a false nothing a') (λ a'. related_set (unmarked_set a) true nothing a') (λ a'. λ i. set-past a a' i) s
+  set-past (t.compr a) s = compr_with-unmarked (λ a'. related_formula a false nothing a') (λ a'. related_formula (unmarked_formula a) true nothing a') (λ a'. λ i. formula-past a a' i) s
 
-  pub same_field-related : (a s : FieldTree) → same_field a s ≡ related_field (unmarked_field a) nothing (unmarked_field s)
-  same_field-related (t.free_field x) s = free_field_with-unmarked (λ x'. name_equal x x') (λ x'. name_equal x x') (λ x'. λ i. name_equal x x') s
-  same_field-related (t.update a b c) s = update_with-unmarked (λ a' b' c'. same_field a a' && same_term b b' && same_value c c') (λ a' b' c'. related_field (unmarked_field a) nothing a' && related_term (unmarked_term b) nothing b' && related_value (unmarked_value c) nothing c') (λ a' b' c'. λ i. same_field-related a a' i && same_term-related b b' i && same_value-related c c' i) s
+  pub field-past : (a s : FieldTree) → related_field a false nothing s ≡ related_field (unmarked_field a) true nothing (unmarked_field s)
+  field-past (t.free_field x) s = free_field_with-unmarked (λ x'. name_equal x x') (λ x'. name_equal x x') (λ x'. λ i. name_equal x x') s
+  field-past (t.update a b c) s = update_with-unmarked (λ a' b' c'. related_field a false nothing a' && related_term b false nothing b' && related_value c false nothing c') (λ a' b' c'. related_field (unmarked_field a) true nothing a' && related_term (unmarked_term b) true nothing b' && related_value (unmarked_value c) true nothing c') (λ a' b' c'. λ i. field-past a a' i && term-past b b' i && value-past c c' i) s
 
-  pub same_value-related : (a s : ValueTree) → same_value a s ≡ related_value (unmarked_value a) nothing (unmarked_value s)
-  same_value-related (t.of_object a) s = of_object_with-unmarked (λ a'. same_term a a') (λ a'. related_term (unmarked_term a) nothing a') (λ a'. λ i. same_term-related a a' i) s
-  same_value-related (t.of_number a) s = of_number_with-unmarked (λ a'. same_int a a') (λ a'. related_int (unmarked_int a) nothing a') (λ a'. λ i. same_int-related a a' i) s
-  same_value-related (t.of_truth a) s = of_truth_with-unmarked (λ a'. same_past a (past a')) (λ a'. related_formula (unmarked_formula a) nothing a') (λ a'. λ i. same_past-related a a' i) s
-  same_value-related (t.of_set a) s = of_set_with-unmarked (λ a'. same_set a a') (λ a'. related_set (unmarked_set a) nothing a') (λ a'. λ i. same_set-related a a' i) s
-  same_value-related (t.of_field a) s = of_field_with-unmarked (λ a'. same_field a a') (λ a'. related_field (unmarked_field a) nothing a') (λ a'. λ i. same_field-related a a' i) s
+  pub value-past : (a s : ValueTree) → related_value a false nothing s ≡ related_value (unmarked_value a) true nothing (unmarked_value s)
+  value-past (t.of_object a) s = of_object_with-unmarked (λ a'. related_term a false nothing a') (λ a'. related_term (unmarked_term a) true nothing a') (λ a'. λ i. term-past a a' i) s
+  value-past (t.of_number a) s = of_number_with-unmarked (λ a'. related_int a false nothing a') (λ a'. related_int (unmarked_int a) true nothing a') (λ a'. λ i. int-past a a' i) s
+  value-past (t.of_truth a) s = of_truth_with-unmarked (λ a'. related_formula a false nothing a') (λ a'. related_formula (unmarked_formula a) true nothing a') (λ a'. λ i. formula-past a a' i) s
+  value-past (t.of_set a) s = of_set_with-unmarked (λ a'. related_set a false nothing a') (λ a'. related_set (unmarked_set a) true nothing a') (λ a'. λ i. set-past a a' i) s
+  value-past (t.of_field a) s = of_field_with-unmarked (λ a'. related_field a false nothing a') (λ a'. related_field (unmarked_field a) true nothing a') (λ a'. λ i. field-past a a' i) s
 
-  pub same_past-related : (a s : FormulaTree) → same_past a (past s) ≡ related_formula (unmarked_formula a) nothing (unmarked_formula s)
-  same_past-related t.true_formula s = true_formula_with-unmarked s
-  same_past-related t.false_formula s = false_formula_with-unmarked s
-  same_past-related (t.free_truth x) s = free_truth_with-unmarked (λ x'. name_equal x x') (λ x'. name_equal x x') (λ x'. λ i. name_equal x x') s
-  same_past-related (t.read_truth a b) s = read_truth_with-unmarked (λ a' b'. same_field a a' && same_term b b') (λ a' b'. related_field (unmarked_field a) nothing a' && related_term (unmarked_term b) nothing b') (λ a' b'. λ i. same_field-related a a' i && same_term-related b b' i) s
-  same_past-related (t.negation a) s = negation_with-unmarked (λ a'. same_past a (past a')) (λ a'. related_formula (unmarked_formula a) nothing a') (λ a'. λ i. same_past-related a a' i) s
-  same_past-related (t.and a b) s = and_with-unmarked (λ a' b'. same_past a (past a') && same_past b (past b')) (λ a' b'. related_formula (unmarked_formula a) nothing a' && related_formula (unmarked_formula b) nothing b') (λ a' b'. λ i. same_past-related a a' i && same_past-related b b' i) s
-  same_past-related (t.or a b) s = or_with-unmarked (λ a' b'. same_past a (past a') && same_past b (past b')) (λ a' b'. related_formula (unmarked_formula a) nothing a' && related_formula (unmarked_formula b) nothing b') (λ a' b'. λ i. same_past-related a a' i && same_past-related b b' i) s
-  same_past-related (t.implies a b) s = implies_with-unmarked (λ a' b'. same_past a (past a') && same_past b (past b')) (λ a' b'. related_formula (unmarked_formula a) nothing a' && related_formula (unmarked_formula b) nothing b') (λ a' b'. λ i. same_past-related a a' i && same_past-related b b' i) s
-  same_past-related (t.iff a b) s = iff_with-unmarked (λ a' b'. same_past a (past a') && same_past b (past b')) (λ a' b'. related_formula (unmarked_formula a) nothing a' && related_formula (unmarked_formula b) nothing b') (λ a' b'. λ i. same_past-related a a' i && same_past-related b b' i) s
-  same_past-related (t.all a) s = all_with-unmarked (λ a'. same_past a (past a')) (λ a'. related_formula (unmarked_formula a) nothing a') (λ a'. λ i. same_past-related a a' i) s
-  same_past-related (t.ex a) s = ex_with-unmarked (λ a'. same_past a (past a')) (λ a'. related_formula (unmarked_formula a) nothing a') (λ a'. λ i. same_past-related a a' i) s
-  same_past-related (t.eq_object a b) s = eq_object_with-unmarked (λ a' b'. same_term a a' && same_term b b') (λ a' b'. related_term (unmarked_term a) nothing a' && related_term (unmarked_term b) nothing b') (λ a' b'. λ i. same_term-related a a' i && same_term-related b b' i) s
-  same_past-related (t.eq_number a b) s = eq_number_with-unmarked (λ a' b'. same_int a a' && same_int b b') (λ a' b'. related_int (unmarked_int a) nothing a' && related_int (unmarked_int b) nothing b') (λ a' b'. λ i. same_int-related a a' i && same_int-related b b' i) s
-  same_past-related (t.eq_set a b) s = eq_set_with-unmarked (λ a' b'. same_set a a' && same_set b b') (λ a' b'. related_set (unmarked_set a) nothing a' && related_set (unmarked_set b) nothing b') (λ a' b'. λ i. same_set-related a a' i && same_set-related b b' i) s
-  same_past-related (t.less a b) s = less_with-unmarked (λ a' b'. same_int a a' && same_int b b') (λ a' b'. related_int (unmarked_int a) nothing a' && related_int (unmarked_int b) nothing b') (λ a' b'. λ i. same_int-related a a' i && same_int-related b b' i) s
-  same_past-related (t.less_equal a b) s = less_equal_with-unmarked (λ a' b'. same_int a a' && same_int b b') (λ a' b'. related_int (unmarked_int a) nothing a' && related_int (unmarked_int b) nothing b') (λ a' b'. λ i. same_int-related a a' i && same_int-related b b' i) s
-  same_past-related (t.divides z a) s = divides_with-unmarked (λ z' a'. int_eq z z' && same_int a a') (λ z' a'. int_eq z z' && related_int (unmarked_int a) nothing a') (λ z' a'. λ i. int_eq z z' && same_int-related a a' i) s
-  same_past-related (t.member a b) s = member_with-unmarked (λ a' b'. same_term a a' && same_set b b') (λ a' b'. related_term (unmarked_term a) nothing a' && related_set (unmarked_set b) nothing b') (λ a' b'. λ i. same_term-related a a' i && same_set-related b b' i) s
-  same_past-related (t.subset a b) s = subset_with-unmarked (λ a' b'. same_set a a' && same_set b b') (λ a' b'. related_set (unmarked_set a) nothing a' && related_set (unmarked_set b) nothing b') (λ a' b'. λ i. same_set-related a a' i && same_set-related b b' i) s
-  same_past-related (t.reach fs a b) s = reach_with-unmarked (λ fs' a' b'. same_fields fs fs' && same_term a a' && same_term b b') (λ fs' a' b'. related_fields (unmarked_fields fs) nothing fs' && related_term (unmarked_term a) nothing a' && related_term (unmarked_term b) nothing b') (λ fs' a' b'. λ i. same_fields-related fs fs' i && same_term-related a a' i && same_term-related b b' i) s
-  same_past-related (t.tree fs) s = tree_with-unmarked (λ fs'. same_fields fs fs') (λ fs'. related_fields (unmarked_fields fs) nothing fs') (λ fs'. λ i. same_fields-related fs fs' i) s
-  same_past-related (t.mark k a) s = same_past-related a s
+  pub formula-past : (a s : FormulaTree) → related_formula a false nothing s ≡ related_formula (unmarked_formula a) true nothing (unmarked_formula s)
+  formula-past t.true_formula s = true_formula_with-unmarked s
+  formula-past t.false_formula s = false_formula_with-unmarked s
+  formula-past (t.free_truth x) s = free_truth_with-unmarked (λ x'. name_equal x x') (λ x'. name_equal x x') (λ x'. λ i. name_equal x x') s
+  formula-past (t.read_truth a b) s = read_truth_with-unmarked (λ a' b'. related_field a false nothing a' && related_term b false nothing b') (λ a' b'. related_field (unmarked_field a) true nothing a' && related_term (unmarked_term b) true nothing b') (λ a' b'. λ i. field-past a a' i && term-past b b' i) s
+  formula-past (t.negation a) s = negation_with-unmarked (λ a'. related_formula a false nothing a') (λ a'. related_formula (unmarked_formula a) true nothing a') (λ a'. λ i. formula-past a a' i) s
+  formula-past (t.and a b) s = and_with-unmarked (λ a' b'. related_formula a false nothing a' && related_formula b false nothing b') (λ a' b'. related_formula (unmarked_formula a) true nothing a' && related_formula (unmarked_formula b) true nothing b') (λ a' b'. λ i. formula-past a a' i && formula-past b b' i) s
+  formula-past (t.or a b) s = or_with-unmarked (λ a' b'. related_formula a false nothing a' && related_formula b false nothing b') (λ a' b'. related_formula (unmarked_formula a) true nothing a' && related_formula (unmarked_formula b) true nothing b') (λ a' b'. λ i. formula-past a a' i && formula-past b b' i) s
+  formula-past (t.implies a b) s = implies_with-unmarked (λ a' b'. related_formula a false nothing a' && related_formula b false nothing b') (λ a' b'. related_formula (unmarked_formula a) true nothing a' && related_formula (unmarked_formula b) true nothing b') (λ a' b'. λ i. formula-past a a' i && formula-past b b' i) s
+  formula-past (t.iff a b) s = iff_with-unmarked (λ a' b'. related_formula a false nothing a' && related_formula b false nothing b') (λ a' b'. related_formula (unmarked_formula a) true nothing a' && related_formula (unmarked_formula b) true nothing b') (λ a' b'. λ i. formula-past a a' i && formula-past b b' i) s
+  formula-past (t.all a) s = all_with-unmarked (λ a'. related_formula a false nothing a') (λ a'. related_formula (unmarked_formula a) true nothing a') (λ a'. λ i. formula-past a a' i) s
+  formula-past (t.ex a) s = ex_with-unmarked (λ a'. related_formula a false nothing a') (λ a'. related_formula (unmarked_formula a) true nothing a') (λ a'. λ i. formula-past a a' i) s
+  formula-past (t.eq_object a b) s = eq_object_with-unmarked (λ a' b'. related_term a false nothing a' && related_term b false nothing b') (λ a' b'. related_term (unmarked_term a) true nothing a' && related_term (unmarked_term b) true nothing b') (λ a' b'. λ i. term-past a a' i && term-past b b' i) s
+  formula-past (t.eq_number a b) s = eq_number_with-unmarked (λ a' b'. related_int a false nothing a' && related_int b false nothing b') (λ a' b'. related_int (unmarked_int a) true nothing a' && related_int (unmarked_int b) true nothing b') (λ a' b'. λ i. int-past a a' i && int-past b b' i) s
+  formula-past (t.eq_set a b) s = eq_set_with-unmarked (λ a' b'. related_set a false nothing a' && related_set b false nothing b') (λ a' b'. related_set (unmarked_set a) true nothing a' && related_set (unmarked_set b) true nothing b') (λ a' b'. λ i. set-past a a' i && set-past b b' i) s
+  formula-past (t.less a b) s = less_with-unmarked (λ a' b'. related_int a false nothing a' && related_int b false nothing b') (λ a' b'. related_int (unmarked_int a) true nothing a' && related_int (unmarked_int b) true nothing b') (λ a' b'. λ i. int-past a a' i && int-past b b' i) s
+  formula-past (t.less_equal a b) s = less_equal_with-unmarked (λ a' b'. related_int a false nothing a' && related_int b false nothing b') (λ a' b'. related_int (unmarked_int a) true nothing a' && related_int (unmarked_int b) true nothing b') (λ a' b'. λ i. int-past a a' i && int-past b b' i) s
+  formula-past (t.divides z a) s = divides_with-unmarked (λ z' a'. int_eq z z' && related_int a false nothing a') (λ z' a'. int_eq z z' && related_int (unmarked_int a) true nothing a') (λ z' a'. λ i. int_eq z z' && int-past a a' i) s
+  formula-past (t.member a b) s = member_with-unmarked (λ a' b'. related_term a false nothing a' && related_set b false nothing b') (λ a' b'. related_term (unmarked_term a) true nothing a' && related_set (unmarked_set b) true nothing b') (λ a' b'. λ i. term-past a a' i && set-past b b' i) s
+  formula-past (t.subset a b) s = subset_with-unmarked (λ a' b'. related_set a false nothing a' && related_set b false nothing b') (λ a' b'. related_set (unmarked_set a) true nothing a' && related_set (unmarked_set b) true nothing b') (λ a' b'. λ i. set-past a a' i && set-past b b' i) s
+  formula-past (t.reach fs a b) s = reach_with-unmarked (λ fs' a' b'. related_fields fs false nothing fs' && related_term a false nothing a' && related_term b false nothing b') (λ fs' a' b'. related_fields (unmarked_fields fs) true nothing fs' && related_term (unmarked_term a) true nothing a' && related_term (unmarked_term b) true nothing b') (λ fs' a' b'. λ i. fields-past fs fs' i && term-past a a' i && term-past b b' i) s
+  formula-past (t.tree fs) s = tree_with-unmarked (λ fs'. related_fields fs false nothing fs') (λ fs'. related_fields (unmarked_fields fs) true nothing fs') (λ fs'. λ i. fields-past fs fs' i) s
+  formula-past (t.mark k a) s = formula-past a (past s) ∙ ap (λ z. related_formula (unmarked_formula a) true nothing z) (unmarked-past s)
 
-  pub same_fields-related : (a s : FieldTrees) → same_fields a s ≡ related_fields (unmarked_fields a) nothing (unmarked_fields s)
-  same_fields-related t.none s = none_with-unmarked s
-  same_fields-related (t.more f fs) s = more_with-unmarked (λ f' fs'. same_field f f' && same_fields fs fs') (λ f' fs'. related_field (unmarked_field f) nothing f' && related_fields (unmarked_fields fs) nothing fs') (λ f' fs'. λ i. same_field-related f f' i && same_fields-related fs fs' i) s
+  pub fields-past : (a s : FieldTrees) → related_fields a false nothing s ≡ related_fields (unmarked_fields a) true nothing (unmarked_fields s)
+  fields-past t.none s = none_with-unmarked s
+  fields-past (t.more f fs) s = more_with-unmarked (λ f' fs'. related_field f false nothing f' && related_fields fs false nothing fs') (λ f' fs'. related_field (unmarked_field f) true nothing f' && related_fields (unmarked_fields fs) true nothing fs') (λ f' fs'. λ i. field-past f f' i && fields-past fs fs' i) s
