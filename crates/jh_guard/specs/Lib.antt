@@ -1,0 +1,9 @@
+pub mod Terms
+pub mod Items
+pub mod Writes
+pub mod Steps
+pub mod Frames
+pub mod Loops
+pub mod Calls
+pub mod Statements
+pub mod Methods

@@ -1,0 +1,2 @@
+//! Methods as guarded commands.
+#![tactic(auto)]
