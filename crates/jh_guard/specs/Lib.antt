@@ -7,3 +7,4 @@ pub mod Loops
 pub mod Calls
 pub mod Statements
 pub mod Methods
+pub mod Laws

@@ -1,2 +1,6 @@
 //! Methods as guarded commands.
 #![tactic(auto)]
+
+mod laws;
+
+pub use laws::checks_are_exact;
