@@ -1,20 +1,20 @@
 pub mod Keeping
-mod Steps
-mod Bounds
-mod Inside
-mod Whole
-mod Cases
-mod Sources
-mod Constructs
-mod Unsound
-mod Growth
+pub mod Steps
+pub mod Bounds
+pub mod Inside
+pub mod Whole
+pub mod Cases
+pub mod Sources
+pub mod Constructs
+pub mod Unsound
+pub mod Growth
 pub mod Formed
-mod Typing
-mod Storing
-mod TypedRuns
-mod TypedCalls
+pub mod Typing
+pub mod Storing
+pub mod TypedRuns
+pub mod TypedCalls
 pub mod TypedMethods
 pub mod Facts
-mod TypedCases
-mod HeapsWhole
-mod HeapCases
+pub mod TypedCases
+pub mod HeapsWhole
+pub mod HeapCases
