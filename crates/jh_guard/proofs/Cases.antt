@@ -1,10 +1,8 @@
 -- Commands of small methods, worked by hand and proved by computing.
-use Rattle.std.proofs.Common.{◌≡◌, refl, ℕ, pos, ◌||◌, Bool, true, false, if◌then◌else◌, List, [], ◌∷◌, ◌++◌, Option, Some, None, codes}
+use Rattle.std.proofs.Common.{◌≡◌, refl, ℕ, pos, ◌||◌, Bool, true, false, List, [], ◌∷◌, ◌++◌, Some, None, codes}
 use Rattle.jh_name.specs.declared.naming.Name.{Name}
 use Rattle.jh_name.specs.declared.place.Place.{Place}
 use Rattle.jh_name.specs.declared.place.Kind.TheVariants as k
-use Rattle.jh_tree.specs.Tree.{FormulaTree}
-use Rattle.jh_tree.specs.Tree as t
 use Rattle.jh_rules.specs.declared.types.Ty.TheVariants as ty
 use Rattle.jh_rules.specs.Words.{same_text}
 use Rattle.jh_vars.specs.Written.{Callee}
@@ -14,7 +12,6 @@ use Rattle.jh_wp.specs.Command as w
 use Rattle.jh_runs.specs.Code.{Text, Local, Claim, Stmt, Stmts}
 use Rattle.jh_runs.specs.Code as c
 use Rattle.jh_runs.specs.Program.{Program, Method, Member}
-use Rattle.jh_runs.specs.State.{named}
 use Rattle.jh_guard.specs.Writes.{Writes}
 use Rattle.jh_guard.specs.Methods.{method_command}
 
@@ -51,12 +48,12 @@ body =
     (c.more (c.assign (c.to_new (record { text = codes "i"; type = ty.Int })) (c.a_number (c.const (pos 0))))
     (c.more (c.assign (c.to_name (codes "i")) (c.a_number (c.number (codes "q"))))
     (c.more (c.loop (at 9 5) [] (c.less (c.const (pos 0)) (c.number (codes "i")))
-      (c.block (c.more (c.assign (c.to_name (codes "i")) (c.a_number (c.sub (at 9 60) (c.number (codes "i")) (c.const (pos 1)))))
-               (c.more (c.assign (c.to_new (record { text = codes "b"; type = ty.Boolean })) (c.a_truth (c.literal true))) c.none))))
+    (c.block (c.more (c.assign (c.to_name (codes "i")) (c.a_number (c.sub (at 9 60) (c.number (codes "i")) (c.const (pos 1)))))
+    (c.more (c.assign (c.to_new (record { text = codes "b"; type = ty.Boolean })) (c.a_truth (c.literal true))) c.none))))
     (c.more (c.call (at 10 5) (c.to_new (record { text = codes "y"; type = ty.Class 0 })) None (at 10 11) make (c.an_object (c.object (codes "p")) ∷ c.a_number (c.number (codes "i")) ∷ []))
     (c.more (c.assign (c.to_name (codes "C.n")) (c.a_number (c.const (pos 3))))
     (c.more (c.call (at 12 5) (c.to_field (codes "C.next") (c.object (codes "p")) (at 12 5)) None (at 12 14) make
-      (c.an_object (c.read_object (codes "C.next") (c.object (codes "x")) (at 12 21)) ∷ c.a_number (c.number (codes "i")) ∷ []))
+    (c.an_object (c.read_object (codes "C.next") (c.object (codes "x")) (at 12 21)) ∷ c.a_number (c.number (codes "i")) ∷ []))
     (c.more (c.return_value (c.an_object (c.object (codes "y")))) c.none)))))))
 
 abbrev method : Method

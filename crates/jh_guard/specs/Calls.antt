@@ -1,7 +1,6 @@
 -- The command of a call, which is cut at the contract of the method that is called. The contract speaks of its own parameters, of `this`,
 -- of `result` and of the state at its entry: at a call fresh names stand for these.
-use Rattle.std.specs.Prelude.{ℕ, zero, suc, ◌+◌, ◌&&◌, ◌==◌, Bool, true, false, if◌then◌else◌, List, [], ◌∷◌, ◌++◌, map, length, Option, None, Some, codes, is_some}
-use Rattle.std.specs.Option.{option_map_or}
+use Rattle.std.specs.Prelude.{ℕ, suc, ◌+◌, ◌==◌, Bool, true, false, if◌then◌else◌, List, [], ◌∷◌, ◌++◌, map, length, Option, None, Some, codes, is_some}
 use Rattle.jh_name.specs.declared.naming.Name.{Name}
 use Rattle.jh_name.specs.declared.place.Place.{Place}
 use Rattle.jh_tree.specs.declared.mark.MarkKind.TheVariants as kind
@@ -26,7 +25,7 @@ use Rattle.jh_guard.specs.Terms.{Check, is_not_null, object_term, value_term, ob
 use Rattle.jh_guard.specs.Items.{Item, Sorted, sorted_item, items_where, free_of}
 use Rattle.jh_guard.specs.Writes.{Writes}
 use Rattle.jh_guard.specs.Frames.{frame_facts}
-use Rattle.jh_guard.specs.Steps.{fresh, mark_without_name, named_fact, assert_check, assert_checks, assert_claims, assume_claims, assume_named, changed, after_changed, growth, target_checks, put_field}
+use Rattle.jh_guard.specs.Steps.{fresh, mark_without_name, assert_checks, assert_claims, assume_claims, assume_named, changed, after_changed, growth, target_checks, put_field}
 
 -- A formula with other names, at every sort. All stand for their names at once.
 abbrev pub renaming_by : (Name → Name) → LeafMap

@@ -1,12 +1,11 @@
 -- Frame facts: that a piece of state is what its copy at a turn is.
-use Rattle.std.specs.Prelude.{ℕ, Bool, true, false, ◌&&◌, not, if◌then◌else◌, List, [], ◌∷◌, map, filter}
+use Rattle.std.specs.Prelude.{ℕ, ◌&&◌, not, if◌then◌else◌, List, map, filter}
 use Rattle.jh_name.specs.declared.naming.Name.{Name}
 use Rattle.jh_name.specs.declared.place.Kind.{Kind}
 use Rattle.jh_name.specs.declared.place.Kind.TheVariants as k
 use Rattle.jh_tree.specs.Tree.{FormulaTree, SetTree}
 use Rattle.jh_tree.specs.Tree as t
 use Rattle.jh_vars.specs.Written.{Callee}
-use Rattle.jh_runs.specs.Code.{Text}
 use Rattle.jh_runs.specs.Program.{Program, Member}
 use Rattle.jh_runs.specs.State.{named}
 use Rattle.jh_runs.specs.WellFormed.{each_in}

@@ -1,5 +1,5 @@
 -- The names of the state of a program, and those of parameters and locals, each with its sort.
-use Rattle.std.specs.Prelude.{◌≡◌, ℕ, Bool, true, false, List, [], ◌∷◌, ◌++◌, map, filter, codes}
+use Rattle.std.specs.Prelude.{Bool, true, false, List, ◌∷◌, ◌++◌, map, filter, codes}
 use Rattle.jh_name.specs.declared.naming.Name.{Name}
 use Rattle.jh_name.specs.declared.place.Sort.{Sort}
 use Rattle.jh_name.specs.declared.place.Sort.TheVariants as sort

@@ -11,7 +11,7 @@ use Rattle.jh_runs.specs.Program.{Program}
 use Rattle.jh_guard.specs.Terms.{truth_formula, truth_checks}
 use Rattle.jh_guard.specs.Items.{Item, Sorted, sorted_item, sorted_local, items_where}
 use Rattle.jh_guard.specs.Writes.{Writes, stmt_writes, locals_assigned, first_ones}
-use Rattle.jh_guard.specs.Steps.{sequence, assert_checks, assert_claims, assume_claims, assume_named, changed, after_changed, growth}
+use Rattle.jh_guard.specs.Steps.{sequence, assert_checks, assert_claims, assume_claims, assume_named, changed, growth}
 
 -- the state that a body may write, in the order of the state
 abbrev pub written_by : Program → Writes → Stmt → List Item

@@ -1,5 +1,5 @@
 -- The command of a method, and what has to be true where it returns.
-use Rattle.std.specs.Prelude.{ℕ, if◌then◌else◌, List, [], ◌∷◌, ◌++◌, map, Option, None, Some, codes}
+use Rattle.std.specs.Prelude.{if◌then◌else◌, List, [], ◌∷◌, ◌++◌, map, Option, None, Some, codes}
 use Rattle.jh_name.specs.declared.place.Place.{Place}
 use Rattle.jh_tree.specs.declared.mark.MarkKind.TheVariants as kind
 use Rattle.jh_tree.specs.Tree.{FormulaTree}

@@ -11,7 +11,7 @@ use Rattle.jh_wp.specs.Command.{CommandTree}
 use Rattle.jh_wp.specs.Command as w
 use Rattle.jh_runs.specs.Code.{Text, ObjectCode, AnyCode, Local, Target, Claim, Stmt, Stmts}
 use Rattle.jh_runs.specs.Code as c
-use Rattle.jh_runs.specs.Program.{Program, Method}
+use Rattle.jh_runs.specs.Program.{Program}
 use Rattle.jh_runs.specs.State.{named, alloc_name, result_name}
 use Rattle.jh_runs.specs.WellFormed.{well_formed}
 use Rattle.jh_guard.specs.Terms.{is_not_null, truth_formula, truth_checks, value_term, value_checks}
@@ -72,9 +72,9 @@ module _ (p : Program) (ws : Writes) (this : Option ℕ) where
     stmt_commands scope (c.branch q e a b) k =
         assert_checks (truth_checks e)
         ++ w.choice
-           (sequence (assume_named (codes "cond") q (truth_formula e) ∷ stmt_commands scope a k))
-           (sequence (assume_named (codes "cond") q (t.negation (truth_formula e)) ∷ stmts_commands scope b (next_turn scope a k)))
-           ∷ []
+        (sequence (assume_named (codes "cond") q (truth_formula e) ∷ stmt_commands scope a k))
+        (sequence (assume_named (codes "cond") q (t.negation (truth_formula e)) ∷ stmts_commands scope b (next_turn scope a k)))
+        ∷ []
     stmt_commands scope (c.loop q invariants e body) k =
         loop_head p ws (wf_at scope) q scope invariants e body k
         ++ loop_turn q invariants e (stmt_commands scope body (after_changed (changed_by p ws scope body) k)) ∷ []

@@ -1,5 +1,5 @@
 -- Steps of commands that several statements have.
-use Rattle.std.specs.Prelude.{ℕ, suc, ◌+◌, List, [], ◌∷◌, ◌++◌, map, filter, length, Option, None, Some, codes}
+use Rattle.std.specs.Prelude.{ℕ, suc, ◌+◌, List, [], ◌∷◌, ◌++◌, map, filter, length, None, Some}
 use Rattle.std.specs.Option.{option_map_or}
 use Rattle.jh_name.specs.declared.naming.Name.{Name}
 use Rattle.jh_name.specs.declared.place.Place.{Place}
@@ -14,7 +14,7 @@ use Rattle.jh_wp.specs.Command as w
 use Rattle.jh_runs.specs.Code.{Text, ObjectCode, Target, Claim}
 use Rattle.jh_runs.specs.Code as c
 use Rattle.jh_runs.specs.State.{named}
-use Rattle.jh_guard.specs.Terms.{Check, is_not_null, object_checks, receiver_checks, object_term}
+use Rattle.jh_guard.specs.Terms.{Check, object_checks, receiver_checks, object_term}
 use Rattle.jh_guard.specs.Items.{Item, Sorted, item_text, is_of_objects, free_of}
 
 -- commands as one list

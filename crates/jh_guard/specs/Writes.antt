@@ -1,5 +1,5 @@
 -- What statements may write: of the state, and of the parameters and locals.
-use Rattle.std.specs.Prelude.{ℕ, Bool, true, false, ◌||◌, not, if◌then◌else◌, List, [], ◌∷◌, ◌++◌, filter, codes}
+use Rattle.std.specs.Prelude.{Bool, false, ◌||◌, not, List, [], ◌∷◌, ◌++◌, filter, codes}
 use Rattle.jh_rules.specs.Words.{same_text}
 use Rattle.jh_vars.specs.Written.{Callee}
 use Rattle.jh_runs.specs.Code.{Text, Local, Target, Stmt, Stmts}

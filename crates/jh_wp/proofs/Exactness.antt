@@ -1,10 +1,8 @@
 -- The weakest precondition is true exactly where all guarded runs end well.
 use Rattle.std.proofs.Common.{◌≡◌, refl, sym, ap, ◌∙◌, Bool, true, false, not, ◌&&◌, ◌||◌, if◌then◌else◌, List, [], ◌∷◌, ◌++◌}
 use Rattle.std.specs.List.{flat_map, list_all}
-use Rattle.jh_name.specs.declared.naming.Name.{Name}
-use Rattle.jh_tree.specs.Tree.{ValueTree, FormulaTree}
-use Rattle.jh_tree.specs.Closed.{is_closed_value}
-use Rattle.jh_tree.specs.Meaning.{Interp, truth, datum}
+use Rattle.jh_tree.specs.Tree.{FormulaTree}
+use Rattle.jh_tree.specs.Meaning.{Interp, truth}
 use Rattle.jh_tree.proofs.ClosedLemmas.{both-left, both-right}
 use Rattle.jh_subst.proofs.Substitutions.{truth-substituted}
 use Rattle.jh_wp.proofs.Renamings.{truth-renamed}
@@ -44,6 +42,7 @@ followed q r next w same failed = refl
 
 mutual
   unfolding wp wp_all is_closed_command are_closed_commands
+
   pub truth-wp : (c : CommandTree) → is_closed_command c ≡ true → (q r : FormulaTree) (m : Interp) → truth (wp c q r) m [] ≡ list_all (ends_well q r) (ends c m)
   truth-wp (assume f) closed q r m = assumed q r m (truth f m [])
   truth-wp (assert f) closed q r m = asserted q r m (truth f m [])
@@ -61,5 +60,5 @@ mutual
   truth-wp_all (more c cs) closed q r m =
       truth-wp c (both-left (is_closed_command c) (are_closed_commands cs) closed) (wp_all cs q r) r m
       ∙ all-flat (ends_well q r) (follow (λ n. ends_all cs n)) (ends_well (wp_all cs q r) r)
-          (λ e. followed q r (λ n. ends_all cs n) (wp_all cs q r) (λ n. truth-wp_all cs (both-right (is_closed_command c) (are_closed_commands cs) closed) q r n) e)
-          (ends c m)
+      (λ e. followed q r (λ n. ends_all cs n) (wp_all cs q r) (λ n. truth-wp_all cs (both-right (is_closed_command c) (are_closed_commands cs) closed) q r n) e)
+      (ends c m)
