@@ -1,0 +1,5 @@
+pub mod Opens
+pub mod Following
+pub mod Operands
+pub mod Sights
+pub mod Turning

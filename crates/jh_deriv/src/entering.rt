@@ -1,0 +1,169 @@
+#![tactic(auto, using(jh_table::proofs::Listed::growth_steps, crate::proofs::Operands::entered_steps))]
+
+ghost use Rattle.std.specs.Prelude.{◌≡◌, IfOk, Some, slice_get};
+ghost use Rattle.jh_tree.specs.Tree.{of_object, of_truth, of_field};
+ghost use Rattle.jh_tree.specs.Tree as t;
+ghost use Rattle.jh_tree.specs.Bare.{term_tree, field_tree, value_tree, formula_tree};
+ghost use Rattle.jh_compare.specs.Unmarked.{unmarked_term, unmarked_field, unmarked_value, unmarked_formula};
+ghost use Rattle.jh_table.specs.Growth.{Extends};
+ghost use Rattle.jh_table.specs.Nodes.{nodes};
+ghost use Rattle.jh_steps.specs.Steps.{step_tree, bare_step};
+ghost use Rattle.jh_steps.specs.Steps as s;
+ghost use Rattle.jh_deriv.specs.Replays.{Enters};
+
+use jh_enter::{enter, enter_field, enter_formula, enter_term};
+use jh_make::{free_object, negation};
+use jh_name::{Kind, Name, NoMemory};
+use jh_normal::unlabelled;
+use jh_premises::NodeStep;
+use jh_steps::DerivStep;
+use jh_table::Table;
+use jh_tree::{FieldTerm, Formula, Term, Value};
+
+/// The node of a formula without labels.
+pub fn bare_formula(table: &mut Table, formula: &Formula) -> Result<usize, NoMemory>
+    ensures node { IfOk result (λ node. slice_get (nodes table.new) node ≡ Some (of_truth (unmarked_formula (formula_tree formula.now)))) }
+    ensures grows { Extends table.old table.new }
+{
+    let node = enter_formula(table, formula)?;
+    unlabelled(table, node)
+}
+
+/// The node of a term without labels.
+pub fn bare_term(table: &mut Table, term: &Term) -> Result<usize, NoMemory>
+    ensures node { IfOk result (λ node. slice_get (nodes table.new) node ≡ Some (of_object (unmarked_term (term_tree term.now)))) }
+    ensures grows { Extends table.old table.new }
+{
+    let node = enter_term(table, term)?;
+    unlabelled(table, node)
+}
+
+/// The node of a field without labels.
+pub fn bare_field(table: &mut Table, field: &FieldTerm) -> Result<usize, NoMemory>
+    ensures node { IfOk result (λ node. slice_get (nodes table.new) node ≡ Some (of_field (unmarked_field (field_tree field.now)))) }
+    ensures grows { Extends table.old table.new }
+{
+    let node = enter_field(table, field)?;
+    unlabelled(table, node)
+}
+
+/// The node of a value without labels.
+pub fn bare_value(table: &mut Table, value: &Value) -> Result<usize, NoMemory>
+    ensures node { IfOk result (λ node. slice_get (nodes table.new) node ≡ Some (unmarked_value (value_tree value.now))) }
+    ensures grows { Extends table.old table.new }
+{
+    let node = enter(table, value)?;
+    unlabelled(table, node)
+}
+
+/// The node of the negation of a formula without labels.
+pub fn negated_goal(table: &mut Table, goal: &Formula) -> Result<usize, NoMemory>
+    ensures node { IfOk result (λ node. slice_get (nodes table.new) node ≡ Some (of_truth (t.negation (unmarked_formula (formula_tree goal.now))))) }
+    ensures grows { Extends table.old table.new }
+{
+    let node = bare_formula(table, goal)?;
+    negation(table, node)
+}
+
+fn symmetric(table: &mut Table, left: &Value, right: &Value) -> Result<Option<NodeStep>, NoMemory>
+    ensures step { Enters (nodes table.new) (s.symmetric (unmarked_value (value_tree left.now)) (unmarked_value (value_tree right.now))) result }
+    ensures grows { Extends table.old table.new }
+{
+    let left = bare_value(table, left)?;
+    let right = bare_value(table, right)?;
+    Ok(Some(NodeStep::Symmetric(left, right)))
+}
+
+fn transitive(
+    table: &mut Table,
+    first: &Value,
+    second: &Value,
+    third: &Value,
+) -> Result<Option<NodeStep>, NoMemory>
+    ensures step { Enters (nodes table.new) (s.transitive (unmarked_value (value_tree first.now)) (unmarked_value (value_tree second.now)) (unmarked_value (value_tree third.now))) result }
+    ensures grows { Extends table.old table.new }
+{
+    let first = bare_value(table, first)?;
+    let second = bare_value(table, second)?;
+    let third = bare_value(table, third)?;
+    Ok(Some(NodeStep::Transitive(first, second, third)))
+}
+
+fn reading(
+    table: &mut Table,
+    kind: Kind,
+    field: &FieldTerm,
+    left: &Term,
+    right: &Term,
+) -> Result<Option<NodeStep>, NoMemory>
+    ensures step { Enters (nodes table.new) (s.reading kind (unmarked_field (field_tree field.now)) (unmarked_term (term_tree left.now)) (unmarked_term (term_tree right.now))) result }
+    ensures grows { Extends table.old table.new }
+{
+    let field = bare_field(table, field)?;
+    let left = bare_term(table, left)?;
+    let right = bare_term(table, right)?;
+    Ok(Some(NodeStep::Reading(kind, field, left, right)))
+}
+
+fn replacing(
+    table: &mut Table,
+    fact: &Formula,
+    made: &Formula,
+    old: &Value,
+    new: &Value,
+) -> Result<Option<NodeStep>, NoMemory>
+    ensures step { Enters (nodes table.new) (s.replacing (unmarked_formula (formula_tree fact.now)) (unmarked_formula (formula_tree made.now)) (unmarked_value (value_tree old.now)) (unmarked_value (value_tree new.now))) result }
+    ensures grows { Extends table.old table.new }
+{
+    let fact = bare_formula(table, fact)?;
+    let made = bare_formula(table, made)?;
+    let old = bare_value(table, old)?;
+    let new = bare_value(table, new)?;
+    Ok(Some(NodeStep::Replacing(fact, made, old, new)))
+}
+
+fn instance(table: &mut Table, fact: &Formula, term: &Term) -> Result<Option<NodeStep>, NoMemory>
+    ensures step { Enters (nodes table.new) (s.instance_at (unmarked_formula (formula_tree fact.now)) (unmarked_term (term_tree term.now))) result }
+    ensures grows { Extends table.old table.new }
+{
+    let fact = bare_formula(table, fact)?;
+    let term = bare_term(table, term)?;
+    Ok(Some(NodeStep::Instance(fact, term)))
+}
+
+fn witness(table: &mut Table, fact: &Formula, name: &Name) -> Result<Option<NodeStep>, NoMemory>
+    ensures step { Enters (nodes table.new) (s.witness (unmarked_formula (formula_tree fact.now)) name.now) result }
+    ensures grows { Extends table.old table.new }
+{
+    let fact = bare_formula(table, fact)?;
+    let name = free_object(table, name)?;
+    Ok(Some(NodeStep::Witness(fact, name)))
+}
+
+/// The step over nodes: its operands entered without labels. There is none for an axiom.
+#[tactic(auto, using(jh_table::proofs::Listed::growth_steps, crate::proofs::Operands::entered_steps), unfolding(jh_steps::specs::Steps::bare_step, jh_steps::specs::Steps::step_tree, jh_steps::specs::Rules::rule_of))]
+pub fn entered(table: &mut Table, step: &DerivStep) -> Result<Option<NodeStep>, NoMemory>
+    ensures step { Enters (nodes table.new) (bare_step (step_tree step.now)) result }
+    ensures grows { Extends table.old table.new }
+{
+    match step {
+        DerivStep::Absurd => Ok(Some(NodeStep::Absurd)),
+        DerivStep::Symmetric(left, right) => symmetric(table, left, right),
+        DerivStep::Transitive(first, second, third) => transitive(table, first, second, third),
+        DerivStep::Read(kind, field, left, right) => reading(table, *kind, field, left, right),
+        DerivStep::Replace(fact, made, old, new) => replacing(table, fact, made, old, new),
+        DerivStep::All(fact, term) => instance(table, fact, term),
+        DerivStep::Exists(fact, name) => witness(table, fact, name),
+        DerivStep::Update(field) => Ok(Some(NodeStep::Updating(bare_field(table, field)?))),
+        DerivStep::Axiom(_, _, _) => Ok(None),
+        DerivStep::Pair(fact) => Ok(Some(NodeStep::Pair(bare_formula(table, fact)?))),
+        DerivStep::Reflexive(fact) => Ok(Some(NodeStep::Reflexive(bare_formula(table, fact)?))),
+        DerivStep::And(fact) => Ok(Some(NodeStep::Conjuncts(bare_formula(table, fact)?))),
+        DerivStep::Or(fact) => Ok(Some(NodeStep::Disjuncts(bare_formula(table, fact)?))),
+        DerivStep::Implies(fact) => Ok(Some(NodeStep::Implication(bare_formula(table, fact)?))),
+        DerivStep::Iff(fact) => Ok(Some(NodeStep::Equivalence(bare_formula(table, fact)?))),
+        DerivStep::Not(fact) => Ok(Some(NodeStep::Inward(bare_formula(table, fact)?))),
+        DerivStep::Cut(fact) => Ok(Some(NodeStep::Cut(bare_formula(table, fact)?))),
+        DerivStep::Open(fact) => Ok(Some(NodeStep::Relation(bare_formula(table, fact)?))),
+    }
+}
