@@ -1,12 +1,13 @@
 -- What is known of a condition where some elements stand and some cases are chosen.
-use Rattle.std.specs.Prelude.{◌≡◌, ℕ, ◌<◌, ◌==◌, nat_lt, Bool, true, false, not, ◌&&◌, List, length, slice_index_or, Option, Some, None, IfSome}
+use Rattle.std.specs.Prelude.{◌≡◌, ℕ, ◌<◌, ◌==◌, nat_lt, Bool, true, false, not, ◌&&◌, if◌then◌else◌, List, [], ◌∷◌, length, slice_index_or, Option, Some, None, IfSome}
 use Rattle.std.specs.List.{list_all}
 use Rattle.jh_query.specs.declared.sizes.Spot.{Spot}
 use Rattle.jh_query.specs.Tree.{SetExprTree, CondTree, QueryTree}
 use Rattle.jh_query.specs.Tree as t
 use Rattle.jh_query.specs.Bare.{cond_tree}
 use Rattle.jh_query.specs.Sizing.{Sizing}
-use Rattle.jh_query.specs.Truth.{holds, query_true, spot_of}
+use Rattle.jh_query.specs.Same.{same_atom}
+use Rattle.jh_query.specs.Truth.{class_lies, holds, query_true, spot_of}
 use Rattle.jh_judge.specs.declared.casing.Atom.{Atom}
 use Rattle.jh_judge.specs.declared.casing.Case.{Case}
 use Rattle.jh_judge.specs.declared.casing.Case.TheVariants.{Open, True, False, Greater, Remainder}
@@ -61,6 +62,38 @@ agree_told None b = None
 agree_told (Some p) None = None
 agree_told (Some true) (Some q) = Some q
 agree_told (Some false) (Some q) = Some (not q)
+
+-- the truth of the first atom that is this one, where it is chosen
+abbrev pub chosen : List Atom → CondTree → Option Bool
+chosen [] c = None
+chosen (a ∷ rest) c = if same_atom (cond_tree a.cond.now) c then case_truth a.case else chosen rest c
+
+-- What is told of a condition: of elements where all that it names stand, of other atoms as they are chosen, and of
+-- the rest by the three-valued truth tables.
+abbrev pub told : List Spot → List Atom → CondTree → Option Bool
+told s atoms t.yes = Some true
+told s atoms t.no = Some false
+told s atoms (t.flag f) = chosen atoms (t.flag f)
+told s atoms (t.same_element i j) = if nat_lt i (length s) && nat_lt j (length s) then Some ((spot_of s i).class == (spot_of s j).class) else None
+told s atoms (t.member i a) = if nat_lt i (length s) && names_below (length s) a then Some (class_lies s i a) else None
+told s atoms (t.equal_set a b) = chosen atoms (t.equal_set a b)
+told s atoms (t.within a b) = chosen atoms (t.within a b)
+told s atoms (t.equal_num a b) = chosen atoms (t.equal_num a b)
+told s atoms (t.less_num a b) = chosen atoms (t.less_num a b)
+told s atoms (t.divides k a) = chosen atoms (t.divides k a)
+told s atoms (t.negation a) = other_told (told s atoms a)
+told s atoms (t.and a b) = both_told (told s atoms a) (told s atoms b)
+told s atoms (t.or a b) = one_told (told s atoms a) (told s atoms b)
+told s atoms (t.implies a b) = one_told (other_told (told s atoms a)) (told s atoms b)
+told s atoms (t.iff a b) = agree_told (told s atoms a) (told s atoms b)
+
+-- what is told of several conditions behind others, of which this is told, and of a query
+abbrev pub all_told : List Spot → List Atom → Option Bool → List CondTree → Option Bool
+all_told s atoms before [] = before
+all_told s atoms before (c ∷ cs) = all_told s atoms (both_told before (told s atoms c)) cs
+
+abbrev pub query_told : List Spot → List Atom → QueryTree → Option Bool
+query_told s atoms q = one_told (other_told (all_told s atoms (Some true) q.hyps)) (told s atoms q.goal)
 
 -- the same of several conditions, and of a query
 abbrev pub TellsAll : Option Bool → List Spot → List Atom → List CondTree → Type 0

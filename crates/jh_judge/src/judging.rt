@@ -1,10 +1,10 @@
 #![tactic(auto, using(jh_query::proofs::Steps::tree_steps, crate::proofs::Tellings::telling_steps))]
 
-ghost use Rattle.std.specs.Prelude.{◌≡◌, List, IfSome, length, map};
+ghost use Rattle.std.specs.Prelude.{◌≡◌, List, IfSome, Some, length, map, true};
 ghost use Rattle.jh_query.specs.declared.sizes.Spot.{Spot};
 ghost use Rattle.jh_query.specs.Bare.{cond_tree, query_tree, set_tree};
 ghost use Rattle.jh_query.specs.Tree as t;
-ghost use Rattle.jh_judge.specs.Judged.{Tells, TellsAll, TellsQuery, agree_told, both_told, names_below, one_told, other_told};
+ghost use Rattle.jh_judge.specs.Judged.{Tells, TellsAll, TellsQuery, agree_told, all_told, both_told, chosen, names_below, one_told, other_told, query_told, told};
 
 use crate::casing::{Atom, case_truth};
 use jh_query::{Cond, Query, SetExpr, Spot, class_lies, same_atom, spot_of};
@@ -25,7 +25,8 @@ fn names_below(set: &SetExpr, count: usize) -> bool
 
 /// The truth of an atom in its case, where it is one of these and chosen.
 fn chosen_truth(atoms: &[Atom<'_>], cond: &Cond) -> Option<bool>
-    ensures { (spots : List Spot) → Tells result spots atoms.now (cond_tree cond.now) }
+    ensures tells { (spots : List Spot) → Tells result spots atoms.now (cond_tree cond.now) }
+    ensures exact { result ≡ chosen atoms.now (cond_tree cond.now) }
 {
     for place in 0..atoms.len() {
         let atom = atoms[place];
@@ -38,7 +39,8 @@ fn chosen_truth(atoms: &[Atom<'_>], cond: &Cond) -> Option<bool>
 
 /// Whether two elements are one object, where both stand.
 fn is_same(left: u32, right: u32, spots: &[Spot], atoms: &[Atom<'_>]) -> Option<bool>
-    ensures { Tells result spots.now atoms.now (t.same_element left right) }
+    ensures tells { Tells result spots.now atoms.now (t.same_element left right) }
+    ensures exact { result ≡ told spots.now atoms.now (t.same_element left right) }
 {
     if (left as usize) < spots.len() && (right as usize) < spots.len() {
         Some(spot_of(spots, left as usize).class == spot_of(spots, right as usize).class)
@@ -49,7 +51,8 @@ fn is_same(left: u32, right: u32, spots: &[Spot], atoms: &[Atom<'_>]) -> Option<
 
 /// Whether an element is in a set, where all that is named stands.
 fn is_member(element: u32, set: &SetExpr, spots: &[Spot], atoms: &[Atom<'_>]) -> Option<bool>
-    ensures { Tells result spots.now atoms.now (t.member element (set_tree set.now)) }
+    ensures tells { Tells result spots.now atoms.now (t.member element (set_tree set.now)) }
+    ensures exact { result ≡ told spots.now atoms.now (t.member element (set_tree set.now)) }
 {
     if (element as usize) < spots.len() && names_below(set, spots.len()) {
         Some(class_lies(set, element as usize, spots))
@@ -110,7 +113,8 @@ fn agree(left: Option<bool>, right: Option<bool>) -> Option<bool>
 /// The truth of a condition under all sizes that agree with the places of the first elements and with the
 /// cases that are chosen, as far as it is known.
 pub fn judge(cond: &Cond, spots: &[Spot], atoms: &[Atom<'_>]) -> Option<bool>
-    ensures { Tells result spots.now atoms.now (cond_tree cond.now) }
+    ensures tells { Tells result spots.now atoms.now (cond_tree cond.now) }
+    ensures exact { result ≡ told spots.now atoms.now (cond_tree cond.now) }
 {
     match cond {
         Cond::True => Some(true),
@@ -135,7 +139,8 @@ pub fn judge(cond: &Cond, spots: &[Spot], atoms: &[Atom<'_>]) -> Option<bool>
 
 /// Whether all of several conditions are true, as far as it is known.
 fn judge_several(conds: &[Cond], spots: &[Spot], atoms: &[Atom<'_>]) -> Option<bool>
-    ensures { TellsAll result spots.now atoms.now (map cond_tree conds.now) }
+    ensures tells { TellsAll result spots.now atoms.now (map cond_tree conds.now) }
+    ensures exact { result ≡ all_told spots.now atoms.now (Some true) (map cond_tree conds.now) }
 {
     let mut all = Some(true);
     for cond in conds {
@@ -147,7 +152,8 @@ fn judge_several(conds: &[Cond], spots: &[Spot], atoms: &[Atom<'_>]) -> Option<b
 /// The truth of a query under all sizes that agree with the places of the first elements and with the cases
 /// that are chosen, as far as it is known.
 pub fn judge_query(query: &Query, spots: &[Spot], atoms: &[Atom<'_>]) -> Option<bool>
-    ensures { TellsQuery result spots.now atoms.now (query_tree query.now) }
+    ensures tells { TellsQuery result spots.now atoms.now (query_tree query.now) }
+    ensures exact { result ≡ query_told spots.now atoms.now (query_tree query.now) }
 {
     let premise = judge_several(query.hyps.items(), spots, atoms);
     one(other(premise), judge(&query.goal, spots, atoms))

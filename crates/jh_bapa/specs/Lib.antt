@@ -1,0 +1,10 @@
+pub mod Lists
+pub mod Cases
+pub mod Systems
+pub mod Counted
+pub mod Lining
+pub mod Within
+pub mod Searching
+pub mod Standing
+pub mod Made
+pub mod Answers

@@ -1,0 +1,19 @@
+//! Queries about sets, elements, numbers and flags, decided by the places of the elements and by digit systems.
+#![tactic(auto)]
+
+mod casing;
+mod counting;
+mod deciding;
+mod hoping;
+mod judging;
+mod lines;
+mod naming;
+mod placing;
+mod reading;
+mod rows;
+mod sets;
+mod solving;
+mod splitting;
+
+pub use deciding::{Decided, decide};
+pub use naming::is_well_formed;

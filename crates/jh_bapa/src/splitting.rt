@@ -1,0 +1,193 @@
+#![tactic(auto, using(jh_query::proofs::Steps::tree_steps))]
+
+ghost use Rattle.std.specs.Prelude.{◌≡◌, ◌<◌, IfNone, IfOk, IfSome, None, false, length, slice_index_or, true};
+ghost use Rattle.jh_query.specs.Bare.{cond_tree, query_tree};
+ghost use Rattle.jh_query.specs.Named.{IsWellFormed};
+ghost use Rattle.jh_query.specs.Sizing.{sizing_of};
+ghost use Rattle.jh_bapa.specs.Cases.{case_at, case_count, conds_of, is_hopeless, truth_case};
+ghost use Rattle.jh_judge.specs.declared.casing.Atom.{Atom};
+ghost use Rattle.jh_bapa.specs.Searching.{IsCasing, IsPlacement, NoneLeft, Refutes, is_open, with_case};
+ghost use Rattle.jh_bapa.specs.Standing.{opens_at};
+ghost use Rattle.jh_bapa.specs.Within.{IsWithin};
+
+use crate::hoping::is_hopeless;
+use crate::judging::open_query;
+use crate::solving::solve_case;
+use jh_judge::{Atom, Case, judge_query};
+use jh_name::NoMemory;
+use jh_query::{Cond, Query, Sizes, Spot};
+use std::alloc::Global;
+
+/// The number of cases of an atom.
+fn case_count(cond: &Cond) -> u64
+    ensures { result ≡ case_count (cond_tree cond.now) }
+{
+    match cond {
+        Cond::EqualNum(_, _) => 3,
+        Cond::Divides(factor, _) => factor.unsigned_abs(),
+        Cond::True
+        | Cond::False
+        | Cond::Flag(_)
+        | Cond::SameElement(_, _)
+        | Cond::In(_, _)
+        | Cond::EqualSet(_, _)
+        | Cond::Within(_, _)
+        | Cond::LessNum(_, _)
+        | Cond::Not(_)
+        | Cond::And(_, _)
+        | Cond::Or(_, _)
+        | Cond::Implies(_, _)
+        | Cond::Iff(_, _) => 2,
+    }
+}
+
+/// The case with a number, where it isn't a remainder.
+fn truth_case(number: u64) -> Case
+    ensures { result ≡ truth_case number }
+{
+    if number == 0 {
+        Case::True
+    } else if number == 1 {
+        Case::False
+    } else {
+        Case::Greater
+    }
+}
+
+/// A case of an atom by its number.
+fn case_at(cond: &Cond, number: u64) -> Case
+    ensures { result ≡ case_at (cond_tree cond.now) number }
+{
+    match cond {
+        Cond::Divides(_, _) => Case::Remainder(number),
+        Cond::True
+        | Cond::False
+        | Cond::Flag(_)
+        | Cond::SameElement(_, _)
+        | Cond::In(_, _)
+        | Cond::EqualSet(_, _)
+        | Cond::Within(_, _)
+        | Cond::EqualNum(_, _)
+        | Cond::LessNum(_, _)
+        | Cond::Not(_)
+        | Cond::And(_, _)
+        | Cond::Or(_, _)
+        | Cond::Implies(_, _)
+        | Cond::Iff(_, _) => truth_case(number),
+    }
+}
+
+/// The atom at a place.
+fn atom_at<'a>(atoms: &[Atom<'a>], place: usize) -> Atom<'a>
+    requires { place < length atoms.now }
+    ensures { result ≡ slice_index_or atoms.now place result }
+{
+    atoms[place]
+}
+
+/// Gives an atom a case.
+fn choose(atoms: &mut Vec<Atom<'_>>, place: usize, case: Case)
+    requires { place < length atoms.old.items }
+    ensures { atoms.new.items ≡ with_case atoms.old.items place case }
+{
+    let atom = atom_at(atoms, place);
+    atoms[place] = Atom {
+        cond: atom.cond,
+        case,
+    };
+}
+
+/// Whether no sizes with these places can meet the atom at a place in its case.
+fn is_hopeless_at(atoms: &[Atom<'_>], spots: &[Spot], place: usize) -> bool
+    requires { place < length atoms.now }
+    ensures { (a : Atom) → a ≡ slice_index_or atoms.now place a → result ≡ is_hopeless atoms.now spots.now (cond_tree a.cond.now) a.case }
+{
+    let atom = atoms[place];
+    is_hopeless(atoms, spots, &atom)
+}
+
+/// Sizes of a placement that refute the query, with cases for the open atoms on which it hangs.
+#[cycle(split)]
+pub(crate) fn split(
+    alloc: Global,
+    query: &Query,
+    atoms: &mut Vec<Atom<'_>>,
+    spots: &[Spot],
+) -> Result<Option<Sizes>, NoMemory>
+    requires formed { IsWellFormed (query_tree query.now) }
+    requires within { IsWithin (query_tree query.now) }
+    requires casing { IsCasing (query_tree query.now) (conds_of atoms.old.items) }
+    requires placement { IsPlacement query.now.sets spots.now }
+    requires full { length spots.now ≡ query.now.elements }
+    ensures none { IfOk result (λ found. IfNone found (NoneLeft (query_tree query.now) spots.now atoms.old.items)) }
+    ensures kept { IfOk result (λ found. IfNone found (atoms.new.items ≡ atoms.old.items)) }
+    ensures some { IfOk result (λ found. IfSome found (λ sizes. Refutes (query_tree query.now) (sizing_of sizes))) }
+{
+    match judge_query(query, spots, atoms) {
+        Some(true) => Ok(None),
+        Some(false) => solve_case(alloc, query, atoms, spots),
+        None => match open_query(query, spots, atoms) {
+            Some(place) => split_atom(alloc, query, atoms, spots, place),
+            None => Ok(None),
+        },
+    }
+}
+
+/// Sizes that refute the query, with a case of an atom, and with cases for the open atoms on which it then hangs.
+#[cycle(split)]
+fn split_case(
+    alloc: Global,
+    query: &Query,
+    atoms: &mut Vec<Atom<'_>>,
+    spots: &[Spot],
+    place: usize,
+    case: Case,
+) -> Result<Option<Sizes>, NoMemory>
+    requires formed { IsWellFormed (query_tree query.now) }
+    requires within { IsWithin (query_tree query.now) }
+    requires casing { IsCasing (query_tree query.now) (conds_of atoms.old.items) }
+    requires placement { IsPlacement query.now.sets spots.now }
+    requires full { length spots.now ≡ query.now.elements }
+    requires inside { place < length atoms.old.items }
+    requires chosen { is_open case ≡ false }
+    ensures none { IfOk result (λ found. IfNone found (NoneLeft (query_tree query.now) spots.now (with_case atoms.old.items place case))) }
+    ensures kept { IfOk result (λ found. IfNone found (atoms.new.items ≡ with_case atoms.old.items place case)) }
+    ensures some { IfOk result (λ found. IfSome found (λ sizes. Refutes (query_tree query.now) (sizing_of sizes))) }
+{
+    choose(atoms, place, case);
+    if is_hopeless_at(atoms, spots, place) {
+        return Ok(None);
+    }
+    split(alloc, query, atoms, spots)
+}
+
+/// Sizes that refute the query, with one of the cases of an atom.
+#[cycle(split)]
+fn split_atom(
+    alloc: Global,
+    query: &Query,
+    atoms: &mut Vec<Atom<'_>>,
+    spots: &[Spot],
+    place: usize,
+) -> Result<Option<Sizes>, NoMemory>
+    requires formed { IsWellFormed (query_tree query.now) }
+    requires within { IsWithin (query_tree query.now) }
+    requires casing { IsCasing (query_tree query.now) (conds_of atoms.old.items) }
+    requires placement { IsPlacement query.now.sets spots.now }
+    requires full { length spots.now ≡ query.now.elements }
+    requires unset { opens_at atoms.old.items place ≡ true }
+    ensures none { IfOk result (λ found. IfNone found (NoneLeft (query_tree query.now) spots.now atoms.old.items)) }
+    ensures kept { IfOk result (λ found. IfNone found (atoms.new.items ≡ atoms.old.items)) }
+    ensures some { IfOk result (λ found. IfSome found (λ sizes. Refutes (query_tree query.now) (sizing_of sizes))) }
+{
+    let atom = atom_at(atoms, place);
+    let cond = atom.cond;
+    for number in 0..case_count(cond) {
+        let found = split_case(alloc, query, atoms, spots, place, case_at(cond, number))?;
+        if found.is_some() {
+            return Ok(found);
+        }
+    }
+    choose(atoms, place, Case::Open);
+    Ok(None)
+}
