@@ -1,3 +1,3 @@
-mod Leasts
-mod Scopings
+pub mod Leasts
+pub mod Scopings
 mod Wholes

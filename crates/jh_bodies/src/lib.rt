@@ -11,3 +11,4 @@ mod statements;
 pub use declaring::word_fault;
 pub use faulting::broken;
 pub use methods::{method_faults, outermost};
+pub use specifying::{add_label, add_labels};

@@ -1,0 +1,9 @@
+//! What the statements of a method assign and call themselves.
+#![tactic(auto)]
+
+mod assigning;
+mod effects;
+mod gathering;
+
+pub use effects::{Callee, Effects, Write};
+pub use gathering::effects_of;

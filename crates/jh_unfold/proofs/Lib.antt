@@ -1,0 +1,4 @@
+mod Addings
+mod Knowing
+mod Sources
+mod Using

@@ -1,0 +1,14 @@
+use Rattle.std.proofs.Common.{◌≡◌, map, drop}
+use Rattle.jh_ast.specs.Bare.{class_part}
+use Rattle.jh_vars.specs.Opened.{in_classes}
+use Rattle.jh_unfold.specs.declared.formulas.Gathered.{Gathered}
+use Rattle.jh_unfold.specs.Adding.{program_of, IsReady, Adds}
+use Rattle.jh_unfold.proofs.classes.add_classes.Given as goal
+
+-- what adds the rest adds all
+abbrev pub invariant-loop-number : goal.invariant-loop-number
+invariant-loop-number l = record {
+  ready : IsReady l.unfolding.gathered.table l.unfolding.context;
+  context : l.unfolding.context ≡ l.fn.unfolding.context;
+  adds : (new : Gathered) → Adds (program_of l.fn.unfolding.context) l.unfolding.gathered new (in_classes (program_of l.fn.unfolding.context) l.number (map class_part (drop l.number l.classes))) → Adds (program_of l.fn.unfolding.context) l.fn.unfolding.gathered new (in_classes (program_of l.fn.unfolding.context) 0 (map class_part l.classes));
+}

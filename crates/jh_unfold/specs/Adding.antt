@@ -1,0 +1,71 @@
+-- The formulas of a program and their nodes, as they are added to a table.
+use Rattle.std.specs.Prelude.{◌≡◌, ◌<◌, nat_eq, ℕ, false, List, [], ◌∷◌, ◌++◌, Option, Some, None, length, slice_get}
+use Rattle.std.specs.List.{flat_map}
+use Rattle.std.specs.Map.{lookup}
+use Rattle.jh_ast.specs.Forms.{LabelledPart}
+use Rattle.jh_ast.specs.Programs.{ProgramTree, ClassPart, VarPart, DefPart}
+use Rattle.jh_tree.specs.Tree.{ValueTree}
+use Rattle.jh_table.specs.Entries.{Listing}
+use Rattle.jh_table.specs.Nodes.{nodes}
+use Rattle.jh_rules.specs.Names.{◌then◌, declared_in}
+use Rattle.jh_exprs.specs.Lookings.{declared_by}
+use Rattle.jh_vars.specs.Opened.{meant, all_definitions, found_in, values_of, valued, valued_some, invariant_value, outside}
+use Rattle.jh_vars.specs.Statements.{InScope}
+use Rattle.jh_numbers.specs.declared.numbers.Numbers.{Numbers}
+use Rattle.jh_resolve.specs.declared.context.Context.{Context}
+use Rattle.jh_resolve.specs.Meant.{meaning_in, AreHeld}
+use Rattle.jh_open.specs.Opening.{source_of}
+use Rattle.jh_unfold.specs.declared.formulas.Gathered.{Gathered}
+use Rattle.jh_unfold.specs.declared.statements.Unfolding.{Unfolding}
+
+-- the program in whose context formulas are resolved
+abbrev pub program_of : Context → ProgramTree
+program_of x = source_of x.classes.now
+
+-- each variable of a program stands for what its definition says
+pub record AreKnown (p : ProgramTree) (ts : List ValueTree) (known : Numbers) : Type 0 where
+  pub held : AreHeld ts known
+  pub means : meaning_in ts known ≡ meant p (all_definitions p)
+
+-- the context is that of the program, and each of its variables means what its definition says
+pub record IsReady (l : Listing) (x : Context) : Type 0 where
+  pub declared : declared_by x.lookups.now ≡ declared_in (program_of x)
+  pub known : AreKnown (program_of x) (nodes l) x.meanings.now
+
+-- the node of the formula of a number
+abbrev pub place_of : List (ℕ × ℕ) → ℕ → Option ℕ
+place_of q n = lookup (nat_eq n) q
+
+-- the value of the formula of a number
+abbrev pub value_of : List ValueTree → List (ℕ × ℕ) → ℕ → Option ValueTree
+value_of ts q n = place_of q n then slice_get ts
+
+-- what is there, or else another
+infixl 10 ◌or_else◌
+abbrev pub ◌or_else◌ : {X : Type 0} → Option X → Option X → Option X
+None or_else y = y
+(Some x) or_else y = Some x
+
+-- these are the values of the nodes of a table at places, by the numbers of the formulas
+pub record HoldsIn (p : ProgramTree) (l : Listing) (q : List (ℕ × ℕ)) (ys : List (ℕ × ValueTree)) : Type 0 where
+  pub inside : (n k : ℕ) → place_of q n ≡ Some k → k < length (nodes l)
+  pub is : (n : ℕ) → value_of (nodes l) q n ≡ found_in p n ys
+
+abbrev pub Holds : ProgramTree → Gathered → List (ℕ × ValueTree) → Type 0
+Holds p g ys = HoldsIn p g.table g.places ys
+
+-- what is gathered holds these too
+abbrev pub Adds : ProgramTree → Gathered → Gathered → List (ℕ × ValueTree) → Type 0
+Adds p old new more = (ys : List (ℕ × ValueTree)) → Holds p old ys → Holds p new (ys ++ more)
+
+-- the formulas of a statement are added
+pub record Unfolds (old new : Unfolding) (x : InScope) : Type 0 where
+  pub context : new.context ≡ old.context
+  pub adds : Adds (program_of old.context) old.gathered new.gathered (values_of (program_of old.context) x)
+
+-- the values of the formulas of a class that stand outside methods
+abbrev pub outer_values : ProgramTree → ℕ → ClassPart → List (ℕ × ValueTree)
+outer_values p n c =
+    flat_map (λ (v : VarPart). valued_some p (outside n false) v.init) c.vars
+    ++ flat_map (λ (d : DefPart). valued p (outside n false) d.spec) c.defs
+    ++ flat_map (λ (l : LabelledPart). (l.spec.number, invariant_value p n c l.spec.form) ∷ []) c.invariants
