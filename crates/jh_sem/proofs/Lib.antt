@@ -1,0 +1,10 @@
+mod Below
+mod Walks
+mod Forests
+mod Sames
+mod Widening
+mod Tabulated
+mod EvalSteps
+mod Updates
+mod Evaluated
+mod Reverses

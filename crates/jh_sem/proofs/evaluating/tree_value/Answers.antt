@@ -1,0 +1,37 @@
+use Rattle.std.proofs.Common.{rules, ◌≡◌, ◌<◌, ℕ, suc, List, sym, ap, subst, ◌∙◌, slice_get, arith}
+use Rattle.std.proofs.lemmas.Result.{err_from_is_err_and}
+use Rattle.jh_tree.specs.Tree.{FieldTree, of_truth}
+use Rattle.jh_tree.specs.Meaning.{Fields, reaches, is_forest, fields_value}
+use Rattle.jh_walk.specs.Parts.{Among}
+use Rattle.jh_table.specs.Entries.{the_truth, the_list, fields_at}
+use Rattle.jh_table.specs.Nodes.{nodes}
+use Rattle.jh_sem.specs.Bounds.{bound_list}
+use Rattle.jh_sem.specs.Graphs.{AreRows, listed_fields}
+use Rattle.jh_sem.proofs.Sames.{reaches-same, forest-same}
+use Rattle.jh_sem.proofs.Evaluated.{reach-part, tree-part}
+use Rattle.jh_sem.proofs.EvalSteps.{value-Reach, value-Tree}
+use Rattle.jh_sem.proofs.evaluating.tree_value.Goals as goal
+
+pub returns-in_err-rows-clause-wide : goal.returns-in_err-rows-clause-wide
+returns-in_err-rows-clause-wide g c =
+    let t0 = g.W.World.listing c.args.world.now in
+    let p = err_from_is_err_and c.from_residual.result c.from_residual.ensures.1 in
+    rw (p.1, p.2) (λ wide. c.in_err-rows.ensures.wide wide (of_truth (the_truth (slice_get (nodes t0) c.args.node))) (λ f among. tree-part t0 c.args.node c.args.list c.requires.stands f (subst (λ (ns : List ℕ). Among f (fields_at (nodes t0) ns)) c.fields_of.ensures among)))
+
+pub is_forest-requires : goal.is_forest-requires
+is_forest-requires g c =
+    let m = g.W.World.meaning c.args.world.now in
+    let whole : AreRows m.last c.as_slice.result.now = subst (λ (rs : List (List ℕ)). AreRows m.last rs) (sym c.as_slice.ensures.value) c.in_ok-rows.ensures.rows in
+    record { rows = subst (λ (n : ℕ). AreRows n c.as_slice.result.now) (sym c.last.ensures) whole }
+
+pub returns-clause-value : goal.returns-clause-value
+returns-clause-value g c =
+    let t0 = g.W.World.listing c.args.world.now in
+    let m = g.W.World.meaning c.args.world.now in
+    let e = bound_list c.args.bound.now in
+    let ts = nodes t0 in
+    c.in_ok-forest.ensures
+    ∙ (λ i. is_forest (c.last.ensures i) (listed_fields (c.as_slice.ensures.value i)))
+    ∙ forest-same m.last c.in_ok-rows.rows.items (fields_value (fields_at ts c.fields_of.result.now) m e) c.in_ok-rows.ensures.rows c.in_ok-rows.ensures.value
+    ∙ (λ i. is_forest m.last (fields_value (fields_at ts (c.fields_of.ensures i)) m e))
+    ∙ value-Tree t0 c.args.node m c.args.list c.requires.stands e
