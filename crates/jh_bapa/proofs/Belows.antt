@@ -113,20 +113,20 @@ picks-in zero p r lt h = absurd (omega arith)
 picks-in (suc n) p r lt h =
     elim (sure (p n)) [
       | inl e ↦ elim (cases_eq r n) [
-          | inl f ↦ rw e (length (picks n p), omega (arith, length-append (picks n p) (n ∷ [])), get_or-append_seam (picks n p) n [] 0 ∙ sym f)
-          | inr f ↦ let k = picks-in n p r (omega arith) h in let lt = k.1 in rw e (k.0, omega (arith, length-append (picks n p) (n ∷ [])), get_or-append (picks n p) (n ∷ []) 0 k.0 k.1 ∙ k.2)
-        ]
+        | inl f ↦ rw e (length (picks n p), omega (arith, length-append (picks n p) (n ∷ [])), get_or-append_seam (picks n p) n [] 0 ∙ sym f)
+        | inr f ↦ let k = picks-in n p r (omega arith) h in let lt = k.1 in rw e (k.0, omega (arith, length-append (picks n p) (n ∷ [])), get_or-append (picks n p) (n ∷ []) 0 k.0 k.1 ∙ k.2)
+      ]
       | inr e ↦ elim (cases_eq r n) [
-          | inl f ↦ let bad : true ≡ false = cc in absurd (true≢false bad)
-          | inr f ↦ rw e (picks-in n p r (omega arith) h)
-        ]
+        | inl f ↦ let bad : true ≡ false = cc in absurd (true≢false bad)
+        | inr f ↦ rw e (picks-in n p r (omega arith) h)
+      ]
     ]
 
 last_place : (i n : ℕ) → i < suc n → (i ≡ n → ⊥) → i < n
 last_place i n h k = elim (cases_eq i n) [
-      | inl e ↦ absurd (k e)
-      | inr e ↦ omega arith
-    ]
+  | inl e ↦ absurd (k e)
+  | inr e ↦ omega arith
+]
 
 picks_more : (xs : List ℕ) (n : ℕ) (p : ℕ → Bool) (i : ℕ) → p n ≡ true → i < length (xs ++ n ∷ []) → (i < length xs → (slice_index xs i < n) × (p (slice_index xs i) ≡ true)) → (slice_index (xs ++ n ∷ []) i < suc n) × (p (slice_index (xs ++ n ∷ []) i) ≡ true)
 picks_more xs n p i e h k =
@@ -157,9 +157,9 @@ module _ (z : Sizing) (test : Bool → Bool → Bool) (a b : SetExprTree) where
 
   rest_passes : (r : ℕ) → (rest_fails r ≡ true → rest_of z r ≡ 0) → (rest_of z r == 0 || test (rest_lies r a) (rest_lies r b)) ≡ true
   rest_passes r h = elim (sure (rest_fails r)) [
-        | inl e ↦ or_left (rest_of z r == 0) (test (rest_lies r a) (rest_lies r b)) (eq-eqb (rest_of z r) 0 (h e))
-        | inr e ↦ or_right (rest_of z r == 0) (test (rest_lies r a) (rest_lies r b)) (not-false (test (rest_lies r a) (rest_lies r b)) e)
-      ]
+    | inl e ↦ or_left (rest_of z r == 0) (test (rest_lies r a) (rest_lies r b)) (eq-eqb (rest_of z r) 0 (h e))
+    | inr e ↦ or_right (rest_of z r == 0) (test (rest_lies r a) (rest_lies r b)) (not-false (test (rest_lies r a) (rest_lies r b)) e)
+  ]
 
   pub set-true : any_below (length z.spots) class_fails ≡ false → ((r : ℕ) → r < length z.rest → rest_fails r ≡ true → rest_of z r ≡ 0) → compares z test a b ≡ true
   set-true e h = both _ _
@@ -171,27 +171,27 @@ module _ (z : Sizing) (test : Bool → Bool → Bool) (a b : SetExprTree) where
 
   pub set-rest : compares z test a b ≡ true → (r : ℕ) → r < length z.rest → rest_fails r ≡ true → rest_of z r ≡ 0
   set-rest e r k f = elim (or_cases (rest_of z r == 0) (test (rest_lies r a) (rest_lies r b)) (all-at (length z.rest) r (λ r. rest_of z r == 0 || test (rest_lies r a) (rest_lies r b)) (second _ _ e) k)) [
-        | inl g ↦ eqb-true (rest_of z r) 0 g
-        | inr g ↦ let bad : false ≡ true = sym (ap not g) ∙ f in absurd (true≢false (sym bad))
-      ]
+    | inl g ↦ eqb-true (rest_of z r) 0 g
+    | inr g ↦ let bad : false ≡ true = sym (ap not g) ∙ f in absurd (true≢false (sym bad))
+  ]
 
   pub set-class-false : any_below (length z.spots) class_fails ≡ true → compares z test a b ≡ false
   set-class-false e = elim (sure (compares z test a b)) [
-        | inl f ↦ let bad : true ≡ false = sym e ∙ set-classes f in absurd (true≢false bad)
-        | inr f ↦ f
-      ]
+    | inl f ↦ let bad : true ≡ false = sym e ∙ set-classes f in absurd (true≢false bad)
+    | inr f ↦ f
+  ]
 
   pub set-rest-false : (r : ℕ) → r < length z.rest → rest_fails r ≡ true → rest_of z r ≢ 0 → compares z test a b ≡ false
   set-rest-false r k f n = elim (sure (compares z test a b)) [
-        | inl g ↦ absurd (n (set-rest g r k f))
-        | inr g ↦ g
-      ]
+    | inl g ↦ absurd (n (set-rest g r k f))
+    | inr g ↦ g
+  ]
 
   -- where no class makes the comparison false, a rest does
   pub set-wanted : compares z test a b ≡ false → any_below (length z.spots) class_fails ≡ false → (r : ℕ) × (r < length z.rest) × ((rest_fails r ≡ true) × (rest_of z r ≢ 0))
   set-wanted e f =
       let classes : all_below (length z.spots) (λ i. test (class_lies z.spots i a) (class_lies z.spots i b)) ≡ true =
-          at-all (length z.spots) (λ i. test (class_lies z.spots i a) (class_lies z.spots i b)) (λ i k. not-false (test (class_lies z.spots i a) (class_lies z.spots i b)) (any-none (length z.spots) i class_fails f k)) in
+      at-all (length z.spots) (λ i. test (class_lies z.spots i a) (class_lies z.spots i b)) (λ i k. not-false (test (class_lies z.spots i a) (class_lies z.spots i b)) (any-none (length z.spots) i class_fails f k)) in
       let rests : all_below (length z.rest) (λ r. rest_of z r == 0 || test (rest_lies r a) (rest_lies r b)) ≡ false = behind _ _ e classes in
       let found = all-fails (length z.rest) (λ r. rest_of z r == 0 || test (rest_lies r a) (rest_lies r b)) rests in
       (found.0, found.1, (ap not (none_two (rest_of z found.0 == 0) _ found.2), λ g. true≢false (sym (eq-eqb (rest_of z found.0) 0 g) ∙ none_one (rest_of z found.0 == 0) _ found.2)))

@@ -31,9 +31,10 @@ line_same z (Some l) v w k j h e = ap (λ y. number_value z l.side +ℤ y) (dot-
 -- the slacks matter alone from their place on
 pub lines-same : (m : Frame) (z : Sizing) (v w : ℕ → ℕ) (place : ℕ) (atoms : List Atom) → ((j : ℕ) → slacks_at m place ≤ j → v j ≡ w j) → AllLines m z w place atoms → AllLines m z v place atoms
 lines-same m z v w place [] h e = tt
-lines-same m z v w place (a ∷ rest) h e =
-    ( line_same z (line_of (cond_tree a.cond.now) a.case) v w (slacks_at m place) (slacks_at m place) (λ i k. h (slacks_at m place + i) (omega arith)) e.0,
-      lines-same m z v w (place + slack_count (cond_tree a.cond.now) a.case) rest (λ j k. h j (omega (arith, k))) e.1 )
+lines-same m z v w place (a ∷ rest) h e = (
+  line_same z (line_of (cond_tree a.cond.now) a.case) v w (slacks_at m place) (slacks_at m place) (λ i k. h (slacks_at m place + i) (omega arith)) e.0,
+  lines-same m z v w (place + slack_count (cond_tree a.cond.now) a.case) rest (λ j k. h j (omega (arith, k))) e.1,
+)
 
 -- the slacks of all atoms, one after the other
 abbrev slack_from : ℕ → ℕ → (ℕ → ℕ) → (ℕ → ℕ) → ℕ → ℕ
@@ -55,10 +56,13 @@ slacks-of m z place (a ∷ rest) h =
     let behind = slacks-of m z (place + count line) rest h.1 in
     let x : ℕ → ℕ = h.0.line.0 in
     let start : ℕ = slacks_at m place in
-    let end : ℕ = slacks_at m (place + count line) in
-    ( slack_from start end x behind.0,
-      ( line_same z line (slack_from start end x behind.0) x start 0 (λ i k. from_first start end x behind.0 i (omega (arith, k))) h.0.line.1,
-        lines-same m z (slack_from start end x behind.0) behind.0 (place + count line) rest (from_rest start end x behind.0) behind.1 ) )
+    let end : ℕ = slacks_at m (place + count line) in (
+      slack_from start end x behind.0,
+      (
+        line_same z line (slack_from start end x behind.0) x start 0 (λ i k. from_first start end x behind.0 i (omega (arith, k))) h.0.line.1,
+        lines-same m z (slack_from start end x behind.0) behind.0 (place + count line) rest (from_rest start end x behind.0) behind.1,
+      ),
+    )
 
 -- whole numbers as two columns each
 abbrev plus_of : ℤ → ℕ
@@ -89,6 +93,7 @@ halves_at (y ∷ ys) (suc l) =
   where
     two_more : (l : ℕ) → 2 * suc l ≡ suc (suc (2 * l))
     two_more l = omega arith
+
     three_more : (l : ℕ) → 2 * suc l + 1 ≡ suc (suc (2 * l + 1))
     three_more l = omega arith
 
@@ -166,9 +171,9 @@ module _ (q : QueryTree) (atoms : List Atom) (spots : List Spot) (z : Sizing) (w
       let r : ℕ = found.0 in
       let inside : r < 2 ^ q.sets = omega (arith, fits.rest, found.1) in
       let full : emptied q.sets atoms r ≡ false = elim (sure (emptied q.sets atoms r)) [
-            | inl g ↦ absurd (found.2.1 (rests-none z atoms r met found.1 (sym (emptied-is q.sets atoms r inside) ∙ g)))
-            | inr g ↦ g
-          ] in
+        | inl g ↦ absurd (found.2.1 (rests-none z atoms r met found.1 (sym (emptied-is q.sets atoms r inside) ∙ g)))
+        | inr g ↦ g
+      ] in
       let picked = picks-in (2 ^ q.sets) (λ r. not (emptied q.sets atoms r) && rest_differs r c) r inside (both _ _ (ap not full) (same r ∙ found.2.0)) in
       record { place = picked.0; within = picked.1; nonzero = λ g. found.2.1 (sym (column_rest (frame_of q atoms spots) z w r inside) ∙ sym (ap columns picked.2) ∙ g) }
 
@@ -255,9 +260,9 @@ classes-agree z (t.iff a b) e = nowhere_differs (length z.spots)
 
 contrary : (z : Sizing) (atoms : List Atom) (c : CondTree) → AllMet z atoms → holds z c ≡ false → is_contrary atoms c ≡ false
 contrary z atoms (t.flag f) m e = elim (sure (flag_chosen atoms f)) [
-      | inl g ↦ absurd (true≢false (sym (flag_met z atoms f m g) ∙ e))
-      | inr g ↦ g
-    ]
+  | inl g ↦ absurd (true≢false (sym (flag_met z atoms f m g) ∙ e))
+  | inr g ↦ g
+]
 contrary z atoms t.yes m e = refl
 contrary z atoms t.no m e = refl
 contrary z atoms (t.same_element i j) m e = refl

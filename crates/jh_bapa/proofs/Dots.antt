@@ -37,6 +37,7 @@ dot-same (x ∷ xs) v w k l h =
   where
     zero_more : (k : ℕ) → k ≡ k + 0
     zero_more k = omega arith
+
     one_more : (k t : ℕ) → suc k + t ≡ k + suc t
     one_more k t = omega arith
 
@@ -60,8 +61,16 @@ dot-pairs (suc n) f v k =
     let size : length (pairs n f ++ f n ∷ []) ≡ 2 * n + 1 = length-append (pairs n f) (f n ∷ []) ∙ omega (arith, length-pairs n f) in
     let first : dot (f n ∷ []) v (k + length (pairs n f)) ≡ dot (f n ∷ []) v (k + 2 * n) = ap (λ m. dot (f n ∷ []) v (k + m)) (length-pairs n f) in
     let second : dot (neg_ℤ (f n) ∷ []) v (k + length (pairs n f ++ f n ∷ [])) ≡ dot (neg_ℤ (f n) ∷ []) v (k + (2 * n + 1)) = ap (λ m. dot (neg_ℤ (f n) ∷ []) v (k + m)) size in
-    omega (arith, ints, dot-append (pairs n f ++ f n ∷ []) (neg_ℤ (f n) ∷ []) v k, dot-append (pairs n f) (f n ∷ []) v k, first, second, dot-pairs n f v k,
-        pair_is (f n) (v (k + 2 * n)) (v (k + (2 * n + 1))))
+    omega (
+      arith,
+      ints,
+      dot-append (pairs n f ++ f n ∷ []) (neg_ℤ (f n) ∷ []) v k,
+      dot-append (pairs n f) (f n ∷ []) v k,
+      first,
+      second,
+      dot-pairs n f v k,
+      pair_is (f n) (v (k + 2 * n)) (v (k + (2 * n + 1))),
+    )
 
 pub dot-zeros : (n : ℕ) (v : ℕ → ℕ) (k : ℕ) → dot (zeros n) v k ≡ pos 0
 dot-zeros zero v k = refl
@@ -93,6 +102,7 @@ weighted_from (x ∷ xs) v k e h =
   where
     zero_more : (k : ℕ) → k + 0 ≡ k
     zero_more k = omega arith
+
     one_more : (k j : ℕ) → k + suc j ≡ suc k + j
     one_more k j = omega arith
 

@@ -36,7 +36,7 @@ first_row width v row rest e =
 next_row : (width : ℕ) (v : ℕ → ℕ) (row rest : List ℤ) (i : ℕ) → length row ≡ width → weighted (λ j. get_or (row ++ rest) (suc i * width + j) (pos 0)) v width ≡ weighted (λ j. get_or rest (i * width + j) (pos 0)) v width
 next_row width v row rest i e =
     weighted-same width (λ j. get_or (row ++ rest) (suc i * width + j) (pos 0)) (λ j. get_or rest (i * width + j) (pos 0)) v
-        (λ j h. ap (λ n. get_or (row ++ rest) n (pos 0)) (behind j) ∙ get_or-append-add row rest (i * width + j) (pos 0))
+    (λ j h. ap (λ n. get_or (row ++ rest) n (pos 0)) (behind j) ∙ get_or-append-add row rest (i * width + j) (pos 0))
   where
     behind : (j : ℕ) → suc i * width + j ≡ length row + (i * width + j)
     behind j = omega (arith, e)
@@ -66,9 +66,10 @@ module _ (m : Frame) (z : Sizing) (v : ℕ → ℕ) (says : Says m z v) where
       → place + (count line + slack_total rest) ≤ m.total → RowsEqual (width_of m) v (line_entries m place line ++ entries_of m (place + count line) rest) (line_right m line ++ rights_of m rest) → LineMet z line v (slacks_at m place) × AllLines m z v (place + count line) rest
   lines_of None place rest below h e = (tt, below (place + 0) (omega (arith, h)) e)
   lines_of (Some l) place rest below h e =
-      let size : length (row_of m place l) ≡ width_of m = length-row m place l (omega (arith, h)) in
-      ( line-of-row place l (rows-first (width_of m) v (row_of m place l) (entries_of m (place + length l.slacks) rest) (rights_of m rest) (l.added -ℤ read_number (placed_part m.spots) l.side) size e),
-        below (place + length l.slacks) (omega (arith, h)) (rows-next (width_of m) v (row_of m place l) (entries_of m (place + length l.slacks) rest) (rights_of m rest) (l.added -ℤ read_number (placed_part m.spots) l.side) size e) )
+      let size : length (row_of m place l) ≡ width_of m = length-row m place l (omega (arith, h)) in (
+        line-of-row place l (rows-first (width_of m) v (row_of m place l) (entries_of m (place + length l.slacks) rest) (rights_of m rest) (l.added -ℤ read_number (placed_part m.spots) l.side) size e),
+        below (place + length l.slacks) (omega (arith, h)) (rows-next (width_of m) v (row_of m place l) (entries_of m (place + length l.slacks) rest) (rights_of m rest) (l.added -ℤ read_number (placed_part m.spots) l.side) size e),
+      )
 
   pub lines-of-rows : (place : ℕ) (atoms : List Atom) → place + slack_total atoms ≤ m.total → RowsEqual (width_of m) v (entries_of m place atoms) (rights_of m atoms) → AllLines m z v place atoms
   lines-of-rows place [] h e = tt
@@ -80,7 +81,7 @@ module _ (m : Frame) (z : Sizing) (v : ℕ → ℕ) (says : Says m z v) where
   rows_of_line None place rest below h e = below (place + 0) (omega (arith, h)) e.1
   rows_of_line (Some l) place rest below h e =
       rows-more (width_of m) v (row_of m place l) (entries_of m (place + length l.slacks) rest) (rights_of m rest) (l.added -ℤ read_number (placed_part m.spots) l.side) (length-row m place l (omega (arith, h)))
-          (row-of-line place l e.0) (below (place + length l.slacks) (omega (arith, h)) e.1)
+      (row-of-line place l e.0) (below (place + length l.slacks) (omega (arith, h)) e.1)
 
   pub rows-of-lines : (place : ℕ) (atoms : List Atom) → place + slack_total atoms ≤ m.total → AllLines m z v place atoms → RowsEqual (width_of m) v (entries_of m place atoms) (rights_of m atoms)
   rows-of-lines place [] h e = λ i k. absurd (below_none i k)

@@ -80,6 +80,7 @@ product-picked f [] ys h p = positive ys
     one : (a b : ℕ) → 1 ≤ a → 1 ≤ b → 1 ≤ a * b
     one zero b e k = absurd (omega arith)
     one (suc a) b e k = omega (arith, k)
+
     positive : (ys : List CondTree) → 1 ≤ product_by f ys
     positive [] = omega arith
     positive (y ∷ ys) = one (f y) (product_by f ys) (h y) (positive ys)
@@ -117,13 +118,13 @@ in_distinct c [] h = cc
 in_distinct c (x ∷ xs) h =
     elim (sure (list_any (same_atom x) xs)) [
       | inl e ↦ rw e (elim (or_cases (same_atom c x) (list_any (same_atom c) xs) h) [
-          | inl f ↦ in_distinct c xs ((λ i. list_any (same_atom (same_atom-is c x f i)) xs) ∙ e)
-          | inr f ↦ in_distinct c xs f
-        ])
+        | inl f ↦ in_distinct c xs ((λ i. list_any (same_atom (same_atom-is c x f i)) xs) ∙ e)
+        | inr f ↦ in_distinct c xs f
+      ])
       | inr e ↦ rw e (elim (or_cases (same_atom c x) (list_any (same_atom c) xs) h) [
-          | inl f ↦ or_left (same_atom c x) (list_any (same_atom c) (distinct xs)) f
-          | inr f ↦ or_right (same_atom c x) (list_any (same_atom c) (distinct xs)) (in_distinct c xs f)
-        ])
+        | inl f ↦ or_left (same_atom c x) (list_any (same_atom c) (distinct xs)) f
+        | inr f ↦ or_right (same_atom c x) (list_any (same_atom c) (distinct xs)) (in_distinct c xs f)
+      ])
     ]
 
 all_distinct : (xs : List CondTree) (ds : List CondTree) → list_all (λ c. list_any (same_atom c) xs) ds ≡ true → list_all (λ c. list_any (same_atom c) (distinct xs)) ds ≡ true
@@ -271,17 +272,23 @@ picked-casing q cs casing = picked-of cs (distinct (atoms_of q)) casing.apart (a
 pub few-columns : (q : QueryTree) (atoms : List Atom) → IsCasing q (conds_of atoms) → Limits q → 2 ^ q.sets + (2 * q.numbers + slack_total atoms) ≤ 67108863
 few-columns q atoms casing limits =
     let weights : ℕ = product_by (atom_weight q) (distinct (atoms_of q)) in
-    omega (arith, slacks-least atoms, sum-picked slacks (conds_of atoms) (distinct (atoms_of q)) (picked-casing q (conds_of atoms) casing), limits.whole,
-        some_more weights (column_count q + 1) (column_count q + 1) (product-some (atom_weight q) (distinct (atoms_of q)) (weight-some q)) (omega arith))
+    omega (
+      arith,
+      slacks-least atoms,
+      sum-picked slacks (conds_of atoms) (distinct (atoms_of q)) (picked-casing q (conds_of atoms) casing),
+      limits.whole,
+      some_more weights (column_count q + 1) (column_count q + 1) (product-some (atom_weight q) (distinct (atoms_of q)) (weight-some q)) (omega arith),
+    )
 
 -- an atom of the query is small, and its row is bounded
 small_atom : (q : QueryTree) (c : CondTree) → Limits q → list_any (same_atom c) (atoms_of q) ≡ true → (is_small_atom q c ≡ true) × (atom_bound q c ≤ 67108864)
 small_atom q c limits h =
     let weights : ℕ = product_by (atom_weight q) (distinct (atoms_of q)) in
     let there : list_any (same_atom c) (distinct (atoms_of q)) ≡ true = in_distinct c (atoms_of q) h in
-    let turned : weights * (column_count q + 1) ≡ (column_count q + 1) * weights = omega arith in
-    ( one_passes (is_small_atom q) c (distinct (atoms_of q)) limits.small there,
-      omega (arith, weight_bound q c, in_product (atom_weight q) c (distinct (atoms_of q)) (weight-some q) there, limits.whole, turned, some_more (column_count q + 1) weights weights (omega arith) (omega arith)) )
+    let turned : weights * (column_count q + 1) ≡ (column_count q + 1) * weights = omega arith in (
+      one_passes (is_small_atom q) c (distinct (atoms_of q)) limits.small there,
+      omega (arith, weight_bound q c, in_product (atom_weight q) c (distinct (atoms_of q)) (weight-some q) there, limits.whole, turned, some_more (column_count q + 1) weights weights (omega arith) (omega arith)),
+    )
 
 term_least : (n r : ℕ) (f : ℕ → ℕ) → r < n → f r ≤ sum_below n f
 term_least zero r f h = absurd (omega arith)
@@ -371,4 +378,4 @@ module _ (q : QueryTree) (m : Frame) (regions : m.regions ≡ 2 ^ q.sets) (numbe
       let suits : is_case_of c a.case ≡ true = not-false (is_case_of c a.case) (none_one _ _ (none_one _ _ hope)) in
       let small = small_atom q c limits (first _ _ known) in
       all_more (IsFit m) a rest (record { suits = suits; divisor = divisor_of (room_of q) c (first _ _ named); slight = slight c a.case suits small.0 small.1 })
-        (all-fit all spots rest limits (second _ _ named) (second _ _ known) (none_two (is_hopeless all spots c a.case) _ hope) )
+      (all-fit all spots rest limits (second _ _ named) (second _ _ known) (none_two (is_hopeless all spots c a.case) _ hope))

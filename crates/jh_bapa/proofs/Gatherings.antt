@@ -54,7 +54,7 @@ apart_more : (cs : List CondTree) (c : CondTree) → are_apart cs ≡ true → i
 apart_more [] c h e = refl
 apart_more (d ∷ cs) c h e =
     both _ _ (ap not (list_any-append (same_atom d) cs (c ∷ [])) ∙ not_either (list_any (same_atom d) cs) (same_atom d c) (first _ _ h) (none_left (same_atom d c) (is_among cs c) e))
-        (apart_more cs c (second _ _ h) (none_right (same_atom d c) (is_among cs c) e))
+    (apart_more cs c (second _ _ h) (none_right (same_atom d c) (is_among cs c) e))
 
 all_more : (p : CondTree → Bool) (cs : List CondTree) (c : CondTree) → list_all p cs ≡ true → p c ≡ true → list_all p (cs ++ c ∷ []) ≡ true
 all_more p [] c h e = both _ _ e refl
@@ -62,9 +62,9 @@ all_more p (d ∷ cs) c h e = both _ _ (first _ _ h) (all_more p cs c (second _ 
 
 good_added : (q : QueryTree) (cs : List CondTree) (c : CondTree) → Good q cs → is_loose c ≡ true → list_any (same_atom c) (atoms_of q) ≡ true → Good q (added_to cs c)
 good_added q cs c good loose known = elim (sure (is_among cs c)) [
-      | inl e ↦ rw e good
-      | inr e ↦ rw e (record { apart = apart_more cs c good.apart e; loose = all_more is_loose cs c good.loose loose; known = all_more (λ d. list_any (same_atom d) (atoms_of q)) cs c good.known known })
-    ]
+  | inl e ↦ rw e good
+  | inr e ↦ rw e (record { apart = apart_more cs c good.apart e; loose = all_more is_loose cs c good.loose loose; known = all_more (λ d. list_any (same_atom d) (atoms_of q)) cs c good.known known })
+]
 
 left_inside : (q : QueryTree) (xs ys : List CondTree) → ((p : CondTree → Bool) → list_any p (xs ++ ys) ≡ true → list_any p (atoms_of q) ≡ true) → (p : CondTree → Bool) → list_any p xs ≡ true → list_any p (atoms_of q) ≡ true
 left_inside q xs ys h p e = h p (list_any-append p xs ys ∙ or_left (list_any p xs) (list_any p ys) e)
@@ -99,9 +99,9 @@ good_all q cs (d ∷ ds) h good = good_all q (gathered cs d) ds (right_inside q 
 -- what is in the list stays in it
 among_added : (cs : List CondTree) (d c : CondTree) → is_among cs c ≡ true → is_among (added_to cs d) c ≡ true
 among_added cs d c h = elim (sure (is_among cs d)) [
-      | inl e ↦ rw e h
-      | inr e ↦ rw e (list_any-append (λ x. same_atom x c) cs (d ∷ []) ∙ or_left (is_among cs c) (same_atom d c || false) h)
-    ]
+  | inl e ↦ rw e h
+  | inr e ↦ rw e (list_any-append (λ x. same_atom x c) cs (d ∷ []) ∙ or_left (is_among cs c) (same_atom d c || false) h)
+]
 
 among_gathered : (cs : List CondTree) (d c : CondTree) → is_among cs c ≡ true → is_among (gathered cs d) c ≡ true
 among_gathered cs t.yes c h = h
@@ -139,9 +139,9 @@ covered_gathered cs d (t.iff a b) h = both _ _ (covered_gathered cs d a (first _
 
 among_there : (cs : List CondTree) (c : CondTree) → same_atom c c ≡ true → is_among (added_to cs c) c ≡ true
 among_there cs c h = elim (sure (is_among cs c)) [
-      | inl e ↦ rw e e
-      | inr e ↦ rw e (list_any-append (λ x. same_atom x c) cs (c ∷ []) ∙ or_right (is_among cs c) (same_atom c c || false) (or_left (same_atom c c) false h))
-    ]
+  | inl e ↦ rw e e
+  | inr e ↦ rw e (list_any-append (λ x. same_atom x c) cs (c ∷ []) ∙ or_right (is_among cs c) (same_atom c c || false) (or_left (same_atom c c) false h))
+]
 
 two_there : (cs : List CondTree) (a b : CondTree) → is_covered (gathered cs a) a ≡ true → is_covered (gathered (gathered cs a) b) b ≡ true → (is_covered (gathered (gathered cs a) b) a && is_covered (gathered (gathered cs a) b) b) ≡ true
 two_there cs a b h k = both _ _ (covered_gathered (gathered cs a) b a h) k

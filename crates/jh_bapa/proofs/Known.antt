@@ -110,15 +110,15 @@ if_open_place false p Q h = tt
 -- what is answered at an atom that is found
 pub found-place : (r : Option ℕ) (atoms : List Atom) (p : ℕ) (a : Atom) → r ≡ (if is_open a.case then Some p else None) → p < length atoms → a ≡ get_or atoms p a → IfSome r (λ place. opens_at atoms place ≡ true)
 found-place r atoms p a e h f = elim (sure (is_open a.case)) [
-      | inl g ↦ let there : r ≡ Some p = rw g at e in rw there (opens-here atoms p a h f g)
-      | inr g ↦ let there : r ≡ None = rw g at e in rw there tt
-    ]
+  | inl g ↦ let there : r ≡ Some p = rw g at e in rw there (opens-here atoms p a h f g)
+  | inr g ↦ let there : r ≡ None = rw g at e in rw there tt
+]
 
 pub found-none : (r : Option ℕ) (atoms : List Atom) (p : ℕ) (a : Atom) (c : CondTree) → r ≡ (if is_open a.case then Some p else None) → p < length atoms → a ≡ get_or atoms p a → same_atom (cond_tree a.cond.now) c ≡ true → chosen (drop p atoms) c ≡ chosen atoms c → IfNone r (is_among (conds_of atoms) c ≡ true → is_some (chosen atoms c) ≡ true)
 found-none r atoms p a c e h f s g = elim (sure (is_open a.case)) [
-      | inl k ↦ let there : r ≡ Some p = rw k at e in rw there tt
-      | inr k ↦ let there : r ≡ None = rw k at e in rw there (λ x. chosen-known atoms p a c h f s g k)
-    ]
+  | inl k ↦ let there : r ≡ Some p = rw k at e in rw there tt
+  | inr k ↦ let there : r ≡ None = rw k at e in rw there (λ x. chosen-known atoms p a c h f s g k)
+]
 
 -- several conditions
 all_known : (s : List Spot) (atoms : List Atom) (before : Option Bool) (cs : List CondTree) → is_some before ≡ true → list_all (λ c. is_some (told s atoms c)) cs ≡ true → is_some (all_told s atoms before cs) ≡ true

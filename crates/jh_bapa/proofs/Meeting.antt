@@ -112,8 +112,8 @@ module _ (q : QueryTree) (atoms : List Atom) (spots : List Spot) (v : ℕ → �
   all-met [] place inside named loose hope needs lines = tt
   all-met (a ∷ rest) place inside named loose hope needs lines =
       let c : CondTree = cond_tree a.cond.now in
-      let here : is_hopeless atoms spots c a.case ≡ false = none_one _ _ hope in
-      ( met_of c a.case (slacks_at (frame_of q atoms spots) place) (record {
+      let here : is_hopeless atoms spots c a.case ≡ false = none_one _ _ hope in (
+        met_of c a.case (slacks_at (frame_of q atoms spots) place) (record {
           named = first _ _ named;
           loose = first _ _ loose;
           suits = not-false (is_case_of c a.case) (none_one _ _ here);
@@ -123,7 +123,8 @@ module _ (q : QueryTree) (atoms : List Atom) (spots : List Spot) (v : ℕ → �
           needs = needs.0;
           line = lines.0;
         }),
-        all-met rest (place + slack_count c a.case) (λ p e. inside p (or_right _ _ e)) (second _ _ named) (second _ _ loose) (none_two (is_hopeless atoms spots c a.case) _ hope) needs.1 lines.1 )
+        all-met rest (place + slack_count c a.case) (λ p e. inside p (or_right _ _ e)) (second _ _ named) (second _ _ loose) (none_two (is_hopeless atoms spots c a.case) _ hope) needs.1 lines.1,
+      )
 
 met_at : (z : Sizing) (atoms : List Atom) (i : ℕ) (d : Atom) → i < length atoms → AllMet z atoms → Met z (cond_tree (get_or atoms i d).cond.now) (get_or atoms i d).case
 met_at z [] i d h m = absurd (omega arith)

@@ -36,9 +36,9 @@ behind s x = get_or-append_seam s x [] nowhere
 module _ (s : List Spot) (x : Spot) (P : ℕ → Type 0) where
   by_place : ((i : ℕ) → i < length s → P i) → P (length s) → (i : ℕ) → i < length (s ++ x ∷ []) → P i
   by_place old new i h = elim (cases_eq i (length s)) [
-        | inl e ↦ subst P (sym e) new
-        | inr e ↦ old i (omega (arith, h, e, length-append s (x ∷ [])))
-      ]
+    | inl e ↦ subst P (sym e) new
+    | inr e ↦ old i (omega (arith, h, e, length-append s (x ∷ [])))
+  ]
 
 pub placement-new : (sets : ℕ) (s : List Spot) (r : ℕ) → IsPlacement sets s → r < 2 ^ sets → IsPlacement sets (s ++ (record { class = length s; region = r }) ∷ [])
 placement-new sets s r placement h =
@@ -89,9 +89,9 @@ left-more q s atoms z x left e = record {
 
 not_same : (a b : ℕ) → a < b → (a == b) ≡ false
 not_same a b h = elim (sure (a == b)) [
-      | inl e ↦ let same : a ≡ b = eqb-true a b e in absurd (omega (arith, same, h))
-      | inr e ↦ e
-    ]
+  | inl e ↦ let same : a ≡ b = eqb-true a b e in absurd (omega (arith, same, h))
+  | inr e ↦ e
+]
 
 -- the element that numbers a class is the first of it
 pub first-of : (sets : ℕ) (s : List Spot) (e : ℕ) → IsPlacement sets s → e < length s → (spot_of s e).class ≡ e → is_first s e ≡ true
@@ -129,9 +129,9 @@ record IsLeast (p : ℕ → Bool) (n m : ℕ) : Type 0 where
 least_is : (p : ℕ → Bool) (n : ℕ) → any_below (suc n) p ≡ true → IsLeast p n (least p n)
 least_is p zero h = record { low = omega arith; here = h; none = λ j k. absurd (omega (arith, k)) }
 least_is p (suc n) h = elim (sure (any_below (suc n) p)) [
-      | inl e ↦ let below : IsLeast p n (least p n) = least_is p n e in rw e (record { low = omega (arith, below.low); here = below.here; none = below.none })
-      | inr e ↦ let last : p (suc n) ≡ true = rest_true (any_below (suc n) p) (p (suc n)) h e in rw e (record { low = omega arith; here = last; none = λ j k. any-none (suc n) j p e k })
-    ]
+  | inl e ↦ let below : IsLeast p n (least p n) = least_is p n e in rw e (record { low = omega (arith, below.low); here = below.here; none = below.none })
+  | inr e ↦ let last : p (suc n) ≡ true = rest_true (any_below (suc n) p) (p (suc n)) h e in rw e (record { low = omega arith; here = last; none = λ j k. any-none (suc n) j p e k })
+]
   where
     rest_true : (a b : Bool) → (a || b) ≡ true → a ≡ false → b ≡ true
     rest_true true b h e = cc
@@ -155,27 +155,27 @@ not_below s i j e h = true≢false (sym (eq-eqb (spot_of s (first_in s i)).class
 
 first_same : (s : List Spot) (i j : ℕ) → (spot_of s i).class ≡ (spot_of s j).class → first_in s i ≡ first_in s j
 first_same s i j e = elim (cases_eq (first_in s i) (first_in s j)) [
-      | inl f ↦ f
-      | inr f ↦ elim (lt_or (first_in s i) (first_in s j) f) [
-          | inl h ↦ absurd (not_below s i j e h)
-          | inr h ↦ absurd (not_below s j i (sym e) h)
-        ]
-    ]
+  | inl f ↦ f
+  | inr f ↦ elim (lt_or (first_in s i) (first_in s j) f) [
+    | inl h ↦ absurd (not_below s i j e h)
+    | inr h ↦ absurd (not_below s j i (sym e) h)
+  ]
+]
   where
     lt_or : (a b : ℕ) → (a ≡ b → ⊥) → (a < b) ⊎ (b < a)
     lt_or a b h = elim (sure (nat_lt a b)) [
-          | inl e ↦ inl (ltb-true a b e)
-          | inr e ↦ inr (omega (arith, ltb-false a b e, h))
-        ]
+      | inl e ↦ inl (ltb-true a b e)
+      | inr e ↦ inr (omega (arith, ltb-false a b e, h))
+    ]
 
 class_test : (s : List Spot) (i j : ℕ) → ((spot_of s i).class == (spot_of s j).class) ≡ (first_in s i == first_in s j)
 class_test s i j = elim (sure (first_in s i == first_in s j)) [
-      | inl e ↦ eq-eqb (spot_of s i).class (spot_of s j).class (sym (class_first s i) ∙ ap (λ n. (spot_of s n).class) (eqb-true (first_in s i) (first_in s j) e) ∙ class_first s j) ∙ sym e
-      | inr e ↦ elim (sure ((spot_of s i).class == (spot_of s j).class)) [
-          | inl f ↦ absurd (true≢false (sym (eq-eqb (first_in s i) (first_in s j) (first_same s i j (eqb-true (spot_of s i).class (spot_of s j).class f))) ∙ e))
-          | inr f ↦ f ∙ sym e
-        ]
-    ]
+  | inl e ↦ eq-eqb (spot_of s i).class (spot_of s j).class (sym (class_first s i) ∙ ap (λ n. (spot_of s n).class) (eqb-true (first_in s i) (first_in s j) e) ∙ class_first s j) ∙ sym e
+  | inr e ↦ elim (sure ((spot_of s i).class == (spot_of s j).class)) [
+    | inl f ↦ absurd (true≢false (sym (eq-eqb (first_in s i) (first_in s j) (first_same s i j (eqb-true (spot_of s i).class (spot_of s j).class f))) ∙ e))
+    | inr f ↦ f ∙ sym e
+  ]
+]
 
 abbrev numbered : List Spot → List Spot
 numbered s = listed (length s) (λ i. record { class = first_in s i; region = (spot_of s i).region })
@@ -250,13 +250,13 @@ told-both q s u atoms there x tells e f g z left =
 
 pub new-more : (q : QueryTree) (s u : List Spot) (atoms there : List Atom) (class m : ℕ) → u ≡ s → there ≡ atoms → class ≡ length s → NewTried q s atoms m → NoneLeft q (u ++ (record { class = class; region = m }) ∷ []) there → NewTried q s atoms (m + 1)
 new-more q s u atoms there class m e f g tried none r h = elim (cases_eq r m) [
-      | inl k ↦
-          let at : NoneLeft q (s ++ (record { class = class; region = m }) ∷ []) there = subst (λ (v : List Spot). NoneLeft q (v ++ (record { class = class; region = m }) ∷ []) there) e none in
-          let here : NoneLeft q (s ++ (record { class = class; region = m }) ∷ []) atoms = subst (λ (xs : List Atom). NoneLeft q (s ++ (record { class = class; region = m }) ∷ []) xs) f at in
-          let numbered : NoneLeft q (s ++ (record { class = length s; region = m }) ∷ []) atoms = subst (λ (n : ℕ). NoneLeft q (s ++ (record { class = n; region = m }) ∷ []) atoms) g here in
-          subst (λ (n : ℕ). NoneLeft q (s ++ (record { class = length s; region = n }) ∷ []) atoms) (sym k) numbered
-      | inr k ↦ tried r (omega (arith, h, k))
-    ]
+  | inl k ↦
+      let at : NoneLeft q (s ++ (record { class = class; region = m }) ∷ []) there = subst (λ (v : List Spot). NoneLeft q (v ++ (record { class = class; region = m }) ∷ []) there) e none in
+      let here : NoneLeft q (s ++ (record { class = class; region = m }) ∷ []) atoms = subst (λ (xs : List Atom). NoneLeft q (s ++ (record { class = class; region = m }) ∷ []) xs) f at in
+      let numbered : NoneLeft q (s ++ (record { class = length s; region = m }) ∷ []) atoms = subst (λ (n : ℕ). NoneLeft q (s ++ (record { class = n; region = m }) ∷ []) atoms) g here in
+      subst (λ (n : ℕ). NoneLeft q (s ++ (record { class = length s; region = n }) ∷ []) atoms) (sym k) numbered
+  | inr k ↦ tried r (omega (arith, h, k))
+]
 
 pub next-both : (q : QueryTree) (s u : List Spot) (atoms there : List Atom) → IsPlacement q.sets s → length s < q.elements → u ≡ s → there ≡ atoms → OldTried q s atoms (length s) → NewTried q u there (2 ^ q.sets) → NoneLeft q s atoms
 next-both q s u atoms there placement room e f old new =

@@ -73,20 +73,20 @@ by_factor s k a false e h below =
     let turned : length s * (unsigned_abs k * card_weight a) ≡ unsigned_abs k * (length s * card_weight a) = omega arith in
     let smaller : length s * card_weight a ≤ 67108864 = omega (arith, h, turned, less (unsigned_abs k) (length s * card_weight a) (nonzero k e)) in
     rw e (of_small (λ x. k *ℤ x) (checked_moved s a) (moved s a) (moved s (t.scale k a)) (below smaller) (times_sub k (read_number (placed_part s) a) (read_number constant_part a))
-        (fits_small (moved s (t.scale k a)) (length s * card_weight (t.scale k a)) (moved-bound s (t.scale k a)) h))
+    (fits_small (moved s (t.scale k a)) (length s * card_weight (t.scale k a)) (moved-bound s (t.scale k a)) h))
 
 pub moved-checked : (s : List Spot) (a : NumTree) → length s * card_weight a ≤ 67108864 → checked_moved s a ≡ Some (moved s a)
 moved-checked s (t.const c) h = let e : pos 0 ≡ moved s (t.const c) = omega (arith, ints) in ap Some e
 moved-checked s (t.number l) h = refl
 moved-checked s (t.add a b) h =
     both_small (λ x y. x +ℤ y) (checked_moved s a) (checked_moved s b) (moved s a) (moved s b) (moved s (t.add a b)) (moved-checked s a (omega arith)) (moved-checked s b (omega arith)) (omega (arith, ints))
-        (fits_small (moved s (t.add a b)) (length s * card_weight (t.add a b)) (moved-bound s (t.add a b)) h)
+    (fits_small (moved s (t.add a b)) (length s * card_weight (t.add a b)) (moved-bound s (t.add a b)) h)
 moved-checked s (t.sub a b) h =
     both_small (λ x y. x -ℤ y) (checked_moved s a) (checked_moved s b) (moved s a) (moved s b) (moved s (t.sub a b)) (moved-checked s a (omega arith)) (moved-checked s b (omega arith)) (omega (arith, ints))
-        (fits_small (moved s (t.sub a b)) (length s * card_weight (t.sub a b)) (moved-bound s (t.sub a b)) h)
+    (fits_small (moved s (t.sub a b)) (length s * card_weight (t.sub a b)) (moved-bound s (t.sub a b)) h)
 moved-checked s (t.neg a) h =
     of_small neg_ℤ (checked_moved s a) (moved s a) (moved s (t.neg a)) (moved-checked s a h) (omega (arith, ints))
-        (fits_small (moved s (t.neg a)) (length s * card_weight (t.neg a)) (moved-bound s (t.neg a)) h)
+    (fits_small (moved s (t.neg a)) (length s * card_weight (t.neg a)) (moved-bound s (t.neg a)) h)
 moved-checked s (t.scale k a) h = by_factor s k a (int_eq k (pos 0)) refl h (moved-checked s a)
 moved-checked s (t.card c) h = let e : pos (classes_in s c) ≡ moved s (t.card c) = omega (arith, ints) in ap Some e
 

@@ -52,11 +52,11 @@ module _ (m : Frame) (z : Sizing) (v : ℕ → ℕ) (says : Says m z v) where
   body_value : (a : NumTree) → (dot (listed m.regions (rest_entry m.empty a)) v 0 +ℤ dot (pairs m.numbers (number_entry a)) v m.regions) +ℤ read_number (placed_part m.spots) a ≡ number_value z a
   body_value a =
       let first : dot (listed m.regions (rest_entry m.empty a)) v 0 ≡ whole_sum (length z.rest) (λ r. read_number (rest_factor r) a *ℤ pos (rest_of z r)) =
-          dot-listed m.regions (rest_entry m.empty a) v 0 ∙ sum-same m.regions (λ r. rest_entry m.empty a r *ℤ pos (v (0 + r))) (λ r. read_number (rest_factor r) a *ℤ pos (rest_of z r)) (rest_term a)
-          ∙ ap (λ n. whole_sum n (λ r. read_number (rest_factor r) a *ℤ pos (rest_of z r))) (sym says.rests) in
+      dot-listed m.regions (rest_entry m.empty a) v 0 ∙ sum-same m.regions (λ r. rest_entry m.empty a r *ℤ pos (v (0 + r))) (λ r. read_number (rest_factor r) a *ℤ pos (rest_of z r)) (rest_term a)
+      ∙ ap (λ n. whole_sum n (λ r. read_number (rest_factor r) a *ℤ pos (rest_of z r))) (sym says.rests) in
       let second : dot (pairs m.numbers (number_entry a)) v m.regions ≡ whole_sum (length z.numbers) (λ l. read_number (number_factor l) a *ℤ get_or z.numbers l (pos 0)) =
-          dot-pairs m.numbers (number_entry a) v m.regions ∙ sum-same m.numbers (λ l. number_entry a l *ℤ (pos (v (m.regions + 2 * l)) -ℤ pos (v (m.regions + (2 * l + 1))))) (λ l. read_number (number_factor l) a *ℤ get_or z.numbers l (pos 0)) (number_term a)
-          ∙ ap (λ n. whole_sum n (λ l. read_number (number_factor l) a *ℤ get_or z.numbers l (pos 0))) (sym says.numbers) in
+      dot-pairs m.numbers (number_entry a) v m.regions ∙ sum-same m.numbers (λ l. number_entry a l *ℤ (pos (v (m.regions + 2 * l)) -ℤ pos (v (m.regions + (2 * l + 1))))) (λ l. read_number (number_factor l) a *ℤ get_or z.numbers l (pos 0)) (number_term a)
+      ∙ ap (λ n. whole_sum n (λ l. read_number (number_factor l) a *ℤ get_or z.numbers l (pos 0))) (sym says.numbers) in
       let left : read_number (placed_part m.spots) a ≡ read_number (placed_part z.spots) a = ap (λ s. read_number (placed_part s) a) (sym says.spots) in
       (λ i. (first i +ℤ second i) +ℤ left i) ∙ sym (linear z a)
 
@@ -70,8 +70,19 @@ module _ (m : Frame) (z : Sizing) (v : ℕ → ℕ) (says : Says m z v) where
       let three : length ((rests ++ numbers) ++ zeros place) ≡ slacks_at m place = length-append (rests ++ numbers) (zeros place) ∙ omega (arith, two, length-listed place (λ j. pos 0)) in
       let at_numbers : dot numbers v (0 + length rests) ≡ dot numbers v m.regions = ap (dot numbers v) (from_zero (length rests) ∙ one) in
       let at_slacks : dot l.slacks v (0 + length ((rests ++ numbers) ++ zeros place)) ≡ dot l.slacks v (slacks_at m place) = ap (dot l.slacks v) (from_zero (length ((rests ++ numbers) ++ zeros place)) ∙ three) in
-      omega (arith, ints, dot-append (((rests ++ numbers) ++ zeros place) ++ l.slacks) (zeros (m.total - (place + length l.slacks))) v 0, dot-append ((rests ++ numbers) ++ zeros place) l.slacks v 0, dot-append (rests ++ numbers) (zeros place) v 0,
-          dot-append rests numbers v 0, at_numbers, at_slacks, dot-zeros place v (0 + length (rests ++ numbers)), dot-zeros (m.total - (place + length l.slacks)) v (0 + length (((rests ++ numbers) ++ zeros place) ++ l.slacks)), body_value l.side)
+      omega (
+        arith,
+        ints,
+        dot-append (((rests ++ numbers) ++ zeros place) ++ l.slacks) (zeros (m.total - (place + length l.slacks))) v 0,
+        dot-append ((rests ++ numbers) ++ zeros place) l.slacks v 0,
+        dot-append (rests ++ numbers) (zeros place) v 0,
+        dot-append rests numbers v 0,
+        at_numbers,
+        at_slacks,
+        dot-zeros place v (0 + length (rests ++ numbers)),
+        dot-zeros (m.total - (place + length l.slacks)) v (0 + length (((rests ++ numbers) ++ zeros place) ++ l.slacks)),
+        body_value l.side,
+      )
     where
       from_zero : (n : ℕ) → 0 + n ≡ n
       from_zero n = omega arith
@@ -80,5 +91,14 @@ pub length-row : (m : Frame) (place : ℕ) (l : LineTree) → place + length l.s
 length-row m place l h =
     let rests : List ℤ = listed m.regions (rest_entry m.empty l.side) in
     let numbers : List ℤ = pairs m.numbers (number_entry l.side) in
-    omega (arith, length-append (((rests ++ numbers) ++ zeros place) ++ l.slacks) (zeros (m.total - (place + length l.slacks))), length-append ((rests ++ numbers) ++ zeros place) l.slacks, length-append (rests ++ numbers) (zeros place), length-append rests numbers,
-        length-listed m.regions (rest_entry m.empty l.side), length-pairs m.numbers (number_entry l.side), length-listed place (λ j. pos 0), length-listed (m.total - (place + length l.slacks)) (λ j. pos 0))
+    omega (
+      arith,
+      length-append (((rests ++ numbers) ++ zeros place) ++ l.slacks) (zeros (m.total - (place + length l.slacks))),
+      length-append ((rests ++ numbers) ++ zeros place) l.slacks,
+      length-append (rests ++ numbers) (zeros place),
+      length-append rests numbers,
+      length-listed m.regions (rest_entry m.empty l.side),
+      length-pairs m.numbers (number_entry l.side),
+      length-listed place (λ j. pos 0),
+      length-listed (m.total - (place + length l.slacks)) (λ j. pos 0),
+    )

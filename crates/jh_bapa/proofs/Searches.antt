@@ -215,9 +215,9 @@ loop-kept start now next i k e f = ap (λ xs. with_case xs i Open) f ∙ case-ag
 pub loop-none : (q : QueryTree) (spots : List Spot) (start now : List Atom) (i : ℕ) (c : CondTree) (k : Case) (m : ℕ) → with_case now i Open ≡ start → k ≡ case_at c m → NoneLeft q spots (with_case now i k)
     → ((n : ℕ) → n < m → NoneLeft q spots (with_case start i (case_at c n))) → (n : ℕ) → n < m + 1 → NoneLeft q spots (with_case start i (case_at c n))
 loop-none q spots start now i c k m e f here before n h = elim (cases_eq n m) [
-      | inl g ↦ subst (λ (xs : List Atom). NoneLeft q spots xs) (sym (loop-same start now i k e) ∙ ap (λ j. with_case start i j) (f ∙ ap (case_at c) (sym g))) here
-      | inr g ↦ before n (omega (arith, h, g))
-    ]
+  | inl g ↦ subst (λ (xs : List Atom). NoneLeft q spots xs) (sym (loop-same start now i k e) ∙ ap (λ j. with_case start i j) (f ∙ ap (case_at c) (sym g))) here
+  | inr g ↦ before n (omega (arith, h, g))
+]
 
 pub chosen-casing : (q : QueryTree) (atoms next : List Atom) (i : ℕ) (k : Case) → next ≡ with_case atoms i k → IsCasing q (conds_of atoms) → IsCasing q (conds_of next)
 chosen-casing q atoms next i k e h = subst (λ (cs : List CondTree). IsCasing q cs) (sym (ap conds_of e ∙ case-conds atoms i k)) h

@@ -85,6 +85,7 @@ each_below regions width empty spots (a ∷ rest) h = by_wants (wants spots (con
   where
     one : (i : ℕ) → i < length (need_of regions empty (cond_tree a.cond.now)) → slice_index (need_of regions empty (cond_tree a.cond.now)) i < width
     one i e = let at = picks-at regions (λ r. not (empty r) && rest_differs r (cond_tree a.cond.now)) i e in omega (arith, h, at.0)
+
     by_wants : (b : Bool) (needs : List (List ℕ)) → ((k : ℕ) → k < length needs → (i : ℕ) → i < length (get_or needs k []) → slice_index (get_or needs k []) i < width)
         → (k : ℕ) → k < length (if b then need_of regions empty (cond_tree a.cond.now) ∷ needs else needs) → (i : ℕ) → i < length (get_or (if b then need_of regions empty (cond_tree a.cond.now) ∷ needs else needs) k []) → slice_index (get_or (if b then need_of regions empty (cond_tree a.cond.now) ∷ needs else needs) k []) i < width
     by_wants false needs below k l i e = below k l i e
@@ -100,8 +101,8 @@ system-formed q atoms spots s made =
       needs = λ k l i e.
           let wide : s.columns ≡ width_of m = made.columns in
           let below : (k : ℕ) → k < length s.needs → (i : ℕ) → i < length (get_or s.needs k []) → slice_index (get_or s.needs k []) i < s.columns =
-              subst (λ (needs : List (List ℕ)). (k : ℕ) → k < length needs → (i : ℕ) → i < length (get_or needs k []) → slice_index (get_or needs k []) i < s.columns) (sym made.needs)
-                  (each_below (2 ^ q.sets) s.columns (emptied q.sets atoms) spots atoms (omega (arith, wide))) in
+          subst (λ (needs : List (List ℕ)). (k : ℕ) → k < length needs → (i : ℕ) → i < length (get_or needs k []) → slice_index (get_or needs k []) i < s.columns) (sym made.needs)
+          (each_below (2 ^ q.sets) s.columns (emptied q.sets atoms) spots atoms (omega (arith, wide))) in
           below k l i e;
     }
 

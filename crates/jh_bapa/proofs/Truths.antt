@@ -39,9 +39,9 @@ less_times n = negsuc-*ℤ-pos 0 n ∙ ap (λ m. neg_ℤ (pos m)) (same n)
 
 equal_false : (x y : ℤ) → (x ≡ y → ⊥) → int_eq x y ≡ false
 equal_false x y h = elim (sure (int_eq x y)) [
-      | inl e ↦ absurd (h ((Decides-int_eq x y).0 e))
-      | inr e ↦ e
-    ]
+  | inl e ↦ absurd (h ((Decides-int_eq x y).0 e))
+  | inr e ↦ e
+]
 
 less_true : (x y : ℤ) (w : ℕ) → (x -ℤ y) +ℤ pos w ≡ negsuc 0 → int_lt x y ≡ true
 less_true (pos a) (pos b) w h = lt-ltb a b (omega (arith, ints, h))
@@ -78,12 +78,12 @@ module _ (z : Sizing) (a b : NumTree) (x : ℕ → ℕ) (k : ℕ) where
 -- a number that leaves a remainder below what divides it
 same_test : (p q : ℕ) → (p ≡ 0 → q ≡ 0) → (q ≡ 0 → p ≡ 0) → (p == 0) ≡ (q == 0)
 same_test p q h k = elim (sure (q == 0)) [
-      | inl e ↦ eq-eqb p 0 (k (eqb-true q 0 e)) ∙ sym e
-      | inr e ↦ elim (sure (p == 0)) [
-          | inl f ↦ f ∙ sym (eq-eqb q 0 (h (eqb-true p 0 f)))
-          | inr f ↦ f ∙ sym e
-        ]
-    ]
+  | inl e ↦ eq-eqb p 0 (k (eqb-true q 0 e)) ∙ sym e
+  | inr e ↦ elim (sure (p == 0)) [
+    | inl f ↦ f ∙ sym (eq-eqb q 0 (h (eqb-true p 0 f)))
+    | inr f ↦ f ∙ sym e
+  ]
+]
 
 upper : (a n j u w : ℕ) → j < n → a + n * w ≡ j + n * u → (a % n == 0) ≡ (j == 0)
 upper a n j u w h e =
@@ -93,11 +93,11 @@ upper a n j u w h e =
 lower : (a n j u w : ℕ) → j < n → n * w ≡ (j + a) + n * u → (a % n == 0) ≡ (j == 0)
 lower a n j u w h e =
     let none : (j + a) % n ≡ 0 =
-        sym (add-mul-mod_self_left (j + a) n u) ∙ ap (λ y. y % n) (sym e ∙ from_zero (n * w)) ∙ add-mul-mod_self_left 0 n w ∙ mod-eq_of_lt (omega (arith, h)) in
+    sym (add-mul-mod_self_left (j + a) n u) ∙ ap (λ y. y % n) (sym e ∙ from_zero (n * w)) ∙ add-mul-mod_self_left 0 n w ∙ mod-eq_of_lt (omega (arith, h)) in
     let split : n * (a / n) + a % n ≡ a = div-add-mod a n in
     same_test (a % n) j
-        (λ f. let turned : (j + n * (a / n)) % n ≡ (j + a) % n = ap (λ y. y % n) (omega (arith, split, f)) in sym (mod-eq_of_lt h) ∙ sym (add-mul-mod_self_left j n (a / n)) ∙ turned ∙ none)
-        (λ f. let turned : a % n ≡ (j + a) % n = ap (λ y. y % n) (omega (arith, f)) in turned ∙ none)
+    (λ f. let turned : (j + n * (a / n)) % n ≡ (j + a) % n = ap (λ y. y % n) (omega (arith, split, f)) in sym (mod-eq_of_lt h) ∙ sym (add-mul-mod_self_left j n (a / n)) ∙ turned ∙ none)
+    (λ f. let turned : a % n ≡ (j + a) % n = ap (λ y. y % n) (omega (arith, f)) in turned ∙ none)
   where
     from_zero : (y : ℕ) → y ≡ 0 + y
     from_zero y = omega arith

@@ -12,4 +12,3 @@ pub record IsSystemOf (q : QueryTree) (atoms : List Atom) (spots : List Spot) (s
   pub entries : s.entries ≡ entries_of (frame_of q atoms spots) 0 atoms
   pub right : s.right ≡ rights_of (frame_of q atoms spots) atoms
   pub needs : s.needs ≡ needs_of (2 ^ q.sets) (emptied q.sets atoms) spots atoms
-

@@ -84,7 +84,5 @@ fn conds_named(query: &Query, conds: &[Cond]) -> bool
 pub fn is_well_formed(query: &Query) -> bool
     ensures { IsTrue result ↔ IsWellFormed (query_tree query.now) }
 {
-    0 < query.elements
-        && conds_named(query, query.hyps.items())
-        && cond_named(query, &query.goal)
+    0 < query.elements && conds_named(query, query.hyps.items()) && cond_named(query, &query.goal)
 }

@@ -26,11 +26,7 @@ fn digit_at(layer: &[bool], column: usize) -> bool
 }
 
 /// The digits of a column, layer by layer.
-fn column_of(
-    alloc: Global,
-    layers: &[Row<bool>],
-    column: usize,
-) -> Result<Row<bool>, NoMemory>
+fn column_of(alloc: Global, layers: &[Row<bool>], column: usize) -> Result<Row<bool>, NoMemory>
     ensures { IfOk result (λ row. row ≡ map (λ layer. slice_index_or layer column false) layers.now) }
 {
     let mut row = Vec::new(alloc);
@@ -109,11 +105,7 @@ pub(crate) fn numbers_of(
 }
 
 /// The flags.
-pub(crate) fn flags_of(
-    alloc: Global,
-    atoms: &[Atom<'_>],
-    flags: u32,
-) -> Result<Row<bool>, NoMemory>
+pub(crate) fn flags_of(alloc: Global, atoms: &[Atom<'_>], flags: u32) -> Result<Row<bool>, NoMemory>
     ensures { IfOk result (λ row. row ≡ listed flags (flag_chosen atoms.now)) }
 {
     let mut row = Vec::new(alloc);

@@ -9,6 +9,6 @@ pub returns-clause-none : goal.returns-clause-none
 returns-clause-none c =
     let end : length c.args.query.now.hyps ≤ c.loop-hyp.hyp-index = omega (arith, ap length c.items-hyp-items.ensures, c.loop-hyp-test.false) in
     none-then c.open_atom-2.result _ _ c.open_atom-2.ensures.none
-        (λ k. query-known c.args.spots.now c.args.atoms.now (query_tree c.args.query.now)
-            (all-done (λ (d : CondTree). is_some (told c.args.spots.now c.args.atoms.now d)) c.args.query.now.hyps c.loop-hyp.hyp-index end c.loop-hyp.invariant.known)
-            (k c.requires.goal_covered c.requires.goal_stands))
+    (λ k. query-known c.args.spots.now c.args.atoms.now (query_tree c.args.query.now)
+    (all-done (λ (d : CondTree). is_some (told c.args.spots.now c.args.atoms.now d)) c.args.query.now.hyps c.loop-hyp.hyp-index end c.loop-hyp.invariant.known)
+    (k c.requires.goal_covered c.requires.goal_stands))

@@ -30,11 +30,22 @@ pub place_next-place_new-requires : goal.place_next-place_new-requires
 place_next-place_new-requires t c =
     let gone = sym c.is_some.ensures ∙ c.if-is_some.false in
     let spots : c.place_old.new.spots.items ≡ c.args.spots.now.items = none-of c.in_ok-found.found _ c.in_ok-found.ensures.spots gone in
-    let atoms : c.place_old.new.atoms.items ≡ c.args.atoms.now.items = none-of c.in_ok-found.found _ c.in_ok-found.ensures.atoms gone in
-    ( omega (arith, c.decreases, ap length spots), (c.requires.formed, (c.requires.within,
-      (subst (λ (xs : List Atom). IsCasing (query_tree c.args.query.now) (conds_of xs)) (sym atoms) c.requires.casing,
-      (subst (λ (u : List Spot). IsPlacement c.args.query.now.sets u) (sym spots) c.requires.placement,
-      omega (arith, ap length spots, c.requires.room))))) )
+    let atoms : c.place_old.new.atoms.items ≡ c.args.atoms.now.items = none-of c.in_ok-found.found _ c.in_ok-found.ensures.atoms gone in (
+      omega (arith, c.decreases, ap length spots),
+      (
+        c.requires.formed,
+        (
+          c.requires.within,
+          (
+            subst (λ (xs : List Atom). IsCasing (query_tree c.args.query.now) (conds_of xs)) (sym atoms) c.requires.casing,
+            (
+              subst (λ (u : List Spot). IsPlacement c.args.query.now.sets u) (sym spots) c.requires.placement,
+              omega (arith, ap length spots, c.requires.room),
+            ),
+          ),
+        ),
+      ),
+    )
 
 pub place_next-returns-clause-none : goal.place_next-returns-clause-none
 place_next-returns-clause-none t c =
@@ -42,7 +53,7 @@ place_next-returns-clause-none t c =
     let spots : c.place_old.new.spots.items ≡ c.args.spots.now.items = none-of c.in_ok-found.found _ c.in_ok-found.ensures.spots gone in
     let atoms : c.place_old.new.atoms.items ≡ c.args.atoms.now.items = none-of c.in_ok-found.found _ c.in_ok-found.ensures.atoms gone in
     none-then c.in_ok-last.last _ _ c.in_ok-last.ensures.none
-        (λ new. next-both (query_tree c.args.query.now) c.args.spots.now.items c.place_old.new.spots.items c.args.atoms.now.items c.place_old.new.atoms.items c.requires.placement c.requires.room spots atoms (none-of c.in_ok-found.found _ c.in_ok-found.ensures.none gone) new)
+    (λ new. next-both (query_tree c.args.query.now) c.args.spots.now.items c.place_old.new.spots.items c.args.atoms.now.items c.place_old.new.atoms.items c.requires.placement c.requires.room spots atoms (none-of c.in_ok-found.found _ c.in_ok-found.ensures.none gone) new)
 
 pub place_next-returns-clause-atoms : goal.place_next-returns-clause-atoms
 place_next-returns-clause-atoms t c =

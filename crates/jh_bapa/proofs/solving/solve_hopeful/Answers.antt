@@ -20,7 +20,7 @@ sizes_of-requires-clause-few c = omega (arith, length-empty c.args.query.now.set
 pub returns-in-Solution-clause-some : goal.returns-in-Solution-clause-some
 returns-in-Solution-clause-some c =
     solution-refutes (query_tree c.args.query.now) c.args.atoms.now c.args.spots.now c.in_ok-made.made (system.spelled c.in-Solution.digits.layers) (sizing_of c.in_ok-sizes_of-in-Solution.field-0) c.requires.formed c.requires.casing c.requires.placement c.requires.full c.requires.untrue c.requires.hopeful
-        c.in_ok-made.ensures c.in-Solution.ensures.solution.1 c.in_ok-sizes_of-in-Solution.ensures
+    c.in_ok-made.ensures c.in-Solution.ensures.solution.1 c.in_ok-sizes_of-in-Solution.ensures
 
 pub returns-in-NoSolution-clause-none : goal.returns-in-NoSolution-clause-none
 returns-in-NoSolution-clause-none c = none-left (query_tree c.args.query.now) c.args.atoms.now c.args.spots.now c.in_ok-made.made c.requires.full c.in_ok-made.ensures c.in-NoSolution.ensures.no_solution

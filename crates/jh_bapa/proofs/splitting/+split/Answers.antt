@@ -24,13 +24,28 @@ pub split_atom-loop-number-init : goal.split_atom-loop-number-init
 split_atom-loop-number-init t c = record { kept = case-open c.args.atoms.now.items c.args.place c.requires.unset; none = λ n h. absurd (omega (arith, h)) }
 
 pub split_atom-split_case-requires : goal.split_atom-split_case-requires
-split_atom-split_case-requires t c =
-    ( omega (arith, c.decreases, loop-falls c.args.atoms.now.items c.loop-number.atoms.items c.args.place c.case_at.result c.loop-number.invariant.kept c.requires.unset (ap is_open c.case_at.ensures ∙ at-closed (cond_tree c.atom_at-atom.result.cond.now) c.loop-number.number)),
-      (c.requires.formed, (c.requires.within,
-      (loop-casing (query_tree c.args.query.now) c.args.atoms.now.items c.loop-number.atoms.items c.args.place c.loop-number.invariant.kept c.requires.casing,
-      (c.requires.placement, (c.requires.full,
-      (loop-inside c.args.atoms.now.items c.loop-number.atoms.items c.args.place c.loop-number.invariant.kept c.requires.unset,
-      ap is_open c.case_at.ensures ∙ at-closed (cond_tree c.atom_at-atom.result.cond.now) c.loop-number.number)))))) )
+split_atom-split_case-requires t c = (
+  omega (arith, c.decreases, loop-falls c.args.atoms.now.items c.loop-number.atoms.items c.args.place c.case_at.result c.loop-number.invariant.kept c.requires.unset (ap is_open c.case_at.ensures ∙ at-closed (cond_tree c.atom_at-atom.result.cond.now) c.loop-number.number)),
+  (
+    c.requires.formed,
+    (
+      c.requires.within,
+      (
+        loop-casing (query_tree c.args.query.now) c.args.atoms.now.items c.loop-number.atoms.items c.args.place c.loop-number.invariant.kept c.requires.casing,
+        (
+          c.requires.placement,
+          (
+            c.requires.full,
+            (
+              loop-inside c.args.atoms.now.items c.loop-number.atoms.items c.args.place c.loop-number.invariant.kept c.requires.unset,
+              ap is_open c.case_at.ensures ∙ at-closed (cond_tree c.atom_at-atom.result.cond.now) c.loop-number.number,
+            ),
+          ),
+        ),
+      ),
+    ),
+  ),
+)
 
 pub split_atom-loop-number-preserved : goal.split_atom-loop-number-preserved
 split_atom-loop-number-preserved t c =
@@ -57,10 +72,17 @@ split_case-is_hopeless_at-requires t c = omega (arith, ap length c.deref.ensures
 pub split_case-returns-then-is_hopeless_at-clause-none : goal.split_case-returns-then-is_hopeless_at-clause-none
 split_case-returns-then-is_hopeless_at-clause-none t c =
     hopeless-case (query_tree c.args.query.now) c.args.spots.now c.deref.result.now (with_case c.args.atoms.now.items c.args.place c.args.case) c.args.place c.is_hopeless_at.result c.requires.full
-        (omega (arith, ap length c.deref.ensures.value, ap length c.choose.ensures, case-length c.args.atoms.now.items c.args.place c.args.case, c.requires.inside))
-        c.is_hopeless_at.ensures c.if-is_hopeless_at.true (c.deref.ensures.value ∙ c.choose.ensures)
+    (omega (arith, ap length c.deref.ensures.value, ap length c.choose.ensures, case-length c.args.atoms.now.items c.args.place c.args.case, c.requires.inside))
+    c.is_hopeless_at.ensures c.if-is_hopeless_at.true (c.deref.ensures.value ∙ c.choose.ensures)
 
 pub split_case-split-requires : goal.split_case-split-requires
-split_case-split-requires t c =
-    ( omega (arith, c.decreases, ap open_count c.choose.ensures), (c.requires.formed, (c.requires.within,
-      (chosen-casing (query_tree c.args.query.now) c.args.atoms.now.items c.choose.new.atoms.items c.args.place c.args.case c.choose.ensures c.requires.casing, (c.requires.placement, c.requires.full)))) )
+split_case-split-requires t c = (
+  omega (arith, c.decreases, ap open_count c.choose.ensures),
+  (
+    c.requires.formed,
+    (
+      c.requires.within,
+      (chosen-casing (query_tree c.args.query.now) c.args.atoms.now.items c.choose.new.atoms.items c.args.place c.args.case c.choose.ensures c.requires.casing, (c.requires.placement, c.requires.full)),
+    ),
+  ),
+)
