@@ -72,7 +72,7 @@ ghost use Rattle.jh_tree.specs.Bare.{term_tree, int_tree, set_tree, field_tree, 
 ghost use Rattle.jh_table.specs.Growth.{Extends};
 ghost use Rattle.jh_table.specs.Nodes.{nodes};
 ghost use Rattle.jh_enter.specs.Atoms.{is_atom};
-ghost use Rattle.jh_enter.specs.Entered.{IsList, IsKept, AreKept};
+ghost use Rattle.jh_enter.specs.Entered.{IsList, AddsParts, AddsFields};
 
 use jh_name::NoMemory;
 use jh_table::{Shape, Table};
@@ -84,16 +84,14 @@ use jh_tree::{FieldTerm, Formula, IntTerm, SetTerm, Term, Value};
         p = PARAM[c]
         wanted = f"value_tree {p}.now" if c == 'V' else f"{WRAP[c]} ({fn}_tree {p}.now)"
         wanted = f"({wanted})"
-        out.append(f"""/// The node of {doc[c]}. Nodes that are new are made, those before stay. Where the tree is listed
-/// already, no node is made.
+        out.append(f"""/// The node of {doc[c]}. Nodes that are new are made, each a part of it; those before stay.
 #[cycle(entered)]
 #[tactic(auto, using(crate::proofs::EnterSteps::{STEPS[c]}))]
 pub fn enter_{WORD[c]}(table: &mut Table, {p}: &{rust}) -> Result<usize, NoMemory>
     ensures node {{ IfOk result (λ node. slice_get (nodes table.new) node ≡ Some {wanted}) }}
     ensures grows {{ Extends table.old table.new }}
-    ensures kept {{ IsKept table.old table.new {wanted} }}
+    ensures only {{ AddsParts table.old table.new {wanted} }}
 {{
-    table.parts_come_first();
     match {p} {{
 """ + ''.join(arm(c, v, ctor, kinds) for v, ctor, kinds in variants if not is_atom(c, v)) + (f"        {OR.join(any_of(v, kinds) for v, _, kinds in variants if is_atom(c, v))} => enter_atom(table, formula),\n" if c == 'P' else '') + "    }\n}\n")
     atoms = [(v, ctor, kinds) for v, ctor, kinds in TYPES['P'][3] if is_atom('P', v)]
@@ -105,9 +103,8 @@ fn enter_atom(table: &mut Table, formula: &Formula) -> Result<usize, NoMemory>
     requires { is_atom formula.now ≡ true }
     ensures node { IfOk result (λ node. slice_get (nodes table.new) node ≡ Some (of_truth (formula_tree formula.now))) }
     ensures grows { Extends table.old table.new }
-    ensures kept { IsKept table.old table.new (of_truth (formula_tree formula.now)) }
+    ensures only { AddsParts table.old table.new (of_truth (formula_tree formula.now)) }
 {
-    table.parts_come_first();
     match formula {
 """ + ''.join(arm('P', *atom) for atom in atoms) + ''.join(f"        {any_of(v, kinds)} => unreachable!(),\n" for v, _, kinds in TYPES['P'][3] if v in CONNECTIVES) + "    }\n}\n")
     out.append("""#[cycle(entered)]
@@ -115,7 +112,7 @@ fn enter_atom(table: &mut Table, formula: &Formula) -> Result<usize, NoMemory>
 fn enter_fields(table: &mut Table, fields: &[FieldTerm]) -> Result<usize, NoMemory>
     ensures list { IfOk result (λ number. IsList table.new number (list_tree fields.now)) }
     ensures grows { Extends table.old table.new }
-    ensures kept { AreKept table.old table.new (list_tree fields.now) }
+    ensures only { AddsFields table.old table.new (list_tree fields.now) }
 {
     let mut made = Vec::new(table.alloc());
     for field in fields {
@@ -137,7 +134,7 @@ ghost use Rattle.jh_tree.specs.Bare.{term_tree, int_tree, set_tree, field_tree, 
 ghost use Rattle.jh_walk.specs.Sizes.{value_depth};
 ghost use Rattle.jh_table.specs.Growth.{Extends};
 ghost use Rattle.jh_table.specs.Nodes.{nodes};
-ghost use Rattle.jh_enter.specs.Entered.{IsKept};
+ghost use Rattle.jh_enter.specs.Entered.{AddsParts, IsKept};
 
 use crate::entering;
 use jh_name::NoMemory;
@@ -150,20 +147,24 @@ use jh_walk::Walk;
         rust, tree, fn, variants = TYPES[c]
         p = PARAM[c]
         wanted = f"(value_tree {p}.now)" if c == 'V' else f"({WRAP[c]} ({fn}_tree {p}.now))"
-        out.append(f"""/// The node of {doc[c]}. Nodes that are new are made, those before stay. Where the tree is listed
-/// already, no node is made. The answer is want of memory where the tree nests deeper than MOST_LEVELS, and
+        out.append(f"""/// The node of {doc[c]}. Nodes that are new are made, each a part of it; those before stay. Where the tree is
+/// listed already, no node is made. The answer is want of memory where the tree nests deeper than MOST_LEVELS, and
 /// nothing is entered then.
 """ + ("#[tactic(auto, using(crate::proofs::EnterSteps::value_steps))]\n" if c == 'V' else '') + f"""pub fn enter{'' if c == 'V' else '_' + WORD[c]}(table: &mut Table, {p}: &{rust}) -> Result<usize, NoMemory>
     ensures node {{ IfOk result (λ node. slice_get (nodes table.new) node ≡ Some {wanted}) }}
     ensures shallow {{ IfOk result (λ node. value_depth {wanted} ≤ 10001) }}
     ensures grows {{ Extends table.old table.new }}
+    ensures only {{ AddsParts table.old table.new {wanted} }}
     ensures kept {{ IsKept table.old table.new {wanted} }}
 {{
 """ + (f"""    match value {{
 """ + ''.join(f"        Value::{v}(a) => enter_{WORD[core(kinds[0])]}(table, a),\n" for v, ctor, kinds in variants) + "    }\n" if c == 'V' else f"""    if {p}.depth() > MOST_LEVELS {{
         return Err(NoMemory);
     }}
-    entering::enter_{WORD[c]}(table, {p})
+    table.parts_come_first();
+    let node = entering::enter_{WORD[c]}(table, {p});
+    table.nodes_differ();
+    node
 """) + "}\n")
     return '\n'.join(out)
 
@@ -205,7 +206,7 @@ use Rattle.jh_table.specs.Nodes.{nodes, tree_in}
 use Rattle.jh_table.proofs.Listed.{extends-refl, extends-trans, node-stays}
 use Rattle.jh_table.proofs.NodeSteps.{SHAPES}
 use Rattle.jh_enter.proofs.Fields.{entering-start, entering-step, listed-as, made-as, fits-listed-Reach, tree-listed-Reach, tree-listed-Tree}
-use Rattle.jh_enter.proofs.Keeping.{kept-self, kept-part, kept-fields, kept-pool, kept-made, kept-field}
+use Rattle.jh_enter.proofs.Adding.{adds-self, adds-part, adds-fields, adds-pool, adds-made, adds-first, adds-field, adds-list}
 use Rattle.jh_enter.proofs.entering.+entered.Goals as goal
 
 pub enter_field-returns-in_ok-c-in-Update-clause-node :
@@ -229,23 +230,23 @@ pub enter_fields-loop-field-init : goal.enter_fields-loop-field-init
 enter_fields-loop-field-init t c = record {
   grows = extends-refl c.args.table.now;
   entering = entering-start c.args.table.now c.new-made.result.items (list_tree c.args.fields.now) c.new-made.ensures.items;
-  kept = λ h. refl;
+  only = adds-first c.args.table.now (list_tree c.args.fields.now);
 }
 
-pub enter_fields-returns-in_err-node-clause-kept :
-    goal.enter_fields-returns-in_err-node-clause-kept
-enter_fields-returns-in_err-node-clause-kept t c =
-    kept-field c.args.table.now c.loop-field.table c.enter_field.new.table c.args.fields.now c.loop-field.field-index c.field-item.result c.loop-field.invariant.kept c.in_err-node.ensures.kept
+pub enter_fields-returns-in_err-node-clause-only :
+    goal.enter_fields-returns-in_err-node-clause-only
+enter_fields-returns-in_err-node-clause-only t c =
+    adds-field c.args.table.now c.loop-field.table c.enter_field.new.table c.args.fields.now c.loop-field.field-index c.field-item.result c.loop-field.invariant.only c.in_err-node.ensures.only
     c.loop-field-test.true c.field-item.is
 
-pub enter_fields-returns-in_err-push-clause-kept :
-    goal.enter_fields-returns-in_err-push-clause-kept
-enter_fields-returns-in_err-push-clause-kept t c =
-    kept-field c.args.table.now c.loop-field.table c.enter_field.new.table c.args.fields.now c.loop-field.field-index c.field-item.result c.loop-field.invariant.kept c.in_ok-node.ensures.kept
+pub enter_fields-returns-in_err-push-clause-only :
+    goal.enter_fields-returns-in_err-push-clause-only
+enter_fields-returns-in_err-push-clause-only t c =
+    adds-field c.args.table.now c.loop-field.table c.enter_field.new.table c.args.fields.now c.loop-field.field-index c.field-item.result c.loop-field.invariant.only c.in_ok-node.ensures.only
     c.loop-field-test.true c.field-item.is
 
-pub enter_fields-returns-clause-kept : goal.enter_fields-returns-clause-kept
-enter_fields-returns-clause-kept t c = λ h. c.list.ensures.nodes ∙ c.loop-field.invariant.kept h
+pub enter_fields-returns-clause-only : goal.enter_fields-returns-clause-only
+enter_fields-returns-clause-only t c = adds-list c.args.table.now c.loop-field.table c.list.new.self (list_tree c.args.fields.now) c.list.ensures.nodes c.loop-field.invariant.only
 
 pub enter_fields-returns-in_err-node-clause-grows :
     goal.enter_fields-returns-in_err-node-clause-grows
@@ -264,8 +265,8 @@ enter_fields-loop-field-preserved t c = record {
       entering-step c.loop-field.table c.enter_field.new.table c.loop-field.made.items c.push.new.self.items c.in_ok-node.node c.args.fields.now c.loop-field.field-index
       c.field-item.result (list_tree c.args.fields.now) c.loop-field.invariant.entering c.in_ok-node.ensures.grows c.in_ok-node.ensures.node c.in_ok-push.ensures.items
       c.loop-field-test.true c.field-item.is;
-  kept =
-      kept-field c.args.table.now c.loop-field.table c.enter_field.new.table c.args.fields.now c.loop-field.field-index c.field-item.result c.loop-field.invariant.kept c.in_ok-node.ensures.kept
+  only =
+      adds-field c.args.table.now c.loop-field.table c.enter_field.new.table c.args.fields.now c.loop-field.field-index c.field-item.result c.loop-field.invariant.only c.in_ok-node.ensures.only
       c.loop-field-test.true c.field-item.is;
 }
 
@@ -341,8 +342,8 @@ def wrapped(code, tree):
     return tree if code == 'V' else f"({WRAP[code]} {tree})"
 
 
-def kept(code, variant, ctor, kinds, calls, function):
-    """The answers for the clause `kept` in one arm: where each call fails, and where the node is made."""
+def only(code, variant, ctor, kinds, calls, function):
+    """The answers for the clause `only` in one arm: where each call fails, and where the node is made."""
     fn, param = TYPES[code][2], PARAM[code]
     letters, trees, steps = iter('abc'), iter('xyz'), []
     args = []
@@ -379,7 +380,7 @@ def kept(code, variant, ctor, kinds, calls, function):
 
     def arm_of(ends):
         """The lines up to the step of this number, which fails, or up to the end."""
-        lines = ["let start = c.args.table.now in", "let law = c.parts_come_first.ensures in"]
+        lines = ["let start = c.args.table.now in"]
         for i, (word, k, tree, table, words) in enumerate(entered):
             if tree:
                 lines.append(f"let {tree} = {words[0] if i <= ends else words[1]} in")
@@ -387,16 +388,16 @@ def kept(code, variant, ctor, kinds, calls, function):
         lines.append(f"let w = {WRAP[code]} ({built}) in")
         lines.append(f"let whole : {tree_now} ≡ {built} = search (rules, {fn}_tree-{variant}) in")
         lines.append(f"let same : v ≡ w = ap (λ d. {WRAP[code]} d) whole in")
-        last, chain = 'start', "(kept-self start v)"
+        last, chain = 'start', "(adds-self start v)"
         for i, (word, k, tree, table, words) in enumerate(entered[:ends + 1]):
             result = f"c.in_{'err' if i == ends else 'ok'}-{word}-in-{variant}.ensures"
             if core(k) == 'k':
-                value = f"kept-pool start {last} {table} v {result}.nodes {chain}"
+                value = f"adds-pool start {last} {table} v {result}.nodes {chain}"
             elif core(k) == 'L':
-                value = f"kept-fields start {last} {table} v w fs law same (λ f m. {' '.join([f'part.{ctor}-field', 'f'] + args + ['m'])}) {chain} {result}.kept"
+                value = f"adds-fields start {last} {table} v w fs same (λ f m. {' '.join([f'part.{ctor}-field', 'f'] + args + ['m'])}) {chain} {result}.only"
             else:
                 child = f"part.{ctor}" + (f"-{word}" if several else '')
-                value = f"kept-part start {last} {table} v w {wrapped(core(k), tree)} law same ({' '.join([child] + args)}) {chain} {result}.kept"
+                value = f"adds-part start {last} {table} v w {wrapped(core(k), tree)} same ({' '.join([child] + args)}) {chain} {result}.only"
             if i == ends:
                 return lines + [value]
             lines.append(f"let after_{word} = {value} in")
@@ -405,7 +406,7 @@ def kept(code, variant, ctor, kinds, calls, function):
 
     out = []
     for i, (word, *_) in enumerate(entered):
-        out.append((f"{function}-returns-in_err-{word}-in-{variant}-clause-kept", arm_of(i)))
+        out.append((f"{function}-returns-in_err-{word}-in-{variant}-clause-only", arm_of(i)))
     lines, last, chain = arm_of(len(entered))
     lines.append(f"let last = {last} in")
     places, trees, proofs, numbers, again = {}, [], [], [], ''
@@ -440,13 +441,38 @@ def kept(code, variant, ctor, kinds, calls, function):
     lemma = f"tree-listed-{camel(ctor)} last" if listed else f"tree-{camel(ctor)} last.pools (nodes last)"
     shape = f"(s.{camel(ctor)} {' '.join(numbers)})"
     lines.append(f"let made : tree_in last {shape} ≡ v = {' '.join([lemma] + numbers + trees + proofs)}{again} ∙ sym same in")
-    lines.append(f"kept-made start last {made}.new.self v {shape} {made}.result made {chain} {made}.ensures.kept")
-    out.append((f"{function}-returns-in_ok-{entered[-1][0]}-in-{variant}-clause-kept", lines))
+    lines.append(f"adds-made start last {made}.new.self v {shape} made {chain} {made}.ensures.only")
+    out.append((f"{function}-returns-in_ok-{entered[-1][0]}-in-{variant}-clause-only", lines))
     return out
 
 
+def leaf(code, variant, ctor, kinds, calls, function):
+    """The answer for the clause `only` in an arm without parts."""
+    fn, param, made = TYPES[code][2], PARAM[code], calls.name('make', variant)
+    tree_now = f"{fn}_tree c.args.{param}.now"
+    lines = ["let start = c.args.table.now in", f"let v = {WRAP[code]} ({tree_now}) in"]
+    if kinds == ['n']:
+        ok = f"c.in_ok-name-in-{variant}"
+        name = calls.name('name', variant)
+        built, shape = f"tree.{ctor} c.in-{variant}.name", f"(s.{camel(ctor)} {ok}.name)"
+        lines += [f"let last = {name}.new.self in", f"let whole : {tree_now} ≡ {built} = search (rules, {fn}_tree-{variant}) in"]
+        lines.append(f"let made : tree_in last {shape} ≡ v = tree-{camel(ctor)} last.pools (nodes last) {ok}.name c.in-{variant}.name {ok}.ensures.number ∙ ap (λ d. {WRAP[code]} d) (sym whole) in")
+        lines.append(f"adds-made start last {made}.new.self v {shape} made (adds-pool start start last v {ok}.ensures.nodes (adds-self start v)) {made}.ensures.only")
+        return f"{function}-returns-in_ok-name-in-{variant}-clause-only", lines
+    number = f" c.in-{variant}.number" if kinds else ''
+    again, read = '', number
+    if kinds == ['z']:
+        lines += [f"let z ={number} in", "let read = to_z w64 (of_z w64 z) in", "let fits : SFits w64 z = search rules in"]
+        again, read = f" ∙ ap (λ d. {WRAP[code]} (tree.{ctor} d)) (to_z-of_z w64 z fits)", ' read'
+    shape = f"(s.{camel(ctor)}{read})" if kinds else f"s.{camel(ctor)}"
+    lines.append(f"let whole : {tree_now} ≡ tree.{ctor}{number} = search (rules, {fn}_tree-{variant}) in")
+    lines.append(f"let made : tree_in start {shape} ≡ v = tree-{camel(ctor)} start.pools (nodes start){read}{again} ∙ ap (λ d. {WRAP[code]} d) (sym whole) in")
+    lines.append(f"adds-made start start {made}.new.self v {shape} made (adds-self start v) {made}.ensures.only")
+    return f"{function}-returns-in-{variant}-clause-only", lines
+
+
 def answers():
-    arms = [(code, v, ctor, kinds) for code in 'TISFP' for v, ctor, kinds in TYPES[code][3] if any(is_part(k) for k in kinds)]
+    arms = [(code, v, ctor, kinds) for code in 'TISFP' for v, ctor, kinds in TYPES[code][3]]
     steps = ', '.join(f"{TYPES[code][2]}_tree-{v}" for code, v, _, _ in arms)
     shapes = ', '.join(f"tree-{camel(ctor)}" for _, _, ctor, kinds in arms if not any(core(k) == 'L' for k in kinds))
     out = [ANSWERS.replace('STEPS', steps).replace('SHAPES', shapes)]
@@ -456,11 +482,28 @@ def answers():
         calls = Calls()
         for variant, ctor, kinds in variants:
             if not any(is_part(k) for k in kinds):
-                calls.name('make', variant)
+                goal, lines = leaf(code, variant, ctor, kinds, calls, function)
+                out.append(f"pub {goal} :\n    goal.{goal}\n{goal} t c =\n" + ''.join(f"    {line}\n" for line in lines))
                 continue
-            for goal, lines in kept(code, variant, ctor, kinds, calls, function):
+            for goal, lines in only(code, variant, ctor, kinds, calls, function):
                 out.append(f"pub {goal} :\n    goal.{goal}\n{goal} t c =\n" + ''.join(f"    {line}\n" for line in lines))
     return '\n'.join(out)
+
+
+def kept(c):
+    """The answer for the clause `kept` of a call for others: as parts alone are added, none is where the tree is listed."""
+    fn, param = TYPES[c][2], PARAM[c]
+    call = f"c.enter_{WORD[c]}-node"
+    return f"""-- Written by tools/enter.py.
+use Rattle.jh_tree.specs.Tree.{{{WRAP[c]}}}
+use Rattle.jh_tree.specs.Bare.{{{fn}_tree}}
+use Rattle.jh_enter.proofs.Keeping.{{kept-parts}}
+use Rattle.jh_enter.proofs.guarded.enter_{WORD[c]}.Goals as goal
+
+pub returns-clause-kept : goal.returns-clause-kept
+returns-clause-kept c =
+    kept-parts c.args.table.now {call}.new.table ({WRAP[c]} ({fn}_tree c.args.{param}.now)) c.parts_come_first.ensures {call}.ensures.grows c.nodes_differ.ensures.different {call}.ensures.only
+"""
 
 
 if __name__ == '__main__':
@@ -475,3 +518,5 @@ if __name__ == '__main__':
     write('src/guarded.rt', guards())
     write('proofs/EnterSteps.antt', steps())
     write('proofs/entering/+entered/Answers.antt', answers())
+    for c in 'TISFP':
+        write(f"proofs/guarded/enter_{WORD[c]}/Answers.antt", kept(c))

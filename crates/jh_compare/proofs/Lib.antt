@@ -6,4 +6,4 @@ pub mod DerivedEq
 pub mod PastSteps
 pub mod Equalities
 pub mod ExchangeMeanings
-mod Insides
+pub mod Insides

@@ -1,3 +1,4 @@
 pub mod EnterSteps
 pub mod Fields
 pub mod Keeping
+pub mod Adding

@@ -1,8 +1,9 @@
 -- A list of fields in a table, and what keeps a table's nodes.
 use Rattle.std.specs.Prelude.{◌≡◌, ℕ, List, Some, slice_get, true}
 use Rattle.jh_tree.specs.Tree.{FieldTree, FieldTrees, ValueTree, of_field}
-use Rattle.jh_walk.specs.Parts.{Among}
+use Rattle.jh_walk.specs.Parts.{Among, IsChild}
 use Rattle.jh_table.specs.Entries.{Listing, are_fields, fields_at}
+use Rattle.jh_table.specs.Growth.{AddsOnly}
 use Rattle.jh_table.specs.Nodes.{nodes}
 
 -- The list of this number is a list of fields, and these are their trees.
@@ -16,10 +17,21 @@ pub record IsList (t : Listing) (number : ℕ) (fs : FieldTrees) : Type 0 where
 abbrev pub IsKept : Listing → Listing → ValueTree → Type 0
 IsKept old new v = (node : ℕ) → slice_get (nodes old) node ≡ Some v → nodes new ≡ nodes old
 
--- Each field of the list is a node of the table.
-abbrev pub AreListed : Listing → FieldTrees → Type 0
-AreListed t fs = (f : FieldTree) → Among f fs → (node : ℕ) × (slice_get (nodes t) node ≡ Some (of_field f))
+-- The first is a part of the second, at any depth, or it itself.
+pub data IsPart : ValueTree → ValueTree → Type 0 where
+  itself : (v : ValueTree) → IsPart v v
+  inside : (u w v : ValueTree) → IsPart u w → IsChild w v → IsPart u v
 
--- Where each field of the list is a node of the old table, the new one has no further node.
-abbrev pub AreKept : Listing → Listing → FieldTrees → Type 0
-AreKept old new fs = AreListed old fs → nodes new ≡ nodes old
+-- a part of one of the fields of a list
+pub record IsPartOfSome (v : ValueTree) (fs : FieldTrees) : Type 0 where
+  pub field : FieldTree
+  pub among : Among field fs
+  pub part : IsPart v (of_field field)
+
+-- Each node of the new table was a node of the old one, at the same place, or is a part of the tree.
+abbrev pub AddsParts : Listing → Listing → ValueTree → Type 0
+AddsParts old new v = AddsOnly (λ x. IsPart x v) old new
+
+-- or is a part of a field of the list
+abbrev pub AddsFields : Listing → Listing → FieldTrees → Type 0
+AddsFields old new fs = AddsOnly (λ x. IsPartOfSome x fs) old new

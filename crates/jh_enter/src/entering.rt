@@ -4,22 +4,20 @@ ghost use Rattle.jh_tree.specs.Bare.{term_tree, int_tree, set_tree, field_tree, 
 ghost use Rattle.jh_table.specs.Growth.{Extends};
 ghost use Rattle.jh_table.specs.Nodes.{nodes};
 ghost use Rattle.jh_enter.specs.Atoms.{is_atom};
-ghost use Rattle.jh_enter.specs.Entered.{IsList, IsKept, AreKept};
+ghost use Rattle.jh_enter.specs.Entered.{IsList, AddsParts, AddsFields};
 
 use jh_name::NoMemory;
 use jh_table::{Shape, Table};
 use jh_tree::{FieldTerm, Formula, IntTerm, SetTerm, Term, Value};
 
-/// The node of a term for an object. Nodes that are new are made, those before stay. Where the tree is listed
-/// already, no node is made.
+/// The node of a term for an object. Nodes that are new are made, each a part of it; those before stay.
 #[cycle(entered)]
 #[tactic(auto, using(crate::proofs::EnterSteps::object_steps))]
 pub fn enter_term(table: &mut Table, term: &Term) -> Result<usize, NoMemory>
     ensures node { IfOk result (λ node. slice_get (nodes table.new) node ≡ Some (of_object (term_tree term.now))) }
     ensures grows { Extends table.old table.new }
-    ensures kept { IsKept table.old table.new (of_object (term_tree term.now)) }
+    ensures only { AddsParts table.old table.new (of_object (term_tree term.now)) }
 {
-    table.parts_come_first();
     match term {
         Term::Bound(number) => table.make(Shape::Bound(*number)),
         Term::Free(name) => {
@@ -35,16 +33,14 @@ pub fn enter_term(table: &mut Table, term: &Term) -> Result<usize, NoMemory>
     }
 }
 
-/// The node of a term for a number. Nodes that are new are made, those before stay. Where the tree is listed
-/// already, no node is made.
+/// The node of a term for a number. Nodes that are new are made, each a part of it; those before stay.
 #[cycle(entered)]
 #[tactic(auto, using(crate::proofs::EnterSteps::number_steps))]
 pub fn enter_int(table: &mut Table, term: &IntTerm) -> Result<usize, NoMemory>
     ensures node { IfOk result (λ node. slice_get (nodes table.new) node ≡ Some (of_number (int_tree term.now))) }
     ensures grows { Extends table.old table.new }
-    ensures kept { IsKept table.old table.new (of_number (int_tree term.now)) }
+    ensures only { AddsParts table.old table.new (of_number (int_tree term.now)) }
 {
-    table.parts_come_first();
     match term {
         IntTerm::Const(number) => table.make(Shape::Const(*number)),
         IntTerm::Free(name) => {
@@ -81,16 +77,14 @@ pub fn enter_int(table: &mut Table, term: &IntTerm) -> Result<usize, NoMemory>
     }
 }
 
-/// The node of a term for a set. Nodes that are new are made, those before stay. Where the tree is listed
-/// already, no node is made.
+/// The node of a term for a set. Nodes that are new are made, each a part of it; those before stay.
 #[cycle(entered)]
 #[tactic(auto, using(crate::proofs::EnterSteps::set_steps))]
 pub fn enter_set(table: &mut Table, term: &SetTerm) -> Result<usize, NoMemory>
     ensures node { IfOk result (λ node. slice_get (nodes table.new) node ≡ Some (of_set (set_tree term.now))) }
     ensures grows { Extends table.old table.new }
-    ensures kept { IsKept table.old table.new (of_set (set_tree term.now)) }
+    ensures only { AddsParts table.old table.new (of_set (set_tree term.now)) }
 {
-    table.parts_come_first();
     match term {
         SetTerm::Free(name) => {
             let name = table.name(name)?;
@@ -133,16 +127,14 @@ pub fn enter_set(table: &mut Table, term: &SetTerm) -> Result<usize, NoMemory>
     }
 }
 
-/// The node of a field. Nodes that are new are made, those before stay. Where the tree is listed
-/// already, no node is made.
+/// The node of a field. Nodes that are new are made, each a part of it; those before stay.
 #[cycle(entered)]
 #[tactic(auto, using(crate::proofs::EnterSteps::field_steps))]
 pub fn enter_field(table: &mut Table, field: &FieldTerm) -> Result<usize, NoMemory>
     ensures node { IfOk result (λ node. slice_get (nodes table.new) node ≡ Some (of_field (field_tree field.now))) }
     ensures grows { Extends table.old table.new }
-    ensures kept { IsKept table.old table.new (of_field (field_tree field.now)) }
+    ensures only { AddsParts table.old table.new (of_field (field_tree field.now)) }
 {
-    table.parts_come_first();
     match field {
         FieldTerm::Free(name) => {
             let name = table.name(name)?;
@@ -157,16 +149,14 @@ pub fn enter_field(table: &mut Table, field: &FieldTerm) -> Result<usize, NoMemo
     }
 }
 
-/// The node of a formula. Nodes that are new are made, those before stay. Where the tree is listed
-/// already, no node is made.
+/// The node of a formula. Nodes that are new are made, each a part of it; those before stay.
 #[cycle(entered)]
 #[tactic(auto, using(crate::proofs::EnterSteps::truth_steps))]
 pub fn enter_formula(table: &mut Table, formula: &Formula) -> Result<usize, NoMemory>
     ensures node { IfOk result (λ node. slice_get (nodes table.new) node ≡ Some (of_truth (formula_tree formula.now))) }
     ensures grows { Extends table.old table.new }
-    ensures kept { IsKept table.old table.new (of_truth (formula_tree formula.now)) }
+    ensures only { AddsParts table.old table.new (of_truth (formula_tree formula.now)) }
 {
-    table.parts_come_first();
     match formula {
         Formula::True => table.make(Shape::True),
         Formula::False => table.make(Shape::False),
@@ -222,16 +212,14 @@ pub fn enter_formula(table: &mut Table, formula: &Formula) -> Result<usize, NoMe
     }
 }
 
-/// The node of a value of any sort. Nodes that are new are made, those before stay. Where the tree is listed
-/// already, no node is made.
+/// The node of a value of any sort. Nodes that are new are made, each a part of it; those before stay.
 #[cycle(entered)]
 #[tactic(auto, using(crate::proofs::EnterSteps::value_steps))]
 pub fn enter_value(table: &mut Table, value: &Value) -> Result<usize, NoMemory>
     ensures node { IfOk result (λ node. slice_get (nodes table.new) node ≡ Some (value_tree value.now)) }
     ensures grows { Extends table.old table.new }
-    ensures kept { IsKept table.old table.new (value_tree value.now) }
+    ensures only { AddsParts table.old table.new (value_tree value.now) }
 {
-    table.parts_come_first();
     match value {
         Value::Obj(a) => enter_term(table, a),
         Value::Int(a) => enter_int(table, a),
@@ -249,9 +237,8 @@ fn enter_atom(table: &mut Table, formula: &Formula) -> Result<usize, NoMemory>
     requires { is_atom formula.now ≡ true }
     ensures node { IfOk result (λ node. slice_get (nodes table.new) node ≡ Some (of_truth (formula_tree formula.now))) }
     ensures grows { Extends table.old table.new }
-    ensures kept { IsKept table.old table.new (of_truth (formula_tree formula.now)) }
+    ensures only { AddsParts table.old table.new (of_truth (formula_tree formula.now)) }
 {
-    table.parts_come_first();
     match formula {
         Formula::Free(name) => {
             let name = table.name(name)?;
@@ -329,7 +316,7 @@ fn enter_atom(table: &mut Table, formula: &Formula) -> Result<usize, NoMemory>
 fn enter_fields(table: &mut Table, fields: &[FieldTerm]) -> Result<usize, NoMemory>
     ensures list { IfOk result (λ number. IsList table.new number (list_tree fields.now)) }
     ensures grows { Extends table.old table.new }
-    ensures kept { AreKept table.old table.new (list_tree fields.now) }
+    ensures only { AddsFields table.old table.new (list_tree fields.now) }
 {
     let mut made = Vec::new(table.alloc());
     for field in fields {

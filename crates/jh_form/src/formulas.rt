@@ -13,7 +13,7 @@ ghost use Rattle.jh_compare.specs.Inside.{SameIn, AreInside};
 ghost use Rattle.jh_table.specs.Entries.{Listing, is_object, is_truth, the_value, the_object, the_truth};
 ghost use Rattle.jh_table.specs.Growth.{Extends};
 ghost use Rattle.jh_table.specs.Nodes.{nodes};
-ghost use Rattle.jh_enter.specs.Entered.{IsKept};
+ghost use Rattle.jh_enter.specs.Entered.{AddsParts, IsKept};
 ghost use Rattle.jh_value.specs.Room.{IsSmall};
 ghost use Rattle.jh_rewrite.specs.Rewritten.{rewritten_formula};
 ghost use Rattle.jh_rewrite.specs.Exchanging.{exchanging};
@@ -31,10 +31,11 @@ pub trait Formulas {
     ghost listing: { Self → Listing };
 
     /// The place of a value. Where the value's tree is listed already, that is its place, and no node is
-    /// made.
+    /// made, and else only for parts of it.
     fn enter(&mut self, value: &Value) -> Result<usize, NoMemory>
         ensures node { IfOk result (λ node. slice_get (nodes (listing self.new)) node ≡ Some (value_tree value.now)) }
         ensures grows { Extends (listing self.old) (listing self.new) }
+        ensures only { AddsParts (listing self.old) (listing self.new) (value_tree value.now) }
         ensures kept { IsKept (listing self.old) (listing self.new) (value_tree value.now) };
 
     /// The value of a node. It is in proportion to the tree, in which shared parts stand as often as they

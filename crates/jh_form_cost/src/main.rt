@@ -13,7 +13,9 @@ use std::alloc::Global;
 use std::io::{Eprint, Print};
 use std::process::ExitCode;
 use std::time::{Clock, Instant};
-use tables::{count_conjunctions, count_deep, count_openings, count_substitutions};
+use tables::{
+    count_conjunctions, count_deep, count_deep_in_threads, count_openings, count_substitutions,
+};
 
 /// How often equations are joined two by two: 4,096 of them have 12,288 nodes.
 const LEVELS: u32 = 12;
@@ -26,6 +28,9 @@ const CONJUNCTIONS: u32 = 100_000;
 
 /// How deep the negations nest over which no walk goes.
 const DEEP: u32 = 60_002;
+
+/// How deep they nest at most where walks go over them.
+const DEEPEST: u32 = 10_000;
 
 /// Substitutes into a formula of many equations, as often as is said.
 fn time_substitutions(
@@ -72,5 +77,7 @@ fn main(rt: HostRuntime) -> anyhow::Result<ExitCode> {
     time_conjunctions(&rt, alloc)?;
     let count = count_deep(alloc, DEEP)?;
     println!(rt; "{DEEP} levels: {count} of {CALLS} calls answer want of memory")?;
-    Ok(ExitCode::from(if count == CALLS { 0 } else { 1 }))
+    let within = count_deep_in_threads(&rt, alloc, DEEPEST)?;
+    println!(rt; "{DEEPEST} levels, in threads: {within} of {CALLS} calls answer want of memory")?;
+    Ok(ExitCode::from(if count == CALLS && within == 0 { 0 } else { 1 }))
 }

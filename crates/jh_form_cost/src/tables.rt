@@ -1,9 +1,10 @@
 use crate::building::balanced;
 use crate::calls::{conjoined, opened_often, substituted_often};
-use crate::deep::count_unanswered;
+use crate::deep::{CALLS, count_unanswered};
 use jh_form::Table;
 use jh_name::NoMemory;
 use std::alloc::Global;
+use std::thread::{Threads, map_indices};
 
 fn substitute(table: &mut Table, levels: u32, times: u32) -> Result<usize, NoMemory> {
     let formula = balanced(table, 1, levels)?;
@@ -44,4 +45,15 @@ pub fn count_conjunctions(alloc: Global, times: u32) -> Result<usize, NoMemory> 
 pub fn count_deep(alloc: Global, levels: u32) -> Result<u32, NoMemory> {
     let mut table = Table::new(alloc)?;
     count_unanswered(&mut table, levels)
+}
+
+/// The same in a thread of the parallel map, beside another one: of both the greater count. A call that no memory was
+/// left for counts as one that answers nothing.
+pub fn count_deep_in_threads(
+    rt: &(impl Threads + Sync),
+    alloc: Global,
+    levels: u32,
+) -> Result<u32, NoMemory> {
+    let counts = map_indices(rt, alloc, 2, &|_| count_deep(alloc, levels).unwrap_or(CALLS))?;
+    Ok(counts.iter().copied().fold(0, |most, count| most.max(count)))
 }

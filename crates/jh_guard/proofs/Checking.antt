@@ -71,7 +71,7 @@ then-parts (value z) next y h = record { first = z; has = refl; then_has = h }
 then-parts (null_at p) next y h = absurd h
 
 -- two values of one thing are one
-has-one : {X : Type 0} (v : Value X) (x y : X) → Has v x → Has v y → x ≡ y
+pub has-one : {X : Type 0} (v : Value X) (x y : X) → Has v x → Has v y → x ≡ y
 has-one (value z) x y h k = sym h ∙ k
 has-one (null_at p) x y h k = absurd h
 

@@ -51,7 +51,7 @@ module _ (p : Program) (names : NamesFit p) (n : ℕ) where
   KindFits t (an_object v) = kind_of t ≡ k.Obj
   KindFits t d = Unit {0}
 
-  fits-kind : (t u : Ty) → fits t u ≡ true → kind_of t ≡ kind_of u
+  pub fits-kind : (t u : Ty) → fits t u ≡ true → kind_of t ≡ kind_of u
   fits-kind ty.Int ty.Int e = refl
   fits-kind ty.Boolean ty.Boolean e = refl
   fits-kind ty.Void ty.Void e = refl
@@ -70,7 +70,7 @@ module _ (p : Program) (names : NamesFit p) (n : ℕ) where
   kind-fits t u (a_set v) e h = tt
   kind-fits t u (a_field f) e h = tt
 
-  has-kind : (at : Surroundings) (e : ObjectCode) (t : Ty) → ObjectHas p at e t → kind_of t ≡ k.Obj
+  pub has-kind : (at : Surroundings) (e : ObjectCode) (t : Ty) → ObjectHas p at e t → kind_of t ≡ k.Obj
   has-kind at _ _ of_null = refl
   has-kind at _ _ (of_this m e) = refl
   has-kind at _ _ (of_name x t h e) = e
@@ -260,7 +260,7 @@ module _ (p : Program) (names : NamesFit p) (n : ℕ) where
   result-scope at (c.to_name x) t h fit = fit
   result-scope at (c.to_field x r q) t h fit = fit
 
-  fits-behind : (result : Ty) (s : Stmt) (at : Surroundings) → StmtFits p result s at → ScopeFits p names at → ScopeFits p names (scope_behind p at s)
+  pub fits-behind : (result : Ty) (s : Stmt) (at : Surroundings) → StmtFits p result s at → ScopeFits p names at → ScopeFits p names (scope_behind p at s)
   fits-behind result (c.assign target e) at h fit = takes-fits at target (h.fit).type (h.fit).takes fit
   fits-behind result (c.new_object q target class) at h fit = takes-fits at target (h.fit).type (h.fit).takes fit
   fits-behind result (c.call q target r place m args) at h fit = result-scope at target (h.method).result h.result_fits fit
@@ -337,7 +337,7 @@ module _ (p : Program) (names : NamesFit p) (n : ℕ) where
       then-good at after (stops why) next h f = tt
 
       mutual
-        exec-good : (s : Stmt) (at : Surroundings) → StmtFits p result s at → ScopeFits p names at → (r : Configuration) → Good at r → Ends (Good (scope_behind p at s)) (GoodWith result) (exec call s r)
+        pub exec-good : (s : Stmt) (at : Surroundings) → StmtFits p result s at → ScopeFits p names at → (r : Configuration) → Good at r → Ends (Good (scope_behind p at s)) (GoodWith result) (exec call s r)
         exec-good c.empty at h fit r g = pay-good result at at r goes_on g (λ u i. i)
         exec-good (c.block body) at h fit r g = pay-good result at at r (λ u. exec_all call body u) g (λ u i. all-good body at h fit u i)
         exec-good (c.assign target e) at h fit r g =

@@ -1,7 +1,7 @@
 use Rattle.std.proofs.Common.{drop}
 use Rattle.jh_tree.specs.Bare.{list_tree}
 use Rattle.jh_table.specs.Growth.{Extends}
-use Rattle.jh_enter.specs.Entered.{AreKept}
+use Rattle.jh_enter.specs.Entered.{AddsFields}
 use Rattle.jh_enter.proofs.Fields.{Entering}
 use Rattle.jh_enter.proofs.entering.+entered.Given as goal
 
@@ -9,5 +9,5 @@ abbrev pub invariant-enter_fields-loop-field : goal.invariant-enter_fields-loop-
 invariant-enter_fields-loop-field l = record {
   grows : Extends l.fn.table l.table;
   entering : Entering l.table l.made.items (list_tree (drop l.field-index l.fields)) (list_tree l.fields);
-  kept : AreKept l.fn.table l.table (list_tree l.fields);
+  only : AddsFields l.fn.table l.table (list_tree l.fields);
 }
