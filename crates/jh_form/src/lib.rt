@@ -39,6 +39,7 @@ pub use jh_make::free_object;
 pub use jh_make::free_set;
 pub use jh_make::free_truth;
 pub use jh_make::implication;
+pub use jh_make::implication_of;
 pub use jh_make::intersection;
 pub use jh_make::labelled;
 pub use jh_make::less;

@@ -64,3 +64,7 @@ pub at-index : (ns : List ℕ) (i d : ℕ) → i < length ns → slice_get ns i 
 at-index [] i d lt = absurd (omega arith)
 at-index (m ∷ ns) zero d lt = refl
 at-index (m ∷ ns) (suc i) d lt = at-index ns i d (omega arith)
+
+pub truth-in : (o : Option ValueTree) (a : FormulaTree) → o ≡ Some (of_truth a) → the_truth o ≡ a
+unfolding the_truth
+truth-in o a h = ap the_truth h

@@ -20,7 +20,7 @@ pub use formulas::{
 };
 pub use labels::labelled;
 pub use leaves::{bound, free_field, free_number, free_object, free_set, free_truth};
-pub use lists::conjunction_of;
+pub use lists::{conjunction_of, implication_of};
 pub use numbers::{cardinality, constant, difference, multiple, negative, read_number, sum};
 pub use objects::{null, read_object};
 pub use reaches::{forest, reach};

@@ -1,10 +1,12 @@
 ghost use Rattle.std.specs.Prelude.{◌≡◌, true, IfOk, Some, slice_get};
 ghost use Rattle.jh_tree.specs.Tree.{of_truth};
+ghost use Rattle.jh_tree.specs.Tree as t;
+ghost use Rattle.jh_table.specs.Entries.{is_truth, the_truth};
 ghost use Rattle.jh_table.specs.Growth.{Extends};
 ghost use Rattle.jh_table.specs.Nodes.{nodes};
 ghost use Rattle.jh_make.specs.Joined.{joined, are_truths, truths_at};
 
-use crate::formulas::{conjunction, truth};
+use crate::formulas::{conjunction, implication, truth};
 use jh_name::NoMemory;
 use jh_table::Table;
 
@@ -25,4 +27,19 @@ pub fn conjunction_of(table: &mut Table, items: &[usize]) -> Result<usize, NoMem
         made = conjunction(table, items[index], made)?;
     }
     Ok(made)
+}
+
+/// The node of the formula that these hypotheses, joined by And to the right, imply the goal.
+pub fn implication_of(
+    table: &mut Table,
+    hypotheses: &[usize],
+    goal: usize,
+) -> Result<usize, NoMemory>
+    requires hypotheses { are_truths (nodes table.old) hypotheses.now ≡ true }
+    requires goal { is_truth (slice_get (nodes table.old) goal) ≡ true }
+    ensures node { IfOk result (λ made. slice_get (nodes table.new) made ≡ Some (of_truth (t.implies (joined (truths_at (nodes table.old) hypotheses.now)) (the_truth (slice_get (nodes table.old) goal))))) }
+    ensures grows { Extends table.old table.new }
+{
+    let premise = conjunction_of(table, hypotheses)?;
+    implication(table, premise, goal)
 }
