@@ -1,0 +1,4 @@
+pub mod Forests
+pub mod Split
+pub mod Laws
+pub mod Local
