@@ -34,7 +34,7 @@ abbrev pub new_steps : Target → Text → Name → Name → List CommandTree
 new_steps target class x y =
     w.havoc x y ∷ w.assume (is_new (t.free_object x)) ∷ joins alloc_name (t.free_object x) ∷ joins (named class) (t.free_object x) ∷ put target (t.of_object (t.free_object x))
 
--- over the class of `this`, the parameters of the method and what its methods write
+-- over a program, what its methods write, and the class of `this`
 module _ (p : Program) (ws : Writes) (this : Option ℕ) where
   -- with these locals in scope, parameters among them
   abbrev pub wf_at : List Local → FormulaTree

@@ -55,7 +55,7 @@ pub record Check : Type 0 where
 abbrev pub is_not_null : TermTree → FormulaTree
 is_not_null a = t.negation (t.eq_object a t.null)
 
--- a receiver is not null; `this` never is
+-- that a receiver is not null; `this` needs no check
 abbrev pub receiver_checks : ObjectCode → Place → List Check
 receiver_checks c.this p = []
 receiver_checks r p = record { place = p; fact = is_not_null (object_term r) } ∷ []
