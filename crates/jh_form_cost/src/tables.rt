@@ -54,6 +54,16 @@ pub fn count_deep_in_threads(
     alloc: Global,
     levels: u32,
 ) -> Result<u32, NoMemory> {
-    let counts = map_indices(rt, alloc, 2, &|_| count_deep(alloc, levels).unwrap_or(CALLS))?;
-    Ok(counts.iter().copied().fold(0, |most, count| most.max(count)))
+    let counts = map_indices(
+        rt,
+        alloc,
+        2,
+        &|_| count_deep(alloc, levels).unwrap_or(CALLS),
+    )?;
+    Ok(
+        counts
+            .iter()
+            .copied()
+            .fold(0, |most, count| most.max(count)),
+    )
 }
