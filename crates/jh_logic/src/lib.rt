@@ -1,0 +1,6 @@
+//! Valid formulas make programs sound.
+#![tactic(auto)]
+
+mod laws;
+
+pub use laws::valid_makes_sound;
