@@ -1,0 +1,34 @@
+use Rattle.std.proofs.Common.{◌≡◌, ◌↔◌, ◌<◌, sym, ap, subst, ◌∙◌, ℕ, List, length}
+use Rattle.std.proofs.lemmas.Result.{IfOk-weaker}
+use Rattle.jh_spread.specs.declared.facts.Fact.{Fact}
+use Rattle.jh_spread.specs.Spreads.{IsIn, Spreads, passed_to}
+use Rattle.jh_written.specs.declared.flow.Given.{Given}
+use Rattle.jh_written.specs.declared.flow.Key.{Key}
+use Rattle.jh_written.specs.declared.flow.Link.{Link}
+use Rattle.jh_written.specs.Arising.{Arises, ArePlaces, AreTold, AreNumbers}
+use Rattle.jh_written.specs.Chosen.{IsChosen}
+use Rattle.jh_written.proofs.Spreading.{places-are, spread-inside}
+use Rattle.jh_written.proofs.arising.places_of.Goals as goal
+
+-- src/arising.rt
+pub choose-requires : goal.choose-requires
+choose-requires c =
+    let inside = subst (λ (fs : List Fact). (f : Fact) → IsIn fs f → f.what < length c.args.numbered.now.keys.keys) (sym c.as_slice.ensures.value) c.requires in
+    λ fact h. subst (λ (n : ℕ). fact.what < n) (sym c.len.ensures.len) (spread-inside c.as_slice.result.now c.args.edges.now (length c.args.numbered.now.keys.keys) inside fact ((c.in_ok-spread.ensures.exact fact).0 h))
+
+-- src/arising.rt
+pub returns-clause-places : goal.returns-clause-places
+returns-clause-places c =
+    let keys = c.args.numbered.now.keys.keys in
+    let edges = c.args.edges.now in
+    let spread = c.in_ok-spread.spread in
+    IfOk-weaker
+    c.choose.result
+    (λ made. (n : ℕ) → n < c.args.things → IsChosen spread c.as_slice-2.result.now n (passed_to made.items n))
+    (λ made. (gs : List Given) (links : List Link) (list : List Key) (n : ℕ) → AreTold keys c.args.numbered.now.facts.items gs → AreNumbers keys c.args.numbered.now.list.items list → ((from to : ℕ) → IsIn (passed_to edges from) to ↔ IsIn links (record { from = from; to = to })) → n < c.args.things →
+    ArePlaces (Arises gs links n) list (passed_to made.items n))
+    (λ made chosen gs links list n told are linked lt.
+    places-are keys c.len.ensures.unique c.args.numbered.now.facts.items gs told edges links linked spread
+    (subst (λ (fs : List Fact). (f : Fact) → IsIn spread f ↔ Spreads fs edges f) c.as_slice.ensures.value c.in_ok-spread.ensures.exact) n c.args.numbered.now.list.items list (passed_to made.items n) are
+    (subst (λ (ns : List ℕ). IsChosen spread ns n (passed_to made.items n)) c.as_slice-2.ensures.value (chosen n lt)))
+    c.choose.ensures.chosen
