@@ -1,5 +1,10 @@
+pub mod Adding
 pub mod Chosen
+pub mod Collecting
+pub mod Gathering
+pub mod Keying
 pub mod Numbers
 pub mod Pairs
 pub mod Rowing
 pub mod Spreading
+pub mod Writers

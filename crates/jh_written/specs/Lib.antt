@@ -1,2 +1,4 @@
 pub mod Arising
 pub mod Chosen
+pub mod Keys
+pub mod Methods

@@ -11,7 +11,7 @@ use jh_spread::{Edges, FactList};
 use std::alloc::Global;
 
 /// The row of a number, or none.
-fn row_of(rows: &[Row<usize>], number: usize) -> &[usize]
+pub fn row_of(rows: &[Row<usize>], number: usize) -> &[usize]
     ensures { result.now ≡ passed_to rows.now number }
 {
     match rows.get(number) {

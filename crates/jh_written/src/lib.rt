@@ -5,8 +5,16 @@
 mod arising;
 mod choosing;
 mod flow;
+mod keys;
+mod methods;
 mod numbering;
+mod places;
 mod rows;
+mod writing;
 
 pub use arising::all_places;
 pub use flow::{Flow, Given, Key, Link};
+pub use keys::key_list;
+pub use methods::{Listed, Methods, methods_of};
+pub use places::MethodPlaces;
+pub use writing::written;
