@@ -41,7 +41,8 @@ fn add_new<'a>(
     ensures classes { OnOk result (length made.new.numbers.maps.items ≡ length made.old.numbers.maps.items) }
 {
     let place = made.list.as_slice().len();
-    made.numbers.put(alloc, class, method.name.text.text(), place)?;
+    made.numbers
+        .put(alloc, class, method.name.text.text(), place)?;
     made.list.push(Listed { class, method })?;
     Ok(())
 }

@@ -53,12 +53,7 @@ fn give_all(
 }
 
 /// Links the methods that are called to one that calls them.
-fn link_all(
-    flow: &mut Flow,
-    numbers: &Numbers,
-    to: usize,
-    calls: &[Callee],
-) -> Result<(), NoMemory>
+fn link_all(flow: &mut Flow, numbers: &Numbers, to: usize, calls: &[Callee]) -> Result<(), NoMemory>
     ensures { OnOk result (Adds flow.old flow.new [] (links_to numbers.now to (calls_in calls.now))) }
 {
     for call in calls {

@@ -30,7 +30,7 @@ returns c =
     (λ made. Adds mid new [] (links_to numbers n (calls_in c.as_slice-2.result.now)))
     (λ made. Adds old new (given_by p n (callee_of listed)) (links_by p numbers n (callee_of listed)))
     (λ made h.
-        subst (λ (cs : List w.Callee). Adds old new (given_by p n (callee_of listed)) (links_to numbers n cs)) calls
-        (subst (λ (ws : List w.Written). Adds old new (given_to p n ws) (links_to numbers n (calls_in c.as_slice-2.result.now))) writes
-        (adds-both old mid new (given_to p n (writes_in c.as_slice.result.now)) (links_to numbers n (calls_in c.as_slice-2.result.now)) c.in_ok-give_all.ensures h)))
+    subst (λ (cs : List w.Callee). Adds old new (given_by p n (callee_of listed)) (links_to numbers n cs)) calls
+    (subst (λ (ws : List w.Written). Adds old new (given_to p n ws) (links_to numbers n (calls_in c.as_slice-2.result.now))) writes
+    (adds-both old mid new (given_to p n (writes_in c.as_slice.result.now)) (links_to numbers n (calls_in c.as_slice-2.result.now)) c.in_ok-give_all.ensures h)))
     c.link_all.ensures

@@ -32,7 +32,7 @@ returns c =
     let links = gathered_from (links_by p methods.numbers) 0 (callees methods.list.items) in
     all-written p methods.numbers methods.list.items c.in_ok-methods.ensures.numbered c.in_ok-methods.ensures.all rows (all_state p)
     (λ n lt.
-        subst (λ (xs : List Key). ArePlaces (Arises given links n) xs (passed_to rows n)) c.in_ok-list.ensures
-        (subst (λ (gs : List Given). ArePlaces (Arises gs links n) list (passed_to rows n)) c.in_ok-flow.ensures.given
-        (subst (λ (ls : List Link). ArePlaces (Arises flow.given.items ls n) list (passed_to rows n)) c.in_ok-flow.ensures.links
-        (c.in_ok-rows.ensures.places n (subst (λ (k : ℕ). n < k) (sym (ap length c.as_slice.ensures.value)) lt)))))
+    subst (λ (xs : List Key). ArePlaces (Arises given links n) xs (passed_to rows n)) c.in_ok-list.ensures
+    (subst (λ (gs : List Given). ArePlaces (Arises gs links n) list (passed_to rows n)) c.in_ok-flow.ensures.given
+    (subst (λ (ls : List Link). ArePlaces (Arises flow.given.items ls n) list (passed_to rows n)) c.in_ok-flow.ensures.links
+    (c.in_ok-rows.ensures.places n (subst (λ (k : ℕ). n < k) (sym (ap length c.as_slice.ensures.value)) lt)))))
