@@ -54,9 +54,20 @@ def copied(to):
     return texts
 
 
+def headed(text, path, script):
+    """The text with a first line that names its script, where no line does yet."""
+    if 'ritten by tools/' in text:
+        return text
+    return f"{'--' if path.endswith('.antt') else '//'} Written by tools/{script}.py.\n{text}"
+
+
 def run_all(room):
     for script in SCRIPTS:
+        before = {path: os.stat(f'{room}/{path}').st_mtime_ns for path in sources(room)}
         subprocess.run([sys.executable, f'tools/{script}.py', '.'], cwd=room, check=True, stdout=subprocess.DEVNULL)
+        for path in list(sources(room)):
+            if os.stat(f'{room}/{path}').st_mtime_ns != before.get(path):
+                put(f'{room}/{path}', headed(text_of(f'{room}/{path}'), path, script))
 
 
 def laid_out(room, paths):

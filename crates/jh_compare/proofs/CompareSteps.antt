@@ -1,3 +1,4 @@
+-- Written by tools/compare.py.
 -- The test at each constructor, and a form's test at the program's values.
 use Rattle.std.proofs.Common.{◌≡◌, refl, sym, ap, ◌∙◌, ℕ, ℤ, Bool, true, false, ◌&&◌, ◌||◌, nat_eq, List}
 use Rattle.std.specs.Ordering.{int_eq}

@@ -1,3 +1,4 @@
+-- Written by tools/compare.py.
 -- The test decides the relation.
 use Rattle.std.proofs.Common.{◌≡◌, refl, sym, ap, subst, ℕ, ℤ, Bool, true, false, ◌&&◌, ◌||◌, nat_eq}
 use Rattle.std.proofs.lemmas.Bool.{true≢false, eqb-true, eq-eqb}

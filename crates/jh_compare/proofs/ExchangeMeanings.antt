@@ -1,3 +1,4 @@
+-- Written by tools/compare.py.
 -- Exchanging parts for others of the same meaning keeps the meaning.
 use Rattle.std.proofs.Common.{◌≡◌, refl, sym, ap, subst, ◌∙◌, ℕ, zero, suc, ◌<◌, ◌==◌, not, ◌&&◌, ◌||◌, List, [], ◌∷◌, pos, ◌+ℤ◌, ◌-ℤ◌, ◌*ℤ◌, neg_ℤ, int_lt, int_le, arith}
 use Rattle.std.specs.Ordering.{int_eq}

@@ -1,3 +1,4 @@
+-- Written by tools/compare.py.
 -- Comparing past labels is comparing the trees without labels.
 use Rattle.std.proofs.Common.{◌≡◌, refl, ap, ◌∙◌, ℕ, ℤ, Bool, true, false, ◌&&◌, nat_eq}
 use Rattle.std.specs.Ordering.{int_eq}

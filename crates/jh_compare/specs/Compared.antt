@@ -1,3 +1,4 @@
+-- Written by tools/compare.py.
 -- The test of whether a tree is another with some parts exchanged, as the code asks it. Labels are compared, or passed.
 use Rattle.std.specs.Prelude.{ℕ, ℤ, Bool, true, false, ◌&&◌, ◌||◌, nat_eq}
 use Rattle.std.specs.Ordering.{int_eq}

@@ -1,3 +1,4 @@
+-- Written by tools/compare.py.
 -- One tree with some parts exchanged for others.
 use Rattle.std.specs.Prelude.{ℕ, ℤ}
 use Rattle.jh_name.specs.declared.naming.Name.{Name}

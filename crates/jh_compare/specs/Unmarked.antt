@@ -1,3 +1,4 @@
+-- Written by tools/compare.py.
 -- Trees without labels.
 use Rattle.jh_tree.specs.Tree.{TermTree, IntTree, SetTree, FieldTree, ValueTree, FormulaTree, FieldTrees}
 use Rattle.jh_tree.specs.Tree as t

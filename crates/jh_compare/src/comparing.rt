@@ -1,3 +1,4 @@
+// Written by tools/compare.py.
 #![tactic(auto, using(jh_tree::proofs::Steps::tree_steps, crate::proofs::CompareSteps::here_steps, crate::proofs::CompareSteps::compare_steps, crate::proofs::CompareSteps::other_steps))]
 
 ghost use Rattle.std.specs.Prelude.{◌≡◌};

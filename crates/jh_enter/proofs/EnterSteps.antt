@@ -1,3 +1,4 @@
+-- Written by tools/enter.py.
 -- What the arms of entering cite, for each sort.
 use Rattle.jh_tree.proofs.Steps.{term_tree-Bound, term_tree-Free, term_tree-Null, term_tree-Read, int_tree-Const, int_tree-Free, int_tree-Read, int_tree-Add, int_tree-Sub, int_tree-Neg, int_tree-Scale, int_tree-Card, set_tree-Free, set_tree-Read, set_tree-Empty, set_tree-Univ, set_tree-Single, set_tree-Union, set_tree-Inter, set_tree-Diff, set_tree-Compl, set_tree-Compr, field_tree-Free, field_tree-Update, formula_tree-True, formula_tree-False, formula_tree-Free, formula_tree-Read, formula_tree-Not, formula_tree-And, formula_tree-Or, formula_tree-Implies, formula_tree-Iff, formula_tree-All, formula_tree-Ex, formula_tree-EqObj, formula_tree-EqInt, formula_tree-EqSet, formula_tree-Less, formula_tree-LessEq, formula_tree-Divides, formula_tree-Member, formula_tree-Subset, formula_tree-Reach, formula_tree-Tree, formula_tree-Mark, value_tree-Obj, value_tree-Int, value_tree-Bool, value_tree-Set, value_tree-Field}
 use Rattle.jh_table.proofs.NodeSteps.{fits-Bound, tree-Bound, fits-FreeObject, tree-FreeObject, fits-Null, tree-Null, fits-ReadObject, tree-ReadObject, fits-Const, tree-Const, fits-FreeNumber, tree-FreeNumber, fits-ReadNumber, tree-ReadNumber, fits-Add, tree-Add, fits-Sub, tree-Sub, fits-Neg, tree-Neg, fits-Scale, tree-Scale, fits-Card, tree-Card, fits-FreeSet, tree-FreeSet, fits-ReadSet, tree-ReadSet, fits-Empty, tree-Empty, fits-Univ, tree-Univ, fits-Single, tree-Single, fits-Union, tree-Union, fits-Inter, tree-Inter, fits-Diff, tree-Diff, fits-Compl, tree-Compl, fits-Compr, tree-Compr, fits-FreeField, tree-FreeField, fits-Update, tree-Update, fits-True, tree-True, fits-False, tree-False, fits-FreeTruth, tree-FreeTruth, fits-ReadTruth, tree-ReadTruth, fits-Negation, tree-Negation, fits-And, tree-And, fits-Or, tree-Or, fits-Implies, tree-Implies, fits-Iff, tree-Iff, fits-All, tree-All, fits-Ex, tree-Ex, fits-EqObject, tree-EqObject, fits-EqNumber, tree-EqNumber, fits-EqSet, tree-EqSet, fits-Less, tree-Less, fits-LessEqual, tree-LessEqual, fits-Divides, tree-Divides, fits-Member, tree-Member, fits-Subset, tree-Subset, fits-Mark, tree-Mark}

@@ -1,3 +1,4 @@
+-- Written by tools/enter.py.
 -- Which formulas are atoms: no constants, connectives, quantifiers or labels.
 use Rattle.std.specs.Prelude.{Bool, true, false}
 use Rattle.jh_tree.specs.declared.form.Formula.{Formula}

@@ -1,3 +1,4 @@
+// Written by tools/enter.py.
 ghost use Rattle.std.specs.Prelude.{◌≡◌, true, IfOk, Some, slice_get};
 ghost use Rattle.jh_tree.specs.Tree.{of_object, of_number, of_truth, of_set, of_field};
 ghost use Rattle.jh_tree.specs.Bare.{term_tree, int_tree, set_tree, field_tree, value_tree, formula_tree, list_tree};

@@ -1,3 +1,4 @@
+-- Written by tools/rewrite.py.
 -- The meaning of a rewritten tree: where what stands for each leaf and each whole part keeps its meaning,
 -- the whole does.
 use Rattle.std.proofs.Common.{◌≡◌, refl, ap, ◌∙◌, ℕ, suc, ◌+◌, ◌≤◌, ◌==◌, Bool, not, ◌&&◌, ◌||◌, List, ◌∷◌, length, ℤ, pos, ◌+ℤ◌, ◌-ℤ◌, ◌*ℤ◌, neg_ℤ, int_lt, int_le, Option, Some, None}

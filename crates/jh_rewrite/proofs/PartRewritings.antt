@@ -1,3 +1,4 @@
+-- Written by tools/rewrite.py.
 -- What the answers for the parts of a shape say.
 use Rattle.std.proofs.Common.{◌≡◌, refl, sym, ap, subst, add-zero, ◌∙◌, ℕ, ◌+◌, true, List, [], ◌∷◌, ◌++◌, length, slice_get, slice_index, Option, Some, None, is_some, option_map, arith}
 use Rattle.std.proofs.lemmas.Bool.{true≢false}

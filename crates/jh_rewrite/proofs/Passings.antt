@@ -1,3 +1,4 @@
+-- Written by tools/rewrite.py.
 -- The free names of a shape's tree pass a test: at a part that is no leaf exactly where those of its parts do, and at a leaf
 -- where its own does.
 use Rattle.std.proofs.Common.{◌≡◌, refl, sym, ap, ◌∙◌, ℕ, ◌<◌, Bool, true, false, ◌&&◌, List, length, slice_get, Option, Some, None, is_some}

@@ -1,3 +1,4 @@
+-- Written by tools/rewrite.py.
 -- A shape with the answers for its parts in their places is the rewritten shape.
 use Rattle.std.proofs.Common.{◌≡◌, refl, sym, ap, ◌∙◌, ℕ, ◌+◌, true, false, ◌&&◌, List, [], ◌∷◌, slice_get, slice_index, Some, None, is_some, ℤ}
 use Rattle.std.proofs.lemmas.Bool.{true≢false}

@@ -1,3 +1,4 @@
+-- Written by tools/rewrite.py.
 -- The rules of a substitution, over a table.
 use Rattle.std.proofs.Common.{◌≡◌, refl, sym, ap, ℕ, Bool, true, false, if◌then◌else◌, List, slice_get, is_some}
 use Rattle.std.proofs.lemmas.Bool.{true≢false}

@@ -1,3 +1,4 @@
+-- Written by tools/rewrite.py.
 -- Where only leaves are exchanged, the rewritten tree is the mapped one; and a whole part becomes what
 -- stands for it.
 use Rattle.std.proofs.Common.{◌≡◌, refl, ap, ℕ, ◌+◌, false, List, Option, Some}

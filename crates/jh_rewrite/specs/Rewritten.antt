@@ -1,3 +1,4 @@
+-- Written by tools/rewrite.py.
 -- A tree with each leaf exchanged for what a map of leaves gives for it, and some whole parts for what
 -- stands for them.
 use Rattle.std.specs.Prelude.{◌≡◌, ℕ, ◌+◌, ◌≤◌, List, length, Option, Some, None}

@@ -1,3 +1,4 @@
+-- Written by tools/table.py.
 -- The parts of a shape that fits stand in the list.
 use Rattle.std.proofs.Common.{◌≡◌, refl, sym, ℕ, zero, suc, ◌<◌, true, List, [], ◌∷◌, ◌++◌, length, slice_get, Some, None, is_some, arith}
 use Rattle.std.specs.Prelude.{Option}

@@ -1,3 +1,4 @@
+-- Written by tools/table.py.
 -- The parts of a node are nodes of the table, also as parts of a tree.
 use Rattle.std.proofs.Common.{◌≡◌, refl, sym, ℕ, true, List, [], ◌∷◌, slice_get, Some, None, is_some}
 use Rattle.std.specs.Prelude.{Option}

@@ -1,3 +1,4 @@
+-- Written by tools/table.py.
 -- The size and the depth of a shape's tree, from those of its parts.
 use Rattle.std.proofs.Common.{◌≡◌, refl, sym, ap, ◌∙◌, ℕ, ◌+◌, true, List, [], ◌∷◌, ◌++◌, slice_get, Some, None, max, arith}
 use Rattle.std.specs.Prelude.{Option}

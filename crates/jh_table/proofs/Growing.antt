@@ -1,3 +1,4 @@
+-- Written by tools/table.py.
 -- A shape that fits keeps its tree, its parts and that it fits, where the table grows.
 use Rattle.std.proofs.Common.{◌≡◌, refl, sym, ap, ◌∙◌, ℕ, true, ◌&&◌, List, [], ◌∷◌, ◌++◌, slice_get, Some, None, is_some}
 use Rattle.std.specs.Prelude.{Option}

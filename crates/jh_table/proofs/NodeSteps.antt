@@ -1,3 +1,4 @@
+-- Written by tools/table.py.
 -- The tree of a shape whose parts are known, and that it fits.
 use Rattle.std.proofs.Common.{◌≡◌, refl, ap, ◌∙◌, ℕ, ℤ, true, ◌&&◌, List, slice_get, Some, is_some}
 use Rattle.jh_name.specs.declared.naming.Name.{Name}

@@ -1,3 +1,4 @@
+-- Written by tools/table.py.
 -- What is known of the parts of a shape that fits.
 use Rattle.std.proofs.Common.{◌≡◌, ℕ, ℤ, true, ◌&&◌, List, slice_get, is_some}
 use Rattle.jh_tree.specs.Tree.{ValueTree}

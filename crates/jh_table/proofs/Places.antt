@@ -1,3 +1,4 @@
+-- Written by tools/table.py.
 -- The place of a tree, from the places of its parts. So no two places hold the same tree.
 use Rattle.std.proofs.Common.{◌≡◌, refl, sym, ap, ◌∙◌, ℕ, true, List, [], ◌∷◌, slice_get, Some, None, is_some}
 use Rattle.std.specs.Prelude.{Option}

@@ -1,3 +1,4 @@
+-- Written by tools/table.py.
 -- The derived test of equality of shapes: it says true of a shape and itself, and of no two.
 use Rattle.std.proofs.Common.{◌≡◌, refl, sym, ℕ, ℤ, true, rules}
 use Rattle.std.proofs.lemmas.Bool.{true≢false}

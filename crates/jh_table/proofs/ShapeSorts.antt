@@ -1,3 +1,4 @@
+-- Written by tools/table.py.
 -- The sort of a shape is that of its tree.
 use Rattle.std.proofs.Common.{◌≡◌, refl, ap, ℕ, ℤ, List, Option, Some}
 use Rattle.jh_name.specs.declared.place.Sort.TheVariants as Sort

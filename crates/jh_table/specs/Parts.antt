@@ -1,3 +1,4 @@
+-- Written by tools/table.py.
 -- The parts of a shape, in order: the fields of its list first.
 use Rattle.std.specs.Prelude.{◌≡◌, ℕ, ◌<◌, Bool, true, false, List, [], ◌∷◌, ◌++◌, length, Option, slice_get, Some, None, slice_index}
 use Rattle.jh_table.specs.Entries.{the_list}

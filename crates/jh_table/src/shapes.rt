@@ -1,3 +1,4 @@
+// Written by tools/table.py.
 #![tactic(auto, unfolding(crate::specs::Parts::own_parts, crate::specs::Parts::list_of, crate::specs::Parts::binders, crate::specs::Parts::put))]
 
 ghost use Rattle.std.specs.Prelude.{◌≡◌, ◌<◌, Some, length, slice_get};

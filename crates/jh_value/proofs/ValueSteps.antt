@@ -1,3 +1,4 @@
+-- Written by tools/value.py.
 -- What the functions that make boxed terms and formulas cite of the shape of a node.
 use Rattle.std.proofs.Common.{◌≡◌, refl, sym, ap, ◌∙◌, ℕ, ◌<◌, ℤ, true, [], ◌∷◌, length, slice_get, is_some}
 use Rattle.std.proofs.lemmas.Bool.{true≢false}

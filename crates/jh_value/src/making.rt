@@ -1,3 +1,4 @@
+// Written by tools/value.py.
 ghost use Rattle.std.specs.Prelude.{◌≡◌, ◌<◌, true, IfOk, length, slice_get};
 ghost use Rattle.jh_tree.specs.Bare.{term_tree, int_tree, set_tree, field_tree, value_tree, formula_tree, list_tree};
 ghost use Rattle.jh_table.specs.declared.shapes.Shape.TheVariants as s;

@@ -1,3 +1,4 @@
+// Written by tools/walk_code.py.
 #![tactic(auto, using(jh_tree::proofs::Steps::tree_steps, crate::proofs::SizeSteps::size_steps))]
 
 ghost use Rattle.std.specs.Prelude.{◌≡◌, ◌-◌, ◌^◌, min};

@@ -1,3 +1,4 @@
+-- Written by tools/enter.py.
 use Rattle.std.proofs.Common.{◌≡◌, rules, refl, ap, sym, ◌∙◌, Some, slice_get, SFits, to_z, of_z, w64}
 use Rattle.std.proofs.lemmas.Int.{to_z-of_z}
 use Rattle.jh_tree.specs.Tree.{FieldTree, ValueTree, of_object, of_number, of_truth, of_set, of_field}

@@ -1,3 +1,4 @@
+-- Written by tools/value.py.
 use Rattle.std.proofs.Common.{◌≡◌, rules, arith, ◌<◌, true, slice_get, get_or}
 use Rattle.jh_table.specs.Entries.{is_field}
 use Rattle.jh_table.specs.Nodes.{nodes}

@@ -1,3 +1,4 @@
+-- Written by tools/value.py.
 use Rattle.std.proofs.Common.{◌≡◌, ◌+◌, ◌*◌, drop}
 use Rattle.jh_table.specs.Entries.{fields_at}
 use Rattle.jh_table.specs.Nodes.{nodes}
