@@ -15,4 +15,3 @@ pub mod Rights
 pub mod Verifying
 pub mod Lines
 pub mod Findings
-mod Sources

@@ -4,7 +4,6 @@ use Rattle.jh_name.specs.declared.place.Place.{Place}
 use Rattle.jh_lex.specs.declared.token.Token.{Token}
 use Rattle.jh_lex.specs.declared.error.LexError.TheVariants as lex
 use Rattle.jh_lex.specs.Lexes.{Lexes, IsFirstFault}
-use Rattle.jh_ast.specs.declared.word.Word.{Word}
 use Rattle.jh_ast.specs.Programs.{ProgramTree}
 use Rattle.jh_nest.specs.Nesting.{AllShallow, IsFirstDeep}
 use Rattle.jh_parse.specs.Members as grammar
@@ -72,12 +71,6 @@ IsWhy bytes (refusal.Mistyped rule p) = IsMistyped bytes rule p
 IsWhy bytes (refusal.Cyclic name) = IsCircular bytes name.text
 IsWhy bytes refusal.Unbuilt = IsUnbuilt bytes
 IsWhy bytes refusal.Memory = Unit {0}
-
--- a refusal is that for a cyclic variable of this word, or want of memory
-abbrev pub IsNamed : Word → Refusal → Type 0
-IsNamed w (refusal.Cyclic name) = name ≡ w.text
-IsNamed w refusal.Memory = Unit {0}
-IsNamed w _ = ⊥
 
 -- a refusal is that for a cyclic variable of the tree, the first in the text, or want of memory
 abbrev pub IsLoopOf : ProgramTree → Refusal → Type 0

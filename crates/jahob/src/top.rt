@@ -10,9 +10,10 @@ ghost use Rattle.jahob.specs.Verify.{Spells, IsReport, Verifies, Reports};
 ghost use Rattle.jh_ast.specs.Bare.{program_tree};
 ghost use Rattle.jh_lex.specs.Lexes.{Lexes};
 ghost use Rattle.jahob.specs.Checked.{is_well_named};
+ghost use Rattle.jh_ast.specs.Programs.{ProgramTree as SourceTree};
 ghost use Rattle.jh_vars.specs.Reading.{IsAcyclic};
-ghost use Rattle.jh_defined.specs.Answered.{IsOpening};
-ghost use Rattle.jahob.specs.Refusals.{Parses, IsTyped, IsWhy, IsNamed, IsLoopOf, refusal_of};
+ghost use Rattle.jh_unfold.specs.Holding.{IsCause};
+ghost use Rattle.jahob.specs.Refusals.{Parses, IsTyped, IsWhy, IsLoopOf, refusal_of};
 ghost use Rattle.jahob.specs.Subset.{program_of};
 ghost use Rattle.jahob.specs.Causes.{fault_text, refused_text, mistyped_text, circular_text, IsRefusal, IsIllness, IsLoop, IsReply, IsFault, FitsBytes, FitsFile, Fits, Takes, Delivered, HaveNoFault, reply_due, Answered, Exact};
 
@@ -27,16 +28,15 @@ use crate::subset::subset_program;
 use crate::tree::{Member, Method, Program};
 use crate::words::file_of;
 use crate::wp::wp;
-use jh_ast::{Program as Source, Word};
-use jh_defined::{Opening, in_order};
+use jh_ast::Program as Source;
 use jh_files::{FileFault, Files, Sink, put_all};
 use jh_form::Formula;
 use jh_lex::{LexError, Token, tokens};
 use jh_name::{MethodId, Name, NoMemory, Place};
 use jh_parse::program;
 use jh_spec::ParseError;
-use jh_tables::lookups_of;
 use jh_type::{TypeError, Typed, check};
+use jh_unfold::{Unfolded, VarsError, unfold};
 use std::alloc::Global;
 
 /// The most bytes that a source may have.
@@ -188,34 +188,25 @@ fn typed(alloc: Global, bytes: &[u8]) -> Result<Typed, Refusal>
     }
 }
 
-/// The name of a word, as it is in a refusal.
-fn cyclic(alloc: Global, word: &Word) -> Refusal
-    ensures { IsNamed word.now result }
+/// Why a source that isn't unfolded isn't verified.
+fn loop_of(fault: VarsError) -> Refusal
+    ensures { (tree : SourceTree) → IsCause tree fault → IsLoopOf tree result }
 {
-    match word.text.copy(alloc) {
-        Ok(name) => Refusal::Cyclic(name),
-        Err(NoMemory) => Refusal::Memory,
+    match fault {
+        VarsError::CyclicDef(name) => Refusal::Cyclic(name),
+        VarsError::Memory => Refusal::Memory,
     }
 }
 
-/// Whether the definitions of a program have an order, or the first variable whose definition reads it.
-fn opening_of<'a>(alloc: Global, source: &'a Typed) -> Result<Opening<'a>, NoMemory>
-    ensures { IfOk result (IsOpening (program_tree source.now)) }
+/// A source without cyclic variables, with its formulas.
+fn unfolded(alloc: Global, source: Typed) -> Result<Unfolded, Refusal>
+    ensures same { IfOk result (λ made. made.program ≡ source) }
+    ensures acyclic { IfOk result (λ made. IsAcyclic (program_tree source)) }
+    ensures why { IfErr result (IsLoopOf (program_tree source)) }
 {
-    let program = source.program();
-    let lookups = lookups_of(alloc, program)?;
-    in_order(alloc, &lookups, program.classes.items())
-}
-
-/// A source without cyclic variables.
-fn acyclic(alloc: Global, source: &Typed) -> Result<(), Refusal>
-    ensures acyclic { OnOk result (IsAcyclic (program_tree source.now)) }
-    ensures why { IfErr result (IsLoopOf (program_tree source.now)) }
-{
-    match opening_of(alloc, source) {
-        Ok(Opening::Ordered(_)) => Ok(()),
-        Ok(Opening::Cyclic(word)) => Err(cyclic(alloc, word)),
-        Err(NoMemory) => Err(Refusal::Memory),
+    match unfold(alloc, source) {
+        Ok(made) => Ok(made),
+        Err(refused) => Err(loop_of(refused.fault)),
     }
 }
 
@@ -226,8 +217,8 @@ fn read(alloc: Global, bytes: &[u8]) -> Result<Program, Refusal>
     ensures why { IfErr result (IsWhy bytes.now) }
 {
     let source = typed(alloc, bytes)?;
-    acyclic(alloc, &source)?;
-    match built(alloc, source.program()) {
+    let source = unfolded(alloc, source)?;
+    match built(alloc, source.typed().program()) {
         Ok(program) => Ok(program),
         Err(ReadError::Refused) => Err(Refusal::Unbuilt),
         Err(ReadError::Memory) => Err(Refusal::Memory),
