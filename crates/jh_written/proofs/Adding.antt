@@ -1,5 +1,5 @@
 -- What is given and linked, as more is added.
-use Rattle.std.proofs.Common.{◌≡◌, refl, sym, ap, ◌∙◌, List, [], ◌∷◌, ◌++◌, append_assoc, append-nil}
+use Rattle.std.proofs.Common.{sym, ap, ◌∙◌, List, [], ◌++◌, append_assoc, append-nil}
 use Rattle.jh_written.specs.declared.flow.Flow.{Flow}
 use Rattle.jh_written.specs.declared.flow.Given.{Given}
 use Rattle.jh_written.specs.declared.flow.Link.{Link}

@@ -7,7 +7,7 @@ use Rattle.jh_rules.specs.Words.{text_of}
 use Rattle.jh_state.specs.States.{class_sets, members, state_list, class_states, member_state}
 use Rattle.jh_vars.specs.Resolved.{own}
 use Rattle.jh_vars.specs.States.{class_text}
-use Rattle.jh_vars.specs.Written.{Written, Piece, pieces_of, all_state, written_name}
+use Rattle.jh_vars.specs.Written.{Written, Piece, pieces_of, all_state}
 use Rattle.jh_vars.specs.Written as w
 use Rattle.jh_written.specs.declared.flow.Key.{Key}
 use Rattle.jh_written.specs.Keys.{key_of, key_of_state}

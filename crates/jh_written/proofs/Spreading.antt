@@ -1,10 +1,10 @@
 -- What spreads over the numbers of keys is what arises, and stands at the places that are chosen.
-use Rattle.std.proofs.Common.{◌≡◌, refl, sym, ap, subst, ◌∙◌, ◌⊎◌, inl, inr, ◌↔◌, ℕ, zero, suc, ◌<◌, ◌≤◌, ◌||◌, ◌&&◌, Bool, true, false, nat_eq, if◌then◌else◌, rules, List, [], ◌∷◌, ◌++◌, map, length, option_map, get_or, slice_get, Option, Some, None, arith}
+use Rattle.std.proofs.Common.{◌≡◌, refl, sym, ap, subst, ◌∙◌, ◌⊎◌, inl, inr, ◌↔◌, ℕ, zero, suc, ◌<◌, ◌≤◌, ◌||◌, ◌&&◌, Bool, true, false, nat_eq, if◌then◌else◌, rules, List, [], ◌∷◌, ◌++◌, length, slice_get, Option, Some, None, arith}
 use Rattle.std.specs.List.{list_any, IsDistinct}
 use Rattle.std.specs.Option.{option_map_or}
 use Rattle.std.proofs.lemmas.Bool.{true≢false}
 use Rattle.std.proofs.lemmas.Map.Keys.{apart_from_distinct}
-use Rattle.std.proofs.lemmas.Option.{slice_get_within, slice_get-get_or, get_or_from_slice_get}
+use Rattle.std.proofs.lemmas.Option.{slice_get_within, get_or_from_slice_get}
 use Rattle.jh_spread.specs.declared.facts.Fact.{Fact}
 use Rattle.jh_spread.specs.Spreads.{IsIn, Spreads, given, passed, passed_to}
 use Rattle.jh_written.specs.declared.flow.Key.{Key}

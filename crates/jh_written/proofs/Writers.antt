@@ -1,6 +1,6 @@
 -- What arises of what methods write and call themselves is what they may write.
-use Rattle.std.proofs.Common.{◌≡◌, refl, sym, ap, subst, ◌∙◌, ◌↔◌, ℕ, zero, suc, ◌+◌, ◌<◌, ◌++◌, Bool, true, false, if◌then◌else◌, List, [], ◌∷◌, map, length, IsTrue, slice_get, Option, Some, None, arith}
-use Rattle.std.specs.List.{flat_map, Contains}
+use Rattle.std.proofs.Common.{◌≡◌, refl, sym, ap, subst, ◌∙◌, ◌↔◌, ℕ, zero, suc, ◌+◌, ◌<◌, ◌++◌, true, false, List, [], ◌∷◌, map, length, slice_get, Option, Some, None, arith}
+use Rattle.std.specs.List.{flat_map}
 use Rattle.std.specs.Option.{option_map_or}
 use Rattle.std.proofs.lemmas.Bool.{true≢false}
 use Rattle.std.proofs.lemmas.List.{length-map}
@@ -20,8 +20,8 @@ use Rattle.jh_written.specs.Arising as a
 use Rattle.jh_written.specs.Arising.{Arises, ArePlaces, passes_at}
 use Rattle.jh_written.specs.Chosen.{places_below}
 use Rattle.jh_written.specs.Keys.{key_of}
-use Rattle.jh_written.specs.Methods.{callee, callee_of, callees, AreMethods, AreNumbered, AreAll, gathered_from, given_to, given_by, link_to, links_to, links_by}
-use Rattle.jh_written.proofs.Gathering.{some-is, none-some, nothing-in, contains-in, in-contains, map-of, in-map, map-back, flat-of, in-flat, gathered-of, in-gathered}
+use Rattle.jh_written.specs.Methods.{callee_of, callees, AreNumbered, AreAll, gathered_from, given_by, link_to, links_by}
+use Rattle.jh_written.proofs.Gathering.{some-is, nothing-in, contains-in, in-contains, map-of, in-map, flat-of, in-flat, gathered-of, in-gathered}
 use Rattle.jh_written.proofs.Keying.{key-once}
 use Rattle.jh_written.proofs.Spreading.{places-same}
 

@@ -1,5 +1,5 @@
 -- The keys of pieces of state.
-use Rattle.std.specs.Prelude.{ℕ, true, false, List, ◌++◌, Some, None, codes}
+use Rattle.std.specs.Prelude.{true, false, ◌++◌, Some, None, codes}
 use Rattle.jh_ast.specs.Programs.{ProgramTree}
 use Rattle.jh_state.specs.declared.state.StateName.{StateName}
 use Rattle.jh_vars.specs.Resolved.{own}

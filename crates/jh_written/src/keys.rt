@@ -1,6 +1,6 @@
 #![tactic(auto, unfolding(jh_ast::specs::Bare::program_tree, jh_ast::specs::Bare::class_part))]
 
-ghost use Rattle.std.specs.Prelude.{◌≡◌, ◌++◌, map, codes, false, IfOk, Some};
+ghost use Rattle.std.specs.Prelude.{◌≡◌, map, false, IfOk, Some};
 ghost use Rattle.jh_ast.specs.Bare.{program_tree};
 ghost use Rattle.jh_vars.specs.Resolved.{own};
 ghost use Rattle.jh_vars.specs.States as states;

@@ -1,4 +1,4 @@
-use Rattle.std.proofs.Common.{◌≡◌, ◌<◌, ◌↔◌, sym, subst, ◌∙◌, ℕ, List, length}
+use Rattle.std.proofs.Common.{◌<◌, ◌↔◌, sym, subst, ℕ, List}
 use Rattle.std.proofs.lemmas.Result.{IfOk-weaker}
 use Rattle.jh_spread.specs.Spreads.{IsIn, passed_to}
 use Rattle.jh_written.specs.declared.flow.Given.{Given}

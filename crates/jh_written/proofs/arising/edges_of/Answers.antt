@@ -1,4 +1,4 @@
-use Rattle.std.proofs.Common.{◌≡◌, ◌<◌, ◌↔◌, refl, sym, subst, ◌∙◌, ℕ, List, Some, get_or, length, slice_get, arith}
+use Rattle.std.proofs.Common.{◌≡◌, ◌<◌, ◌↔◌, refl, sym, subst, ◌∙◌, ℕ, List, Some, get_or, slice_get, arith}
 use Rattle.std.proofs.lemmas.Result.{IfOk-weaker}
 use Rattle.jh_spread.specs.Spreads.{IsIn, passed_to}
 use Rattle.jh_spread.proofs.Places.{item-get, is-in-item}

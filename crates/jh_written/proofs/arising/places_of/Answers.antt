@@ -1,4 +1,4 @@
-use Rattle.std.proofs.Common.{◌≡◌, ◌↔◌, ◌<◌, sym, ap, subst, ◌∙◌, ℕ, List, length}
+use Rattle.std.proofs.Common.{◌↔◌, ◌<◌, sym, subst, ℕ, List, length}
 use Rattle.std.proofs.lemmas.Result.{IfOk-weaker}
 use Rattle.jh_spread.specs.declared.facts.Fact.{Fact}
 use Rattle.jh_spread.specs.Spreads.{IsIn, Spreads, passed_to}

@@ -1,8 +1,8 @@
-use Rattle.std.proofs.Common.{◌≡◌, ◌<◌, ◌≤◌, sym, ap, subst, ◌∙◌, refl, ℕ, List, nat_eq, if◌then◌else◌, get_or, length, arith}
+use Rattle.std.proofs.Common.{◌≡◌, ◌<◌, sym, ap, subst, ◌∙◌, ℕ, nat_eq, get_or, length, arith}
 use Rattle.std.specs.List.{list_any}
 use Rattle.std.proofs.lemmas.Result.{IfOk-weaker}
 use Rattle.jh_spread.specs.Spreads.{passed_to}
-use Rattle.jh_written.specs.Chosen.{IsChosen, places_below, put_last}
+use Rattle.jh_written.specs.Chosen.{IsChosen}
 use Rattle.jh_written.proofs.Chosen.{test_at, chosen-none, chosen-next, chosen-end}
 use Rattle.jh_written.proofs.choosing.choose.Goals as goal
 

@@ -1,4 +1,4 @@
-use Rattle.std.proofs.Common.{◌≡◌, ◌<◌, sym, ap, subst, ◌∙◌, refl, ℕ, get_or, length, arith}
+use Rattle.std.proofs.Common.{◌<◌, sym, subst, ◌∙◌, refl, ℕ, get_or, arith}
 use Rattle.jh_spread.specs.Spreads.{passed_to}
 use Rattle.jh_written.proofs.Rowing.{put-next, put-end}
 use Rattle.jh_written.proofs.choosing.put_all.Goals as goal

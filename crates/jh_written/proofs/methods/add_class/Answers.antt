@@ -1,4 +1,4 @@
-use Rattle.std.proofs.Common.{◌≡◌, inr, refl, ◌∙◌, Some, length, slice_get, arith}
+use Rattle.std.proofs.Common.{◌≡◌, inr, refl, ◌∙◌, Some, slice_get, arith}
 use Rattle.jh_rules.specs.Words.{text_of}
 use Rattle.jh_numbers.proofs.Puttings.{item-is}
 use Rattle.jh_written.proofs.Collecting.{method-fresh, take-none, take-end, all-next, both-others}

@@ -1,4 +1,4 @@
-use Rattle.std.proofs.Common.{sym, ap, subst, ◌∙◌, ◌++◌, ◌∷◌, [], ℕ, List}
+use Rattle.std.proofs.Common.{sym, subst, ◌++◌, ◌∷◌, [], List}
 use Rattle.jh_spread.specs.declared.facts.Fact.{Fact}
 use Rattle.jh_written.specs.Arising.{AreTold}
 use Rattle.jh_written.proofs.Numbers.{told-push, told-keeps}

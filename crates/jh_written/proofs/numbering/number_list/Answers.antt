@@ -1,4 +1,4 @@
-use Rattle.std.proofs.Common.{sym, ap, subst, ◌∙◌, ◌++◌, ◌∷◌, [], ℕ, List}
+use Rattle.std.proofs.Common.{sym, subst, ◌++◌, ◌∷◌, [], ℕ, List}
 use Rattle.jh_written.specs.Arising.{AreNumbers}
 use Rattle.jh_written.proofs.Numbers.{numbers-push, numbers-keep}
 use Rattle.jh_written.proofs.numbering.number_list.Goals as goal

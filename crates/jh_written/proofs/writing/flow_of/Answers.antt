@@ -1,4 +1,4 @@
-use Rattle.std.proofs.Common.{◌≡◌, sym, ap, ◌∙◌, ℕ, List, Some, ◌+◌, ◌≤◌, ◌++◌, length, slice_get, arith}
+use Rattle.std.proofs.Common.{◌≡◌, sym, ap, ◌∙◌, ℕ, List, Some, ◌+◌, ◌++◌, length, slice_get, arith}
 use Rattle.std.proofs.lemmas.List.{length-map}
 use Rattle.jh_ast.specs.Bare.{program_tree}
 use Rattle.jh_numbers.proofs.Puttings.{item-is}

@@ -1,4 +1,4 @@
-use Rattle.std.proofs.Common.{◌≡◌, ◌<◌, sym, ap, subst, ◌∙◌, ℕ, List, map, length}
+use Rattle.std.proofs.Common.{◌<◌, sym, ap, subst, ℕ, List, length}
 use Rattle.jh_ast.specs.Bare.{program_tree}
 use Rattle.jh_spread.specs.Spreads.{IsIn, passed_to}
 use Rattle.jh_vars.specs.Written.{all_state}
@@ -6,7 +6,6 @@ use Rattle.jh_written.specs.declared.flow.Given.{Given}
 use Rattle.jh_written.specs.declared.flow.Key.{Key}
 use Rattle.jh_written.specs.declared.flow.Link.{Link}
 use Rattle.jh_written.specs.Arising.{Arises, ArePlaces}
-use Rattle.jh_written.specs.Keys.{key_of}
 use Rattle.jh_written.specs.Methods.{callees, gathered_from, given_by, links_by}
 use Rattle.jh_written.proofs.Writers.{links-inside, all-written}
 use Rattle.jh_written.proofs.writing.written.Goals as goal

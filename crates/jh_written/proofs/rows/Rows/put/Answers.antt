@@ -1,5 +1,4 @@
 use Rattle.std.proofs.Common.{◌≡◌, ◌<◌, sym, ap, subst, ◌∙◌, ℕ, List, Some, map, nat_eq, if◌then◌else◌, length, slice_get, slice_set, OnOk}
-use Rattle.std.proofs.lemmas.List.{length-map}
 use Rattle.std.proofs.lemmas.Result.{IfOk-weaker}
 use Rattle.jh_spread.specs.Spreads.{items_of, passed_to}
 use Rattle.jh_spread.proofs.Places.{item-get}
