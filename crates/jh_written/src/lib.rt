@@ -1,5 +1,4 @@
-//! The state that each method may write, itself or by the methods that it calls, and the state that its `modifies`
-//! names.
+//! The state that each method may write, itself or by the methods that it calls.
 #![tactic(auto)]
 
 mod arising;
@@ -14,7 +13,7 @@ mod writing;
 
 pub use arising::all_places;
 pub use flow::{Flow, Given, Key, Link};
-pub use keys::key_list;
+pub use keys::{key_list, member_key};
 pub use methods::{Listed, Methods, methods_of};
 pub use places::MethodPlaces;
 pub use writing::written;
