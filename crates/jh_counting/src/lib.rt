@@ -1,0 +1,12 @@
+//! How many sequents a weakest precondition is split into.
+#![tactic(auto)]
+
+mod capped;
+mod counting;
+mod forms;
+mod goals;
+mod names;
+mod tally;
+
+pub use counting::{MOST_NESTED, count};
+pub use goals::MOST_NODES;
