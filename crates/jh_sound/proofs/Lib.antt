@@ -1,0 +1,4 @@
+pub mod Lists
+pub mod Judged
+pub mod Environment
+pub mod Expressions
