@@ -2,6 +2,7 @@
 -- `Members` and `Classes`.
 use Rattle.std.proofs.Common.{◌≡◌, ℕ, Bool, true, false, List, [], ◌∷◌, ◌++◌, map, Option, Some, None}
 use Rattle.std.specs.List.{Contains}
+use Rattle.jh_ast.specs.declared.word.Param.{Param}
 use Rattle.jh_ast.specs.Programs.{ProgramTree, MethodPart}
 use Rattle.jh_rules.specs.declared.types.Ty.{Ty}
 use Rattle.jh_rules.specs.declared.entries.FieldEntry.{FieldEntry}
@@ -40,6 +41,7 @@ module _ (p : ProgramTree) where
     pub known : type_of (declared_in p).class_named method.result ≡ Some result
     pub entry_result : entry.result ≡ Some result
     pub params : entry.params ≡ map (param_type p) method.params
+    pub params_known : (d : Param) → Contains method.params d → (t : Ty) × (param_type p d ≡ Some t)
 
   pub record Declares : Type 0 where
     pub fields : (n : ℕ) (x : Text) (entry : FieldEntry) → (declared_in p).field_of n x ≡ Some entry → FieldFits n x entry

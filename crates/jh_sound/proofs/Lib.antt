@@ -2,3 +2,9 @@ pub mod Lists
 pub mod Judged
 pub mod Environment
 pub mod Expressions
+pub mod Targets
+pub mod Calls
+pub mod Texts
+pub mod Shaped
+pub mod Statements
+pub mod Bodies
