@@ -2,6 +2,7 @@
 use Rattle.std.proofs.Common.{◌≡◌, refl, sym, ap, ◌∙◌, subst, ℕ, suc, ◌+◌, ◌<◌, ◌≤◌, length, Bool, true, false, if◌then◌else◌, List, [], ◌∷◌, ◌++◌, map, Option, None, Some, codes, arith}
 use Rattle.std.specs.Prelude.{is_some}
 use Rattle.std.specs.List.{Contains}
+use Rattle.std.specs.Option.{option_map_or}
 use Rattle.std.proofs.lemmas.Bool.{true≢false}
 use Rattle.std.proofs.lemmas.List.Elements.{Contains-append_left}
 use Rattle.jh_name.specs.declared.naming.Name.{Name}
@@ -16,6 +17,8 @@ use Rattle.jh_tree.specs.Tree as t
 use Rattle.jh_tree.specs.Meaning.{Interp, Datum, an_object, truth}
 use Rattle.jh_tree.specs.Assigned.{assigned}
 use Rattle.jh_rules.specs.declared.types.Ty.{Ty}
+use Rattle.jh_rules.specs.declared.types.Ty.TheVariants as ty
+use Rattle.jh_rules.specs.Kinds.{is_void as rules-void}
 use Rattle.jh_vars.specs.Written.{Callee}
 use Rattle.jh_wp.specs.Command.{CommandTree}
 use Rattle.jh_wp.specs.Command as w
@@ -58,6 +61,7 @@ use Rattle.jh_logic.proofs.Histories.{gives-then, below-refl, below-trans, Outsi
 use Rattle.jh_logic.proofs.Going.{sure-pay, sure-value}
 use Rattle.jh_logic.proofs.Puts.{IsScalar, Leads, Returned, target_value, target-there}
 use Rattle.jh_logic.proofs.Written.{filter-has, map-has}
+use Rattle.jh_logic.proofs.Bodies.{SafeCalls}
 use Rattle.jh_logic.proofs.Statements.{InScope, Begins, after-changed-later}
 use Rattle.jh_logic.proofs.Renamings.{GivesAt, gives-at, at-then, at-back, truth-read}
 use Rattle.jh_logic.proofs.StateNames.{AllScalar, AllDotless, state-text, written-item, unwritten-text, filter-from, chosen-then, chosen-else, back-state, entered-state, unwritten-state, with-result-other, with-result-last}
@@ -540,3 +544,19 @@ module _ (p : Program) (ws : Writes) (fits : ProgramFits p) (contracts : Contrac
     where
       later : (i j e : ℕ) → k ≤ e + (j + (i + k))
       later i j e = omega arith
+
+guard-void : (result : Ty) → is_void result ≡ rules-void result
+guard-void ty.Int = refl
+guard-void ty.Boolean = refl
+guard-void ty.Void = refl
+guard-void ty.Null = refl
+guard-void ty.Object = refl
+guard-void (ty.Class d) = refl
+
+-- Typed calls are safe.
+module _ (p : Program) (ws : Writes) (fitting : ProgramFits p) (contracts : ContractsFit p) (n : ℕ) (result : Ty) (this : Option ℕ) (R : Interp → Type 0) (respect : Respects R) (call : Callee → ℕ → List Datum → Configuration → Progress) (meets : CallsMeet p ws call) where
+  pub calls-safe : SafeCalls p ws fitting.names n result this R respect call
+  calls-safe place target receiver of m args scope at fits k h r Q q b H =
+      subst (λ (o : Option Method). Holds n k h r.now r.entry (λ z. After R (option_map_or (λ x. call_commands p ws (wf_at p ws this scope) place target receiver of m x args (turns_of p ws (wf_at p ws this scope) target receiver m x args k)) o []) Q z) →
+      Sure (λ u. Leads n (option_map_or (λ x. (turns_of p ws t.true_formula target receiver m x args k).next) o k) u.now u.entry Q) (Returned n R) (exec call (c.call place target receiver of m args) r)) (sym fits.is)
+      (λ G. call-at p ws fitting contracts n result this R respect call meets place target receiver of m fits.method args scope at k h r Q fits.is fits.receiver_fits fits.args_fit (λ e. fits.void (sym (guard-void fits.method.result) ∙ e)) b G) H

@@ -24,7 +24,7 @@ use Rattle.jh_runs.proofs.TypedRuns.{ResultLies, CallsGood}
 use Rattle.jh_runs.proofs.TypedCalls.{MethodEnds, calls-good}
 use Rattle.jh_runs.proofs.TypedMethods.{methods-good}
 use Rattle.jh_guard.specs.Writes.{Writes}
-use Rattle.jh_logic.specs.MethodContracts.{IsValueType, LeavesUnwritten, ContractsFit, Met, Meets, CallsMeet, WritesCover, VoidCalls, IsValid, AreClosed}
+use Rattle.jh_logic.specs.MethodContracts.{IsValueType, LeavesUnwritten, ContractsFit, Met, Meets, CallsMeet, WritesCover, IsValid, AreClosed}
 use Rattle.jh_logic.specs.Histories.{viewed, Respects}
 use Rattle.jh_logic.specs.Sure.{Sure}
 use Rattle.jh_logic.proofs.Histories.{Outside, below-refl}
@@ -75,7 +75,7 @@ scalar-plain (d ∷ ds) h = (one d h.0, scalar-plain ds h.1)
     one (a_set v) h = absurd h
     one (a_field v) h = absurd h
 
-module _ (p : Program) (ws : Writes) (fitting : ProgramFits p) (contracts : ContractsFit p) (covers : WritesCover p ws) (voids : VoidCalls p)
+module _ (p : Program) (ws : Writes) (fitting : ProgramFits p) (contracts : ContractsFit p) (covers : WritesCover p ws)
     (valid : (m : Callee) (x : Method) → p.method m ≡ Some x → IsValid p ws m x) where
   abbrev names : NamesFit p
   names = fitting.names
@@ -89,7 +89,7 @@ module _ (p : Program) (ws : Writes) (fitting : ProgramFits p) (contracts : Cont
     n = s.last
 
     abbrev ended : Interp → Type 0
-    ended = Ended p ws fitting contracts m x is (valid m x is) (closed m x is) (voids m x is)
+    ended = Ended p ws fitting contracts m x is (valid m x is) (closed m x is)
 
     scalar : AllScalar args
     scalar = all-scalar p x.params s args enters.arguments
@@ -133,8 +133,8 @@ module _ (p : Program) (ws : Writes) (fitting : ProgramFits p) (contracts : Cont
       let s : State = r.now in
       let n : ℕ = s.last in
       let call : Callee → ℕ → List Datum → Configuration → Progress = calls depth p in
-      let ended : Interp → Type 0 = Ended p ws fitting contracts m x is (valid m x is) (closed m x is) (voids m x is) in
-      let respect : Respects ended = ended-respects p ws fitting contracts m x is (valid m x is) (closed m x is) (voids m x is) in
+      let ended : Interp → Type 0 = Ended p ws fitting contracts m x is (valid m x is) (closed m x is) in
+      let respect : Respects ended = ended-respects p ws fitting contracts m x is (valid m x is) (closed m x is) in
       let stands : Stands n r = record { now = whole-lies s enters.whole; entry = subst (λ (k : ℕ). Lies k r.entry) last (whole-lies r.entry whole) } in
       let typed : CallsGood p names n call x.result = calls-good p names n call (λ c y g. (fitting.methods c y g).result_type) (methods-good p fitting n depth) (λ first. calls-add first p fitting depth) x.result in
       let body : Configuration → Progress = λ u. exec_all call x.body (at_entry x this args u) in
@@ -142,7 +142,7 @@ module _ (p : Program) (ws : Writes) (fitting : ProgramFits p) (contracts : Cont
       λ i. pay r (λ u. option_map_or (λ (y : Method). exec_all call y.body (at_entry y this args u)) (is i) (goes_on u)) in
       let safe : Sure (λ u. (time : ℕ) × Leads n time u.now u.entry ended) (Returned n ended) (pay r body) =
       sure-pay (λ u. (time : ℕ) × Leads n time u.now u.entry ended) (Returned n ended) r body (λ j paid.
-      body-safe p ws fitting contracts m x is (valid m x is) (closed m x is) (voids m x is) this args r enters call typed (calls-meet depth)
+      body-safe p ws fitting contracts m x is (valid m x is) (closed m x is) this args r enters call typed (calls-meet depth)
       (loops-safe p ws names n x.result x.this ended respect call typed (λ xs first. calls-keep-all p ws names fitting covers depth x.result xs first) (λ first. calls-add first p fitting depth)) j stands) in
       let kept : Ends (BodyKept p ws fitting covers m x this args s) (BodyKeptWith p ws fitting covers m x this args s) (pay r body) =
       pay-kept (BodyKept p ws fitting covers m x this args s) (BodyKeptWith p ws fitting covers m x this args s) r body (λ j. body-keeps p ws fitting covers depth m x is this args (record r { steps = j })) in

@@ -42,7 +42,7 @@ use Rattle.jh_guard.specs.Steps.{fresh, assume_claims, assume_named, copies}
 use Rattle.jh_guard.specs.Calls.{is_void}
 use Rattle.jh_guard.specs.Statements.{stmts_commands, next_turns}
 use Rattle.jh_guard.specs.Methods.{assume_requires, end_commands, method_command}
-use Rattle.jh_logic.specs.MethodContracts.{ContractsFit, CallsMeet, AllVoidsGoNowhere, IsValid}
+use Rattle.jh_logic.specs.MethodContracts.{ContractsFit, CallsMeet, IsValid}
 use Rattle.jh_logic.specs.Histories.{viewed, by_turns, Inner, Respects}
 use Rattle.jh_logic.specs.Reached.{After}
 use Rattle.jh_logic.specs.Sure.{Sure}
@@ -53,7 +53,7 @@ use Rattle.jh_logic.proofs.Going.{sure-map}
 use Rattle.jh_logic.proofs.Stated.{truth-stated}
 use Rattle.jh_logic.proofs.Puts.{Leads, Returned}
 use Rattle.jh_logic.proofs.Statements.{InScope}
-use Rattle.jh_logic.proofs.Bodies.{SafeLoops}
+use Rattle.jh_logic.proofs.Bodies.{SafeLoops, all-safe}
 use Rattle.jh_logic.proofs.Ghosts.{lies-inner}
 use Rattle.jh_logic.proofs.Renamings.{GivesAt, at-then, at-back}
 use Rattle.jh_logic.proofs.StateNames.{AllScalar, AllDotless, item-text, state-text, entered-state, StateText}
@@ -64,7 +64,7 @@ use Rattle.jh_logic.proofs.CallFacts.{seen-claims, after-claims, owed-speak}
 use Rattle.jh_logic.proofs.Arguments.{dotless-params}
 use Rattle.jh_logic.proofs.CallResults.{lies-scalar}
 use Rattle.jh_logic.proofs.Entering.{entry_scope, entry-good}
-use Rattle.jh_logic.proofs.Safety.{stmts-safe}
+use Rattle.jh_logic.proofs.Calls.{calls-safe}
 
 -- an assignment of the value that a name has changes nothing
 same-value : {X : Type 0} (f : Name → X) (y z : Name) (v : X) (b : Bool) → name_equal z y ≡ b → f y ≡ v → (if b then v else f z) ≡ f z
@@ -197,7 +197,7 @@ after-requires-known : (R : Interp → Type 0) (r : Option Claim) (s o g : Inter
 after-requires-known R None s o g Q states e h = h
 after-requires-known R (Some claim) s o g Q states e h = h (truth-stated s o g claim.formula (states claim refl) ∙ e)
 
-module _ (p : Program) (ws : Writes) (fitting : ProgramFits p) (contracts : ContractsFit p) (m : Callee) (x : Method) (is : p.method m ≡ Some x) (valid : IsValid p ws m x) (closed : is_closed_command (method_command p ws m x).body ≡ true) (voids : AllVoidsGoNowhere p x.body) where
+module _ (p : Program) (ws : Writes) (fitting : ProgramFits p) (contracts : ContractsFit p) (m : Callee) (x : Method) (is : p.method m ≡ Some x) (valid : IsValid p ws m x) (closed : is_closed_command (method_command p ws m x).body ≡ true) where
   abbrev names : NamesFit p
   names = fitting.names
 
@@ -287,6 +287,6 @@ module _ (p : Program) (ws : Writes) (fitting : ProgramFits p) (contracts : Cont
           let inner-s : Inner n s = lies-inner n s there.entry in
           sure-map (λ u. (time : ℕ) × Leads n time u.now u.entry Ended) (Returned n Ended) (λ u. Leads n (next_turns p ws x.this x.params x.body 2) u.now u.entry ends) (Returned n Ended) (exec_all call x.body start)
           (λ u l. (next_turns p ws x.this x.params x.body 2, record { history = l.history; inner = l.inner; holds = λ g i b. end-void (is_void x.result) (viewed u.now u.entry g) (l.holds g i b) })) (λ u v g. g)
-          (stmts-safe p ws fitting contracts n x.result x.this Ended ended-respects call meets typed loops x.body voids x.params body-at fit.body 2 s start ends (after-respects Ended ended-respects (end_commands p ws m x) Ended ended-respects)
+          (all-safe p ws names n x.result x.this Ended ended-respects call typed (calls-safe p ws fitting contracts n x.result x.this Ended ended-respects call meets) loops x.body x.params body-at fit.body 2 s start ends (after-respects Ended ended-respects (end_commands p ws m x) Ended ended-respects)
           (record { late = omega arith; inner = inner-s; good = (there, begun-good); scoped = in-scope; fit = params-scope p names x fit })
           (λ g i b. begun-holds g inner inner-s i))

@@ -25,7 +25,6 @@ pub mod Entering
 pub mod Bodily
 pub mod Leavings
 pub mod Returning
-pub mod Safety
 pub mod Entries
 pub mod Closedness
 pub mod Depths

@@ -10,10 +10,10 @@ use Rattle.jh_runs.specs.Execution.{calls}
 use Rattle.jh_runs.specs.Sound.{ReturnsWell, EndsWell, Sound}
 use Rattle.jh_runs.specs.Typed.{ProgramFits}
 use Rattle.jh_guard.specs.Writes.{Writes}
-use Rattle.jh_logic.specs.MethodContracts.{ContractsFit, Met, Meets, WritesCover, VoidCalls, IsValid}
+use Rattle.jh_logic.specs.MethodContracts.{ContractsFit, Met, Meets, WritesCover, IsValid}
 use Rattle.jh_logic.proofs.Depths.{calls-meet}
 
-module _ (p : Program) (ws : Writes) (fitting : ProgramFits p) (contracts : ContractsFit p) (covers : WritesCover p ws) (voids : VoidCalls p)
+module _ (p : Program) (ws : Writes) (fitting : ProgramFits p) (contracts : ContractsFit p) (covers : WritesCover p ws)
     (valid : (m : Callee) (x : Method) → p.method m ≡ Some x → IsValid p ws m x) (Modifies : Callee → Text → Type 0) (names : (m : Callee) (y : Text) → ws.modified m y ≡ true → Modifies m y) where
   met-well : (m : Callee) (x : Method) (this : ℕ) (args : List Datum) (first last : State) (v : Option Datum) → Met p ws m x this args first last v → ReturnsWell p (Modifies m) x first last v
   met-well m x this args first last v met = record {
@@ -36,4 +36,4 @@ module _ (p : Program) (ws : Writes) (fitting : ProgramFits p) (contracts : Cont
   pub sound : Sound p Modifies
   sound m x is first this args enters picks k =
       meets-well m x this args first (calls (suc k) p m this args (record { now = first; entry = first; picks = picks; steps = k }))
-      (calls-meet p ws fitting contracts covers voids valid (suc k) m x is this args (record { now = first; entry = first; picks = picks; steps = k }) enters enters.whole refl)
+      (calls-meet p ws fitting contracts covers valid (suc k) m x is this args (record { now = first; entry = first; picks = picks; steps = k }) enters enters.whole refl)

@@ -8,7 +8,7 @@ use Rattle.jh_runs.specs.Program.{Program, Method}
 use Rattle.jh_runs.specs.Sound.{Sound}
 use Rattle.jh_runs.specs.Typed.{ProgramFits}
 use Rattle.jh_guard.specs.Writes.{Writes}
-use Rattle.jh_logic.specs.MethodContracts.{ContractsFit, WritesCover, VoidCalls, IsValid}
+use Rattle.jh_logic.specs.MethodContracts.{ContractsFit, WritesCover, IsValid}
 
 -- The formulas of all methods of a program are valid.
 abbrev pub AreValid : Program → Writes → Type 0
@@ -22,5 +22,5 @@ NamesAll ws Modifies = (m : Callee) (y : Text) → ws.modified m y ≡ true → 
 -- methods are valid, the program is sound. What the `modifies` of its methods name is said by a source.
 abbrev pub ValidMakesSound : Type 0
 ValidMakesSound =
-    (source : ProgramTree) (p : Program) (ws : Writes) → ProgramFits p → ContractsFit p → WritesCover p ws → VoidCalls p → AreValid p ws →
+    (source : ProgramTree) (p : Program) (ws : Writes) → ProgramFits p → ContractsFit p → WritesCover p ws → AreValid p ws →
     NamesAll ws (ModifiesOf source) → Sound p (ModifiesOf source)

@@ -16,8 +16,7 @@ use Rattle.jh_rules.specs.declared.types.Ty.TheVariants as ty
 use Rattle.jh_rules.specs.Kinds.{kind_of}
 use Rattle.jh_state.specs.States.{sort_of}
 use Rattle.jh_vars.specs.Written.{Callee}
-use Rattle.jh_runs.specs.Code.{Text, Local, Claim, Stmt, Stmts}
-use Rattle.jh_runs.specs.Code as c
+use Rattle.jh_runs.specs.Code.{Text, Local, Claim}
 use Rattle.jh_runs.specs.Program.{Program, Method}
 use Rattle.jh_runs.specs.State.{State, IsWhole, named, this_name, shown}
 use Rattle.jh_runs.specs.Locals.{has_dot, entered}
@@ -143,22 +142,6 @@ CallsMeet p ws call =
 -- What of the state the body of a method may write, itself or by calls, the method may write.
 abbrev pub WritesCover : Program → Writes → Type 0
 WritesCover p ws = (m : Callee) (x : Method) → p.method m ≡ Some x → (y : Item) → Contains (items p) y → stmts_write ws x.body (item_text y) ≡ true → ws.written m (item_text y) ≡ true
-
--- The result of a call of a void method goes nowhere.
-abbrev mutual
-  pub VoidsGoNowhere : Program → Stmt → Type 0
-  VoidsGoNowhere p (c.block body) = AllVoidsGoNowhere p body
-  VoidsGoNowhere p (c.branch q e a b) = VoidsGoNowhere p a × AllVoidsGoNowhere p b
-  VoidsGoNowhere p (c.loop q invariants e body) = VoidsGoNowhere p body
-  VoidsGoNowhere p (c.call q target receiver place m args) = (x : Method) → p.method m ≡ Some x → is_void x.result ≡ true → target ≡ c.nowhere
-  VoidsGoNowhere p s = Unit {0}
-
-  pub AllVoidsGoNowhere : Program → Stmts → Type 0
-  AllVoidsGoNowhere p c.none = Unit {0}
-  AllVoidsGoNowhere p (c.more s ss) = VoidsGoNowhere p s × AllVoidsGoNowhere p ss
-
-abbrev pub VoidCalls : Program → Type 0
-VoidCalls p = (m : Callee) (x : Method) → p.method m ≡ Some x → AllVoidsGoNowhere p x.body
 
 -- The formula of a method is true in every interpretation whose objects are those of its universe.
 abbrev pub IsValid : Program → Writes → Callee → Method → Type 0

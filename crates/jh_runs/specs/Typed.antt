@@ -12,7 +12,7 @@ use Rattle.jh_tree.specs.Passing.{value_passes}
 use Rattle.jh_tree.specs.Sorts.{tree_sort}
 use Rattle.jh_rules.specs.declared.types.Ty.{Ty}
 use Rattle.jh_rules.specs.declared.types.Ty.TheVariants as ty
-use Rattle.jh_rules.specs.Kinds.{fits, kind_of}
+use Rattle.jh_rules.specs.Kinds.{fits, is_void, kind_of}
 use Rattle.jh_vars.specs.Written.{Callee}
 use Rattle.jh_runs.specs.Code.{Text, ObjectCode, NumberCode, TruthCode, AnyCode, Local, Target, Claim, Stmt, Stmts}
 use Rattle.jh_runs.specs.Code as c
@@ -118,12 +118,14 @@ module _ (p : Program) where
   ResultFits at c.nowhere type = Unit {0}
   ResultFits at target type = TakesFit at target type
 
+  -- and that of a void method goes nowhere
   pub record CallFits (at : Surroundings) (target : Target) (receiver : Option ObjectCode) (m : Callee) (args : List AnyCode) : Type 0 where
     pub method : Method
     pub is : p.method m ≡ Some method
     pub receiver_fits : ReceiverFits at receiver method.this
     pub args_fit : AllFit at args method.params
     pub result_fits : ResultFits at target method.result
+    pub void : is_void method.result ≡ true → target ≡ c.nowhere
 
   pub record AssignFits (at : Surroundings) (target : Target) (a : AnyCode) : Type 0 where
     pub type : Ty

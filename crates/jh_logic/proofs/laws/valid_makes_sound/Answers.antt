@@ -3,4 +3,4 @@ use Rattle.jh_logic.proofs.Soundness.{sound}
 use Rattle.jh_logic.proofs.laws.valid_makes_sound.Goals as goal
 
 pub returns : goal.returns
-returns c = λ source p ws fitting contracts covers voids valid names. sound p ws fitting contracts covers voids valid (ModifiesOf source) names
+returns c = λ source p ws fitting contracts covers valid names. sound p ws fitting contracts covers valid (ModifiesOf source) names
