@@ -44,7 +44,8 @@ use Rattle.jh_sound.proofs.Shaped.{Shaped, shaped-left, shaped-right}
 use Rattle.jh_sound.proofs.Environment.{Declares, Agrees}
 use Rattle.jh_sound.proofs.Expressions.{TypedBy, typed}
 use Rattle.jh_sound.proofs.Targets.{TakesBy, target-takes}
-use Rattle.jh_sound.proofs.Statements.{type-not-void, void-word, word-known, declaration-fits, rhs-fits, call-fits, behind-agrees, loop-scope}
+use Rattle.jh_sound.proofs.Types.{type-not-void, void-word}
+use Rattle.jh_sound.proofs.Statements.{declaration-fits, rhs-fits, call-fits, behind-agrees, loop-scope}
 
 module _ (p : ProgramTree) (declares : Declares p) (n : ℕ) (m : MethodPart) where
   abbrev l : Declared
@@ -97,7 +98,7 @@ module _ (p : ProgramTree) (declares : Declares p) (n : ℕ) (m : MethodPart) wh
           let third = rhs_faults l at (expr_type l at a).known r in
           let v : TakesBy p declares s at agrees (expr_type l at a) (target_code p at a) = target-takes p declares s at agrees q a ((shaped-left (of_target a) (expr_parts a and rhs_parts r) shaped).targets a (has-first a [])) (left-empty first second (left-empty (first ++ second) third h)) (branch-first first second third h) in
           rhs-fits p declares s at agrees result q (target_code p at a) v.type v.takes r (subst (λ (o : Option Ty). rhs_faults l at o r ≡ []) v.known (branch-second first second third h))
-      stmt-fits (st.call q x) at s agrees shaped h inner = call-fits p declares s at agrees x h c.nowhere tt
+      stmt-fits (st.call q x) at s agrees shaped h inner = call-fits p declares s at agrees x h c.nowhere tt (λ e. refl)
       stmt-fits (st.branch q x a b) at s agrees shaped h inner =
           let test = (expr_type l at x >>= rule_20 x).faults in
           let first = stmt_faults l m a at in

@@ -6,5 +6,9 @@ pub mod Targets
 pub mod Calls
 pub mod Texts
 pub mod Shaped
+pub mod Types
 pub mod Statements
 pub mod Bodies
+pub mod Classes
+pub mod Members
+pub mod Declared

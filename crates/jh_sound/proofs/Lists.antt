@@ -49,6 +49,10 @@ module _ {X : Type 0} where
   at-has (y ∷ ys) zero x e = subst (λ (z : X). Contains (y ∷ ys) z) (some-same y x e) (has-first y ys)
   at-has (y ∷ ys) (suc n) x e = has-later y ys x (at-has ys n x e)
 
+  pub has-at : (xs : List X) (x : X) → Contains xs x → (n : ℕ) × (slice_get xs n ≡ Some x)
+  has-at [] x i = absurd (has-none x i)
+  has-at (y ∷ ys) x i = ⊎_elim (λ e. (zero, ap (λ (z : X). Some z) e)) (λ j. let r = has-at ys x j in (suc r.0, r.1)) (has-cases y ys x i)
+
   -- both parts of what is empty
   pub left-empty : (xs ys : List X) → xs ++ ys ≡ [] → xs ≡ []
   left-empty [] ys e = refl
@@ -71,6 +75,16 @@ module _ {X Y : Type 0} where
   pub map-from : (f : X → Y) (xs : List X) (y : Y) → Contains (map f xs) y → (x : X) × Contains xs x × (f x ≡ y)
   map-from f [] y i = absurd (has-none y i)
   map-from f (z ∷ zs) y i = ⊎_elim (λ h. (z, has-first z zs, h)) (λ j. let r = map-from f zs y j in (r.0, has-later z zs r.0 r.1, r.2)) (has-cases (f z) (map f zs) y i)
+
+  pub at-map : (f : X → Y) (xs : List X) (n : ℕ) (x : X) → slice_get xs n ≡ Some x → slice_get (map f xs) n ≡ Some (f x)
+  at-map f [] n x e = absurd (no-none x e)
+  at-map f (z ∷ zs) zero x e = ap (λ w. Some (f w)) (some-same z x e)
+  at-map f (z ∷ zs) (suc n) x e = at-map f zs n x e
+
+  pub map-at : (f : X → Y) (xs : List X) (n : ℕ) (y : Y) → slice_get (map f xs) n ≡ Some y → (x : X) × (slice_get xs n ≡ Some x) × (f x ≡ y)
+  map-at f [] n y e = absurd (no-none y e)
+  map-at f (z ∷ zs) zero y e = (z, refl, some-same (f z) y e)
+  map-at f (z ∷ zs) (suc n) y e = map-at f zs n y e
 
   pub flat-has : (f : X → List Y) (xs : List X) (x : X) (y : Y) → Contains xs x → Contains (f x) y → Contains (flat_map f xs) y
   flat-has f [] x y i k = absurd (has-none x i)

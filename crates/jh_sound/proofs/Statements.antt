@@ -46,31 +46,13 @@ use Rattle.jh_runs.specs.LoweredProgram.{program_of, method_code}
 use Rattle.jh_runs.specs.Typed.{Surroundings, IsOfStates, AreOfStates, IsType, MayDeclare, ObjectHas, of_null, Has, Fits, Takes, new_local, TakesFit, TypeOf, plain_objects, objects_of, ReceiverFits, ResultFits, CallFits, AssignFits, NewFits, declaring, scope_behind, StmtFits, StmtsFit}
 use Rattle.jh_sound.proofs.Lists.{has-first, has-later, has-cases, more-not-empty, left-empty, right-empty, each-empty, some-same, no-none, not-false, not-true, or-false-left, or-false-right}
 use Rattle.jh_sound.proofs.Judged.{not-broken, met, met-known, then-first, then-next, then-known}
+use Rattle.jh_sound.proofs.Types.{type-not-void, declared-type, word-known}
 use Rattle.jh_sound.proofs.Texts.{same-is, is-same, not-same, declared-no-dot, declared-not-this}
 use Rattle.jh_sound.proofs.Shaped.{Shaped, shaped-left, shaped-right, shaped-some}
 use Rattle.jh_sound.proofs.Environment.{ClassFits, MethodPartFits, Declares, LocalFits, Agrees}
 use Rattle.jh_sound.proofs.Expressions.{TypedBy, typed}
 use Rattle.jh_sound.proofs.Targets.{TakesBy, target-takes}
 use Rattle.jh_sound.proofs.Calls.{CallIs, call-is}
-
--- the type of a word that isn't void
-pub type-not-void : (numbers : List ℕ → Option ℕ) (w : JType) → is_void_word w ≡ false → (u : Ty) → type_of numbers w ≡ Some u → u ≡ ty.Void → ⊥
-type-not-void numbers j.Int h u e v = true≢false (ap is_void (sym (some-same ty.Int u e ∙ v)) )
-type-not-void numbers j.Boolean h u e v = true≢false (ap is_void (sym (some-same ty.Boolean u e ∙ v)))
-type-not-void numbers j.Void h u e v = true≢false h
-type-not-void numbers (j.Class w) h u e v = class-not-void (numbers (text_of w)) (same_text (text_of w) (codes "Object")) e
-  where
-    class-not-void : (o : Option ℕ) (b : Bool) → option_map_or (λ n. Some (ty.Class n)) o (if b then Some ty.Object else None) ≡ Some u → ⊥
-    class-not-void (Some n) b f = true≢false (ap is_void (sym (some-same (ty.Class n) u f ∙ v)))
-    class-not-void None true f = true≢false (ap is_void (sym (some-same ty.Object u f ∙ v)))
-    class-not-void None false f = no-none u f
-
--- the word of the type void alone is so
-pub void-word : (w : JType) → is_void_word w ≡ true → w ≡ j.Void
-void-word j.Int e = absurd (true≢false (sym e))
-void-word j.Boolean e = absurd (true≢false (sym e))
-void-word j.Void e = refl
-void-word (j.Class w) e = absurd (true≢false (sym e))
 
 module _ (p : ProgramTree) (declares : Declares p) where
   abbrev l : Declared
@@ -90,21 +72,6 @@ module _ (p : ProgramTree) (declares : Declares p) where
       of-class (Some n) f b g = subst (IsType P) (some-same (ty.Class n) u g) (declares.classes (text_of w) n f).stands
       of-class None f true g = subst (IsType P) (some-same ty.Object u g) tt
       of-class None f false g = absurd (no-none u g)
-
-  -- a known type of a word is the type of its code
-  pub word-known : (w : JType) (u : Ty) → type_of l.class_named w ≡ Some u → word_type p w ≡ u
-  word-known w u e = ap (λ (o : Option Ty). option_map_or (λ x. x) o ty.Object) e
-
-  -- a declared type is known
-  pub declared-type : (w : JType) → rule_4 l w ≡ [] → (u : Ty) × (type_of l.class_named w ≡ Some u)
-  declared-type j.Int h = (ty.Int, refl)
-  declared-type j.Boolean h = (ty.Boolean, refl)
-  declared-type j.Void h = (ty.Void, refl)
-  declared-type (j.Class w) h = from (class_type l.class_named (text_of w)) (not-broken 4 w.place (not (is_some (class_type l.class_named (text_of w)))) h)
-    where
-      from : (o : Option Ty) → not (is_some o) ≡ false → (u : Ty) × (o ≡ Some u)
-      from (Some u) g = (u, refl)
-      from None g = absurd (true≢false g)
 
   -- the default of a type fits it
   default-fits : (s : Surroundings) (w : JType) (u : Ty) → is_void_word w ≡ false → type_of l.class_named w ≡ Some u → Fits P s (default_code u) u
@@ -140,7 +107,7 @@ module _ (p : ProgramTree) (declares : Declares p) where
       declared-second = right-empty (rule_4 l d.jtype) (rule_5 at d) (left-empty (rule_4 l d.jtype ++ rule_5 at d) (rule_6_local l d.name) h)
 
       pub declared-known : (u : Ty) × (type_of l.class_named d.jtype ≡ Some u)
-      declared-known = declared-type d.jtype declared-first
+      declared-known = declared-type p d.jtype declared-first
 
       pub is-absent : at.local (text_of d.name) ≡ None
       is-absent = absent (at.local (text_of d.name)) (or-false-left (is_some (at.local (text_of d.name))) (has_other_sort (kind_of_word d.jtype) (at.earlier (text_of d.name))) (not-broken 5 d.name.place (is_some (at.local (text_of d.name)) || has_other_sort (kind_of_word d.jtype) (at.earlier (text_of d.name))) declared-second))
@@ -157,7 +124,7 @@ module _ (p : ProgramTree) (declares : Declares p) where
         no_state = declared-no-dot (text_of d.name) declared-word;
         not_this = declared-not-this (text_of d.name) declared-word;
         is_new = λ y i same. agrees.unknown (text_of d.name) is-absent y i same;
-        type_fits = subst (IsType P) (sym (word-known d.jtype declared-known.0 declared-known.1)) (type-is d.jtype declared-known.0 declared-known.1);
+        type_fits = subst (IsType P) (sym (word-known p d.jtype declared-known.0 declared-known.1)) (type-is d.jtype declared-known.0 declared-known.1);
       }
 
       pub is-not-void : is_void_word d.jtype ≡ false
@@ -186,7 +153,7 @@ module _ (p : ProgramTree) (declares : Declares p) where
             local = local_code p d;
             stands = Contains-append_right s.params (local_code p d ∷ s.locals) (local_code p d) (has-first (local_code p d) s.locals);
             text = same-is (text_of d.name) x g;
-            has_type = ap (λ (z : LocalEntry). z.ty) (sym (some-same (local_of l false d) entry e)) ∙ declared-known.1 ∙ ap (λ (u : Ty). Some u) (sym (word-known d.jtype declared-known.0 declared-known.1));
+            has_type = ap (λ (z : LocalEntry). z.ty) (sym (some-same (local_of l false d) entry e)) ∙ declared-known.1 ∙ ap (λ (u : Ty). Some u) (sym (word-known p d.jtype declared-known.0 declared-known.1));
             assigned = λ q. has-first (local_code p d) s.locals;
           }
           known x entry false g e =
@@ -223,15 +190,16 @@ module _ (p : ProgramTree) (declares : Declares p) where
       called-is = ap (λ o. option_map (method_code p is.class) o) part.is
 
       pub call-known : (call_type l at x).known ≡ Some (word_type p part.method.result)
-      call-known = is.known ∙ part.entry_result ∙ ap (λ (u : Ty). Some u) (sym (word-known part.method.result part.result part.known))
+      call-known = is.known ∙ part.entry_result ∙ ap (λ (u : Ty). Some u) (sym (word-known p part.method.result part.result part.known))
 
-      pub call-fits : (target : Target) → ResultFits P s target (word_type p part.method.result) → CallFits P s target (receiver_code p at (callee_of p at x) x.receiver) (callee_of p at x) (map (λ a. expr_code p a at) x.args)
-      call-fits target fit = subst (λ m. CallFits P s target (receiver_code p at m x.receiver) m (map (λ a. expr_code p a at) x.args)) (sym callee-same) (record {
+      pub call-fits : (target : Target) → ResultFits P s target (word_type p part.method.result) → (is_void (word_type p part.method.result) ≡ true → target ≡ c.nowhere) → CallFits P s target (receiver_code p at (callee_of p at x) x.receiver) (callee_of p at x) (map (λ a. expr_code p a at) x.args)
+      call-fits target fit void = subst (λ m. CallFits P s target (receiver_code p at m x.receiver) m (map (λ a. expr_code p a at) x.args)) (sym callee-same) (record {
         method = method_code p is.class part.method;
         is = called-is;
         receiver_fits = subst (λ b. ReceiverFits P s (receiver_code p at (record { class = is.class; name = text_of x.method }) x.receiver) (if b then None else Some is.class)) (sym part.fixed) is.receiver_fits;
         args_fit = is.args_fit;
         result_fits = fit;
+        void = void;
       })
 
     new-type : (w : Word) → (rule_26 l w).faults ≡ [] → (u : Ty) × ((rule_26 l w).known ≡ Some u) × TypeOf P (text_of w) u
@@ -265,7 +233,7 @@ module _ (p : ProgramTree) (declares : Declares p) where
           let known = call-known x clean in
           let value : Ty = word_type p (part x clean).method.result in
           let all-known : (call_type l at x >>= not-void).known ≡ Some value = then-known (call_type l at x) not-void value known ∙ met-known (not (is_void value)) 24 (call_place l at x) value (then-next (call_type l at x) not-void value asked-all known) in
-          call-fits x clean target (takes-result target value (goes-to value (rhs-asked (st.result_of x) h value all-known)))
+          call-fits x clean target (takes-result target value (goes-to value (rhs-asked (st.result_of x) h value all-known))) (λ e. absurd (true≢false (sym e ∙ not-true (is_void value) (met (not (is_void value)) 24 (call_place l at x) value (then-next (call_type l at x) not-void value asked-all known)))))
       rhs-fits (st.new w) h =
           let v = new-type w (rhs-faultless (st.new w) h) in
           record { type = v.0; is = v.2; fit = goes-to v.0 (rhs-asked (st.new w) h v.0 v.1) }
@@ -274,12 +242,12 @@ module _ (p : ProgramTree) (declares : Declares p) where
     pub declaration-fits : (result : Ty) (q : Place) (d : Param) → Shaped (of_param d) → declared_faults l at d ≡ [] → (r : Option RhsTree) → of_some (rhs_faults l at (type_of l.class_named d.jtype)) r ≡ [] → StmtFits P result (declaration_code p q at (local_code p d) r) s
     declaration-fits result q d shaped h None g =
         let known = declared-known d shaped h in
-        let v : Fits P s (default_code (word_type p d.jtype)) (word_type p d.jtype) = subst (λ u. Fits P s (default_code u) u) (sym (word-known d.jtype known.0 known.1)) (default-fits s d.jtype known.0 (is-not-void d shaped h) known.1) in
+        let v : Fits P s (default_code (word_type p d.jtype)) (word_type p d.jtype) = subst (λ u. Fits P s (default_code u) u) (sym (word-known p d.jtype known.0 known.1)) (default-fits s d.jtype known.0 (is-not-void d shaped h) known.1) in
         record { type = v.type; has = v.has; fit = record { type = word_type p d.jtype; takes = new_local (local_code p d) (may-declare d shaped h); fit = v.fit } }
     declaration-fits result q d shaped h (Some r) g =
         let known = declared-known d shaped h in
         rhs-fits result q (c.to_new (local_code p d)) (word_type p d.jtype) (new_local (local_code p d) (may-declare d shaped h)) r
-        (subst (λ (o : Option Ty). rhs_faults l at o r ≡ []) (known.1 ∙ ap (λ (u : Ty). Some u) (sym (word-known d.jtype known.0 known.1))) g)
+        (subst (λ (o : Option Ty). rhs_faults l at o r ≡ []) (known.1 ∙ ap (λ (u : Ty). Some u) (sym (word-known p d.jtype known.0 known.1))) g)
 
     -- what isn't declared leaves the scope as it is
     is_new : Target → Bool
