@@ -12,3 +12,5 @@ pub mod Bodies
 pub mod Classes
 pub mod Members
 pub mod Declared
+pub mod Named
+pub mod Methods
