@@ -14,3 +14,7 @@ pub mod Members
 pub mod Declared
 pub mod Named
 pub mod Methods
+pub mod Passings
+pub mod Closings
+pub mod Fine
+pub mod Leaves
