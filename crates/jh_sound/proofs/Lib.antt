@@ -18,3 +18,4 @@ pub mod Passings
 pub mod Closings
 pub mod Fine
 pub mod Leaves
+pub mod States
