@@ -19,3 +19,5 @@ pub mod Closings
 pub mod Fine
 pub mod Leaves
 pub mod States
+pub mod Words
+pub mod OfStates
