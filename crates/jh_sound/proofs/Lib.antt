@@ -21,3 +21,4 @@ pub mod Leaves
 pub mod States
 pub mod Words
 pub mod OfStates
+pub mod Numbers
