@@ -104,7 +104,7 @@ no-one : (suc zero ≡ suc (suc zero)) → ⊥
 no-one e = omega (e, arith)
 
 module _ (c : ClassPart) where
-  field-in : (x : FieldPart) → Contains (members_of c) (field x) → Contains c.fields x
+  pub field-in : (x : FieldPart) → Contains (members_of c) (field x) → Contains c.fields x
   unfolding as_field sort_number
   field-in x i = ⊎_elim
       (λ j. ⊎_elim (λ h. let r = map-from field c.fields (field x) h in subst (Contains c.fields) (ap (as_field x) r.2) r.1)

@@ -22,3 +22,5 @@ pub mod States
 pub mod Words
 pub mod OfStates
 pub mod Numbers
+pub mod Pieces
+pub mod FormKinds
