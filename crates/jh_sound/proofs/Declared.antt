@@ -158,7 +158,7 @@ method-some x (z ∷ zs) m i e = by (same_text (text_of z.name) x) refl (has-cas
     by false s (inr j) rest = rest j
 
 -- a static is a value and what each object has is a field
-static-sort : (kind : Kind) (fixed : Bool) → not (same_sort (member_sort kind fixed) sort.Field) ≡ fixed
+pub static-sort : (kind : Kind) (fixed : Bool) → not (same_sort (member_sort kind fixed) sort.Field) ≡ fixed
 static-sort kind false = refl
 static-sort k.Obj true = refl
 static-sort k.Int true = refl

@@ -24,3 +24,4 @@ pub mod OfStates
 pub mod Numbers
 pub mod Pieces
 pub mod FormKinds
+pub mod Ghosts

@@ -167,7 +167,7 @@ method-code p m x e = by (part_of p m) refl e
     by (Some part) f g = (part, f, some-same (method_code p m.class part) x g)
 
 module _ (p : ProgramTree) (placed : IsPlaced p) (clean : faults_of p ≡ []) (shaped : Shaped (program_parts p)) where
-  abbrev declared : Declares p
+  abbrev pub declared : Declares p
   declared = declares p placed clean (dotless p placed clean shaped)
 
   module _ (n : ℕ) (c : ClassPart) (is : slice_get p.classes n ≡ Some c) (m : MethodPart) (stands : Contains c.methods m) where

@@ -119,7 +119,7 @@ module _ (p : ProgramTree) where
   meant-of-states zero c x = record { closed = refl; passes = refl }
   meant-of-states (suc n) c x = defined n c x (def_of p c x) (λ c x. meant-of-states n c x)
 
-  value-of-states : (at : Spot) (a : FormTree) → Fine of_states (depth at) (value_at p at a)
+  pub value-of-states : (at : Spot) (a : FormTree) → Fine of_states (depth at) (value_at p at a)
   value-of-states at a = resolved-of-states (meant p (all_definitions p)) (meant-of-states (all_definitions p)) a at
 
   -- the values of all formulas
