@@ -271,3 +271,41 @@ module _ (p : ProgramTree) (placed : IsPlaced p) (clean : faults_of p ≡ []) (s
     code-fits a (a_member x is ghost fixed w receiver value writes) q r v fine = subst (λ u. StmtFits P result (ghost_code q (ghost_target u) r v) s) (sym value)
         (subst (λ g. StmtFits P result (ghost_code q g r v) s) (sym (read-target (kind_known x) (state_name (class_text p) x) w))
         (member x is ghost, record { fits = ghost-fits x is ghost false fixed v fine; of_class = class-is x is ghost; receiver = is-of-states p (t.of_object w) receiver }))
+
+  -- the kinds of states are known
+  pub spelled-known : (c : ℕ) (x : List ℕ) (s : StateEntry) → names.state_spelled l c x ≡ Some s → (u : Kind) × (s.kind ≡ Some u)
+  spelled-known c x s e = kind-known p placed clean shaped s.class (own_name x) s (spelled-is p c x (called x s) (ap (λ o. option_map (called x) o) e))
+
+  pub named-known : (c : ℕ) (x : List ℕ) (s : StateEntry) → names.state_named l c x ≡ Some s → (u : Kind) × (s.kind ≡ Some u)
+  named-known c x s e = kind-known p placed clean shaped s.class (own_name x) s (named-is p c x (called x s) (ap (λ o. option_map (called x) o) e))
+
+  scope-known : (at : Scope) (s : Surroundings) → Agrees at s → Known l spelled-known named-known (inside l at)
+  scope-known at s agrees = record {
+    local = λ x entry e. let h : LocalFits s x entry = agrees.known x entry e in (kind_of h.local.type, ap (λ o. option_map kind_of o) h.has_type);
+    result = λ o e. absurd (no-none o e);
+  }
+
+  -- nothing is wrong in a ghost assignment: its left side is a ghost variable
+  pub ghost-left : (at : Scope) (s : Surroundings) → Agrees at s → (q : Place) (a b : FormTree) → ghost_faults l at q (form_kind l a (inside l at)) (form_kind l b (inside l at)) (is_ghost_target l at a) ≡ [] → Left at a
+  ghost-left at s agrees q a b h =
+      let left : Judged Kind = form_kind l a (inside l at) in
+      let right : Judged Kind = form_kind l b (inside l at) in
+      let first : List Fault = asked left (λ u. rule_31_target q (is_ghost_target l at a)) in
+      let second : List Fault = asked right (λ v. of_some (λ u. rule_31_value q (u, v)) left.known) in
+      let target : List Fault = option_map_or (λ u. rule_31_target q (is_ghost_target l at a)) left.known [] in
+      let here : left.faults ++ target ≡ [] = left-empty first second h in
+      let known = kind-sure l spelled-known named-known a (inside l at) (scope-known at s agrees) (left-empty left.faults target here) in
+      let asked-of : rule_31_target q (is_ghost_target l at a) ≡ [] = ap (λ o. option_map_or (λ u. rule_31_target q (is_ghost_target l at a)) o []) (sym known.1) ∙ right-empty left.faults target here in
+      left-is at a (not-false (is_ghost_target l at a) (not-broken 31 q (not (is_ghost_target l at a)) asked-of)) (left-empty left.faults target here)
+
+  module _ (different : are_different (program_parts p).numbers ≡ true) (n : ℕ) (part : ClassPart) (is : slice_get p.classes n ≡ Some part) (m : MethodPart) (stands : Contains part.methods m) where
+    -- the value of the left side of a ghost assignment by its number
+    pub left-value : (at : Scope) (q : Place) (a b : SpecPart) → Contains (method_statements p n m) (standing at (st.ghost q a b)) → spec_value p a ≡ value_at p (opened.inside k.Obj at) a.form
+    left-value at q a b i = value-is p different a (value_at p (opened.inside k.Obj at) a.form)
+        (statement-stands p n part is m stands (standing at (st.ghost q a b)) i (a.number, value_at p (opened.inside k.Obj at) a.form) (has-first (a.number, value_at p (opened.inside k.Obj at) a.form) (valued p (opened.inside k.Obj at) b)))
+
+    pub ghosts-fit : GhostsFit p (declared p placed clean shaped) n m
+    unfolding stmt_faults stmt_code
+    ghosts-fit at s q a b agrees i h =
+        subst (λ v. StmtFits P (word_type p m.result) (ghost_code a.place (ghost_target v) b.place (spec_value p b)) s) (sym (left-value at q a b i))
+        (code-fits (word_type p m.result) s at a.form (ghost-left at s agrees q a.form b.form h) a.place b.place (spec_value p b) (value-fine p b))

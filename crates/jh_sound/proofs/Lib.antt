@@ -25,3 +25,4 @@ pub mod Numbers
 pub mod Pieces
 pub mod FormKinds
 pub mod Ghosts
+pub mod Fits
