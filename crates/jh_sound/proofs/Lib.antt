@@ -26,3 +26,4 @@ pub mod Pieces
 pub mod FormKinds
 pub mod Ghosts
 pub mod Fits
+pub mod Covers

@@ -32,7 +32,7 @@ use Rattle.jh_sound.proofs.Statements.{type-is}
 use Rattle.jh_sound.proofs.Declared.{halves-of, field-member, var-member, field-type, class-text-is, class-at-is, class-stands, declares}
 
 -- a text with a dot in its middle
-middle-dot : (a x : List ℕ) → has_dot ((a ++ codes ".") ++ x) ≡ true
+pub middle-dot : (a x : List ℕ) → has_dot ((a ++ codes ".") ++ x) ≡ true
 middle-dot [] x = refl
 middle-dot (c ∷ cs) x = or-true-right (c == 46) (has_dot ((cs ++ codes ".") ++ x)) (middle-dot cs x)
 
