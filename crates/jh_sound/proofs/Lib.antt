@@ -27,3 +27,4 @@ pub mod FormKinds
 pub mod Ghosts
 pub mod Fits
 pub mod Covers
+pub mod Writing

@@ -95,7 +95,7 @@ module _ (p : ProgramTree) (known : Declares p) (this : Option ℕ) where
   abbrev P : Program
   P = program_of p
 
-  abbrev with-params : List Local → Surroundings
+  abbrev pub with-params : List Local → Surroundings
   with-params params = record { this = this; params = params; locals = [] }
 
   -- a parameter more in scope
