@@ -28,3 +28,4 @@ pub mod Ghosts
 pub mod Fits
 pub mod Covers
 pub mod Writing
+pub mod Speaking
