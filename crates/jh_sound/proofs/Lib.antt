@@ -29,3 +29,4 @@ pub mod Fits
 pub mod Covers
 pub mod Writing
 pub mod Speaking
+pub mod Contracts

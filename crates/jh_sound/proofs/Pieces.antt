@@ -34,7 +34,7 @@ use Rattle.jh_sound.proofs.Named.{class-shaped, dotless}
 use Rattle.jh_sound.proofs.States.{IsDeclared}
 
 -- the definition that is found has the name
-def-found : (x : List ℕ) (ds : List DefPart) (d : DefPart) → def_in x ds ≡ Some d → Contains ds d × (text_of d.name ≡ x)
+pub def-found : (x : List ℕ) (ds : List DefPart) (d : DefPart) → def_in x ds ≡ Some d → Contains ds d × (text_of d.name ≡ x)
 unfolding def_in
 def-found x [] d e = absurd (no-none d e)
 def-found x (z ∷ zs) d e = by (same_text (text_of z.name) x) refl e (λ f. def-found x zs d f)

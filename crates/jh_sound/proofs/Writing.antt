@@ -52,7 +52,7 @@ use Rattle.jh_sound.specs.Placed.{IsPlaced, NoGhostObject}
 use Rattle.jh_sound.specs.Written.{AreWrites}
 use Rattle.jh_sound.proofs.Lists.{has-none, has-first, has-later, has-cases, flat-has, more-not-empty, left-empty, right-empty, some-same, no-none, or-cases, or-false-left, or-false-right}
 use Rattle.jh_sound.proofs.Judged.{not-broken, then-first}
-use Rattle.jh_sound.proofs.Texts.{same-is, is-same, not-same, declared-no-dot}
+use Rattle.jh_sound.proofs.Texts.{same-is, is-same, not-same, differ, declared-no-dot, declared-not-this}
 use Rattle.jh_sound.proofs.Shaped.{Shaped, shaped-left, shaped-right}
 use Rattle.jh_sound.proofs.Environment.{Agrees}
 use Rattle.jh_sound.proofs.Classes.{ClassAt, class-at}
@@ -77,6 +77,8 @@ module _ (p : ProgramTree) (placed : IsPlaced p) (clean : faults_of p ≡ []) (s
     pub not_alloc : same_text x (codes "alloc") ≡ false
     pub not_object : same_text x (codes "Object") ≡ false
     pub no_class : l.class_named x ≡ None
+    pub not_this : same_text x (codes "this") ≡ false
+    pub not_result : same_text x (codes "result") ≡ false
 
   abbrev pub LocalsPlain : Scope → Type 0
   LocalsPlain at = (x : Text) (entry : LocalEntry) → at.local x ≡ Some entry → IsLocalText x
@@ -93,6 +95,8 @@ module _ (p : ProgramTree) (placed : IsPlaced p) (clean : faults_of p ≡ []) (s
         not_alloc = or-false-left (same_text x (codes "alloc")) (same_text x (codes "Object") || false) later;
         not_object = or-false-left (same_text x (codes "Object")) false (or-false-right (same_text x (codes "alloc")) (same_text x (codes "Object") || false) later);
         no_class = absent (l.class_named x) (or-false-right listed (is_some (l.class_named x)) rule);
+        not_this = differ x (codes "this") (declared-not-this x (shape.declared d.name (has-first d.name [])));
+        not_result = or-false-left (same_text x (codes "result")) (same_text x (codes "alloc") || (same_text x (codes "Object") || false)) words;
       }
     where
       absent : (o : Option ℕ) → is_some o ≡ false → o ≡ None
@@ -132,7 +136,7 @@ module _ (p : ProgramTree) (placed : IsPlaced p) (clean : faults_of p ≡ []) (s
       by true e rest = no-none n (sym e)
       by false e rest = rest e
 
-  local-not-state : (x : Text) → IsLocalText x → (w : Written) → Stands w → x ≡ text w → ⊥
+  pub local-not-state : (x : Text) → IsLocalText x → (w : Written) → Stands w → x ≡ text w → ⊥
   local-not-state x plain _ the_allocated f = not-same x (codes "alloc") plain.not_alloc f
   local-not-state x plain _ the_plain f = not-same x (codes "Object") plain.not_object f
   local-not-state x plain _ (the_objects n d is) f = number-found p.classes 0 n d is (ap (number_of p) (sym (f ∙ class-text-is p placed clean (dotless p placed clean shaped) n d is)) ∙ plain.no_class)
