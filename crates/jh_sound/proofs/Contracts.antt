@@ -89,7 +89,7 @@ module _ (p : ProgramTree) (placed : IsPlaced p) (clean : faults_of p ≡ []) (s
   abbrev P : Program
   P = program_of p
 
-  abbrev of_state : Test
+  abbrev pub of_state : Test
   of_state = speaks_of_state P
 
   state-now : (x : Text) (a : Sort) → is_state P x a ≡ true → of_state (own x 0) a ≡ true
@@ -161,7 +161,7 @@ module _ (p : ProgramTree) (placed : IsPlaced p) (clean : faults_of p ≡ []) (s
   abbrev meaning : ℕ → List ℕ → ValueTree
   meaning = meant p (all_definitions p)
 
-  means-speak : (c : ℕ) (x : List ℕ) → Fine of_state (if is_of_objects p c x then 1 else 0) (meaning c x)
+  pub means-speak : (c : ℕ) (x : List ℕ) → Fine of_state (if is_of_objects p c x then 1 else 0) (meaning c x)
   means-speak c x = meant-speaks (all_definitions p) c x
 
   number-some : (k : ℕ) (x : List ℕ) (cs : List ClassPart) (j : ℕ) (d : ClassPart) → slice_get cs j ≡ Some d → text_of d.name ≡ x → (m : ℕ) × (class_from k x cs ≡ Some m)
@@ -182,7 +182,7 @@ module _ (p : ProgramTree) (placed : IsPlaced p) (clean : faults_of p ≡ []) (s
   class-there n c is = let m = number-some 0 (text_of c.name) p.classes n c is refl in class-state p placed clean shaped (text_of c.name) m.0 m.1
 
   -- an invariant speaks of the state alone
-  every-speaks : (n : ℕ) (c : ClassPart) → slice_get p.classes n ≡ Some c → (a : FormTree) → (form_kind l a (outside l n true)).faults ≡ [] → (b : Bool) → uses_this p a n [] ≡ b →
+  pub every-speaks : (n : ℕ) (c : ClassPart) → slice_get p.classes n ≡ Some c → (a : FormTree) → (form_kind l a (outside l n true)).faults ≡ [] → (b : Bool) → uses_this p a n [] ≡ b →
       Fine of_state 0 (if b then of_every_object p c (as_truth (value_at p (opened.outside n true) a)) else value_at p (opened.outside n false) a)
   unfolding is_closed_value is_closed_formula is_closed_term is_closed_set value_passes formula_passes term_passes set_passes
   every-speaks n c is a h true e =

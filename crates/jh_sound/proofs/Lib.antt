@@ -30,3 +30,4 @@ pub mod Covers
 pub mod Writing
 pub mod Speaking
 pub mod Contracts
+pub mod MethodClaims

@@ -23,7 +23,7 @@ use Rattle.jh_runs.specs.LoweredProgram.{program_of}
 use Rattle.jh_runs.specs.Typed.{IsType, AreApart, NamesFit}
 use Rattle.jh_sound.specs.Placed.{IsPlaced}
 use Rattle.jh_sound.proofs.Lists.{has-first, has-later, has-none, has-cases, at-has, has-at, map-has, map-from, map-at, some-same, no-none, or-true-left, or-true-right}
-use Rattle.jh_sound.proofs.Texts.{is-same, declared-no-dot}
+use Rattle.jh_sound.proofs.Texts.{is-same, declared-no-dot, declared-not-this}
 use Rattle.jh_sound.proofs.Shaped.{Shaped, shaped-left, shaped-right, shaped-each}
 use Rattle.jh_sound.proofs.Types.{null-not-named, kind-of-word}
 use Rattle.jh_sound.proofs.Classes.{class-not-alloc, class-not-object, same-class, same-member}
@@ -63,6 +63,9 @@ module _ (p : ProgramTree) (placed : IsPlaced p) (clean : faults_of p ≡ []) (s
 
   pub dotless : (n : ℕ) (c : ClassPart) → slice_get p.classes n ≡ Some c → has_dot (text_of c.name) ≡ false
   dotless n c e = declared-no-dot (text_of c.name) ((shaped-left (of_declared c.name) (all_parts field_parts c.fields and all_parts method_parts c.methods and all_parts var_parts c.vars and all_parts def_parts c.defs and all_parts labelled_parts c.invariants) (class-shaped n c e)).declared c.name (has-first c.name []))
+
+  pub class-not-this : (n : ℕ) (c : ClassPart) → slice_get p.classes n ≡ Some c → text_of c.name ≡ codes "this" → ⊥
+  class-not-this n c e = declared-not-this (text_of c.name) ((shaped-left (of_declared c.name) (all_parts field_parts c.fields and all_parts method_parts c.methods and all_parts var_parts c.vars and all_parts def_parts c.defs and all_parts labelled_parts c.invariants) (class-shaped n c e)).declared c.name (has-first c.name []))
 
   -- a class of the program, by its text
   record ClassOf (x : Text) : Type 0 where
