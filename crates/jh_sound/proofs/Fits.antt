@@ -1,4 +1,4 @@
--- The lowered program of a source that breaks no rule fits.
+-- A source that is accepted meets the premises of the law that valid formulas make programs sound.
 use Rattle.std.proofs.Common.{◌≡◌, true, []}
 use Rattle.jh_ast.specs.Programs.{ProgramTree}
 use Rattle.jh_rules.specs.Breaks.{faults_of}
@@ -6,11 +6,22 @@ use Rattle.jh_rules.specs.Shape.{program_parts, are_different}
 use Rattle.jh_runs.specs.LoweredProgram.{program_of}
 use Rattle.jh_runs.specs.Typed.{ProgramFits}
 use Rattle.jh_sound.specs.Placed.{IsPlaced, NoGhostObject}
-use Rattle.jh_sound.proofs.Shaped.{Shaped}
+use Rattle.jh_sound.specs.Laws.{IsAccepted, MeetsPremises, AcceptedMeetsPremises}
+use Rattle.jh_sound.proofs.Shaped.{Shaped, shaped-program}
 use Rattle.jh_sound.proofs.OfStates.{claims-of-states}
+use Rattle.jh_sound.proofs.Classes.{faultless}
 use Rattle.jh_sound.proofs.Methods.{program-fits}
 use Rattle.jh_sound.proofs.Ghosts.{ghosts-fit}
+use Rattle.jh_sound.proofs.Writing.{writes-cover}
+use Rattle.jh_sound.proofs.MethodClaims.{contracts-fit}
 
 pub fits : (p : ProgramTree) → IsPlaced p → faults_of p ≡ [] → Shaped (program_parts p) → NoGhostObject p → are_different (program_parts p).numbers ≡ true → ProgramFits (program_of p)
 fits p placed clean shaped none different =
     program-fits p placed clean shaped (λ spec. (claims-of-states p spec, tt)) (λ n c is m stands. ghosts-fit p placed clean shaped none different n c is m stands)
+
+pub meets : AcceptedMeetsPremises
+meets p ws ok writes = record {
+  program = fits p ok.placed (faultless p ok.fine) (shaped-program p ok.shape) ok.ghosts ok.shape.numbers;
+  contracts = contracts-fit p ok.placed (faultless p ok.fine) (shaped-program p ok.shape) ok.ghosts ok.shape.numbers;
+  writes = writes-cover p ok.placed (faultless p ok.fine) (shaped-program p ok.shape) ok.ghosts ok.shape.numbers ws writes;
+}

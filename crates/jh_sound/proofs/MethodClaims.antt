@@ -354,3 +354,65 @@ module _ (p : ProgramTree) (placed : IsPlaced p) (clean : faults_of p ≡ []) (s
         means = means-now (now true) (state-now true);
       };
     }
+
+    fine-claim : (q : Test) (there : Where) → Speaking p placed clean shaped meaning true q there spot → MayBeOld p placed clean shaped meaning true q there spot → Matches p placed clean shaped there spot → (spec : SpecPart) → truth_faults l there spec ≡ [] →
+        spec_value p spec ≡ value_at p spot spec.form → formula_passes (as_truth (spec_value p spec)) q ≡ true
+    unfolding value_passes
+    fine-claim q there speaking old match spec h value =
+        let clear : (form_kind l spec.form there).faults ≡ [] = then-first (form_kind l spec.form there) (λ u. needs_none (rule_11 spec u)) h in
+        let f : Fine q 0 (value_at p spot spec.form) = fine-form l (class_text p) meaning spec.form spot q (leaves-speak p placed clean shaped meaning spec.form true q there spot speaking old match (λ u. refl) clear) in
+        (truth-fine q 0 (spec_value p spec) (subst (Fine q 0) (sym value) f)).passes
+
+    requires-speaks : (o : Option SpecPart) → m.pre ≡ o → Speaks (speaks_before P X) (option_map (claim_of p) o)
+    requires-speaks None e = tt
+    requires-speaks (Some spec) e = fine-claim (speaks_before P X) (contract_place l n m false None) speaking-before (λ g. absurd (true≢false (sym g))) (matches false None) spec
+        (ap (of_some (truth_faults l (contract_place l n m false None))) (sym e) ∙ fine.pre)
+        (value-is p different spec (value_at p spot spec.form) (pre-stands p n c is m stands spec e))
+
+    ensures-speaks : (o : Option SpecPart) → m.post ≡ o → Speaks (speaks_after P X) (option_map (claim_of p) o)
+    ensures-speaks None e = tt
+    ensures-speaks (Some spec) e = fine-claim (speaks_after P X) (contract_place l n m true (result_kind l m.result)) speaking-after (λ g. old-after) (matches true (result_kind l m.result)) spec
+        (ap (of_some (truth_faults l (contract_place l n m true (result_kind l m.result)))) (sym e) ∙ fine.post)
+        (value-is p different spec (value_at p spot spec.form) (post-stands p n c is m stands spec e))
+
+    value-type : (w : JType) → is_not_void w ≡ true → IsValueType (word_type p w)
+    value-type j.Int h = tt
+    value-type j.Boolean h = tt
+    value-type j.Void h = absurd (true≢false (sym h))
+    value-type (j.Class w) h = by (l.class_named (text_of w)) (same_text (text_of w) (codes "Object"))
+      where
+        by : (o : Option ℕ) (b : Bool) → IsValueType (option_map_or (λ x. x) (option_map_or (λ n. Some (ty.Class n)) o (if b then Some ty.Object else None)) ty.Object)
+        by (Some n) b = tt
+        by None true = tt
+        by None false = tt
+
+    pub contract-fits : ContractFits P X
+    contract-fits = record {
+      param_types = λ y i. let d = map-from (local_code p) m.params y i in
+          subst (λ (z : Local). IsValueType z.type) d.2 (value-type (d.0).jtype ((shaped-each of_param m.params (params-shaped p placed clean shaped n c is m stands) d.0 d.1).types (d.0).jtype (has-first (d.0).jtype [])));
+      requires = requires-speaks m.pre refl;
+      ensures = ensures-speaks m.post refl;
+    }
+
+  -- the invariants
+  claim-speaks : (n : ℕ) (c : ClassPart) → slice_get p.classes n ≡ Some c → (x : LabelledPart) → Contains c.invariants x → formula_passes (as_truth (spec_value p x.spec)) (speaks_of_state P) ≡ true
+  unfolding value_passes
+  claim-speaks n c is x i =
+      let clear : (form_kind l x.spec.form (outside l n true)).faults ≡ [] = then-first (form_kind l x.spec.form (outside l n true)) (λ u. needs_none (rule_11 x.spec u)) ((class-fine p placed clean n c is).invariants x i) in
+      let value : spec_value p x.spec ≡ invariant_value p n c x.spec.form = value-is p different x.spec (invariant_value p n c x.spec.form) (invariant-stands p n c is x i) in
+      (truth-fine (speaks_of_state P) 0 (spec_value p x.spec) (subst (Fine (speaks_of_state P) 0) (sym value) (every-speaks p placed clean shaped n c is x.spec.form clear (uses_this p x.spec.form n []) refl))).passes
+
+  class-speaks : (n : ℕ) (c : ClassPart) → slice_get p.classes n ≡ Some c → (xs : List LabelledPart) → ((x : LabelledPart) → Contains xs x → Contains c.invariants x) → (rest : List Claim) → AllSpeak (speaks_of_state P) rest → AllSpeak (speaks_of_state P) (map (labelled_claim p) xs ++ rest)
+  class-speaks n c is [] f rest h = h
+  class-speaks n c is (x ∷ xs) f rest h = (claim-speaks n c is x (f x (has-first x xs)), class-speaks n c is xs (λ y i. f y (has-later x xs y i)) rest h)
+
+  classes-speak : (cs : List ClassPart) → ((c : ClassPart) → Contains cs c → Contains p.classes c) → AllSpeak (speaks_of_state P) (flat_map (class_claims p) cs)
+  classes-speak [] f = tt
+  classes-speak (c ∷ cs) f = let r = has-at p.classes c (f c (has-first c cs)) in class-speaks r.0 c r.1 c.invariants (λ x i. i) (flat_map (class_claims p) cs) (classes-speak cs (λ d i. f d (has-later c cs d i)))
+
+  -- Contracts and invariants speak of what they may.
+  pub contracts-fit : ContractsFit P
+  contracts-fit = record {
+    methods = λ m x e. let r = method-code p m x e in let s : MethodAt p m r.0 = method-at p m r.0 r.1 in subst (ContractFits P) r.2 (contract-fits m.class s.class s.is r.0 s.stands);
+    invariants = classes-speak p.classes (λ c i. i);
+  }

@@ -1,0 +1,33 @@
+-- What breaks no rule is sound where its formulas are valid.
+use Rattle.std.specs.Prelude.{ℕ}
+use Rattle.jh_name.specs.declared.place.Place.{Place}
+use Rattle.jh_ast.specs.Programs.{ProgramTree}
+use Rattle.jh_rules.specs.Breaks.{Breaks}
+use Rattle.jh_rules.specs.Shape.{ShapeOfSource}
+use Rattle.jh_runs.specs.LoweredProgram.{program_of, IsSound}
+use Rattle.jh_runs.specs.Typed.{ProgramFits}
+use Rattle.jh_guard.specs.Writes.{Writes}
+use Rattle.jh_logic.specs.MethodContracts.{ContractsFit, WritesCover}
+use Rattle.jh_logic.specs.Laws.{AreValid}
+use Rattle.jh_sound.specs.Placed.{IsPlaced, NoGhostObject}
+use Rattle.jh_sound.specs.Written.{AreWrites}
+
+-- A source as it is read from a text, in which no type rule is broken and no ghost variable is named `Object`.
+pub record IsAccepted (p : ProgramTree) : Type 0 where
+  pub shape : ShapeOfSource p
+  pub placed : IsPlaced p
+  pub fine : (rule : ℕ) (place : Place) → Breaks p rule place → ⊥
+  pub ghosts : NoGhostObject p
+
+-- Its lowered program fits, its contracts speak of what they may, and its methods may write what their bodies write.
+pub record MeetsPremises (p : ProgramTree) (ws : Writes) : Type 0 where
+  pub program : ProgramFits (program_of p)
+  pub contracts : ContractsFit (program_of p)
+  pub writes : WritesCover (program_of p) ws
+
+abbrev pub AcceptedMeetsPremises : Type 0
+AcceptedMeetsPremises = (p : ProgramTree) (ws : Writes) → IsAccepted p → AreWrites p ws → MeetsPremises p ws
+
+-- So a source is sound where the formulas of its methods are valid, with what they may write and what they name as it says.
+abbrev pub AcceptedIsSound : Type 0
+AcceptedIsSound = (p : ProgramTree) (ws : Writes) → IsAccepted p → AreWrites p ws → AreValid (program_of p) ws → IsSound p
