@@ -3,10 +3,11 @@ use Rattle.std.proofs.Common.{◌≡◌, true, []}
 use Rattle.jh_ast.specs.Programs.{ProgramTree}
 use Rattle.jh_rules.specs.Breaks.{faults_of}
 use Rattle.jh_rules.specs.Shape.{program_parts, are_different}
-use Rattle.jh_runs.specs.LoweredProgram.{program_of}
+use Rattle.jh_runs.specs.LoweredProgram.{program_of, ModifiesOf}
 use Rattle.jh_runs.specs.Typed.{ProgramFits}
 use Rattle.jh_sound.specs.Placed.{IsPlaced, NoGhostObject}
-use Rattle.jh_sound.specs.Laws.{IsAccepted, MeetsPremises, AcceptedMeetsPremises}
+use Rattle.jh_sound.specs.Laws.{IsAccepted, MeetsPremises, AcceptedMeetsPremises, AcceptedIsSound}
+use Rattle.jh_logic.proofs.Soundness.{sound}
 use Rattle.jh_sound.proofs.Shaped.{Shaped, shaped-program}
 use Rattle.jh_sound.proofs.OfStates.{claims-of-states}
 use Rattle.jh_sound.proofs.Classes.{faultless}
@@ -25,3 +26,6 @@ meets p ws ok writes = record {
   contracts = contracts-fit p ok.placed (faultless p ok.fine) (shaped-program p ok.shape) ok.ghosts ok.shape.numbers;
   writes = writes-cover p ok.placed (faultless p ok.fine) (shaped-program p ok.shape) ok.ghosts ok.shape.numbers ws writes;
 }
+
+pub is-sound : AcceptedIsSound
+is-sound p ws ok writes valid = let m : MeetsPremises p ws = meets p ws ok writes in sound (program_of p) ws m.program m.contracts m.writes valid (ModifiesOf p) (λ c y e. writes.modified c y e)

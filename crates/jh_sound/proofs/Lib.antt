@@ -31,3 +31,4 @@ pub mod Writing
 pub mod Speaking
 pub mod Contracts
 pub mod MethodClaims
+mod Gaps

@@ -1,2 +1,6 @@
-//! Programs that break no type rule meet the premises of the law that valid formulas make programs sound.
+//! A source that breaks no type rule meets the premises of the law that valid formulas make programs sound.
 #![tactic(auto)]
+
+mod laws;
+
+pub use laws::{accepted_is_sound, accepted_meets_premises};
