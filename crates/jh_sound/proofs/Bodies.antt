@@ -1,14 +1,11 @@
 -- The body of a method in which no rule is broken fits. What its formulas and its ghost assignments are is shown in other files.
-use Rattle.std.proofs.Common.{◌≡◌, refl, sym, ap, subst, ◌∙◌, ℕ, Bool, true, false, not, List, [], ◌∷◌, ◌++◌, map, Option, Some, None}
+use Rattle.std.proofs.Common.{◌≡◌, refl, sym, ap, subst, ◌∙◌, ℕ, true, false, not, List, [], ◌∷◌, ◌++◌, map, Option, Some, None}
 use Rattle.std.specs.List.{Contains, flat_map}
 use Rattle.std.specs.Option.{option_map_or}
-use Rattle.std.proofs.lemmas.Bool.{true≢false}
 use Rattle.std.proofs.lemmas.List.Elements.{Contains-append_left, Contains-append_right}
 use Rattle.jh_name.specs.declared.place.Place.{Place}
 use Rattle.jh_ast.specs.declared.word.JType.{JType}
 use Rattle.jh_ast.specs.declared.word.JType.TheVariants as j
-use Rattle.jh_ast.specs.declared.word.Param.{Param}
-use Rattle.jh_ast.specs.Exprs.{ExprTree}
 use Rattle.jh_ast.specs.Forms.{SpecPart, LabelledPart}
 use Rattle.jh_ast.specs.Stmts.{StmtTree, StmtTrees, RhsTree, CallTree}
 use Rattle.jh_ast.specs.Stmts as st
@@ -17,29 +14,25 @@ use Rattle.jh_tree.specs.Tree as t
 use Rattle.jh_rules.specs.declared.fault.Fault.{Fault}
 use Rattle.jh_rules.specs.declared.types.Ty.{Ty}
 use Rattle.jh_rules.specs.declared.types.Ty.TheVariants as ty
-use Rattle.jh_rules.specs.Faults.{Judged, fault, broken, ◌>>=◌}
+use Rattle.jh_rules.specs.Faults.{fault, broken, ◌>>=◌}
 use Rattle.jh_rules.specs.Kinds.{fits}
 use Rattle.jh_rules.specs.Names.{Declared, declared_in, type_of}
 use Rattle.jh_rules.specs.Scopes.{Scope, behind, text_behind, in_loop}
-use Rattle.jh_rules.specs.Scopes as scopes
-use Rattle.jh_rules.specs.Rules.{rule_17, rule_20, rule_24_none, rule_24_some, is_void_word}
-use Rattle.jh_rules.specs.Shape.{Parts, ◌and◌, stmt_parts, stmts_parts, rhs_parts, expr_parts, of_param, of_target, some_parts, all_parts, labelled_parts}
-use Rattle.jh_rules.specs.Exprs.{expr_type, call_type}
+use Rattle.jh_rules.specs.Rules.{rule_17, rule_20, rule_24_some, is_void_word}
+use Rattle.jh_rules.specs.Shape.{◌and◌, stmt_parts, stmts_parts, rhs_parts, expr_parts, of_param, of_target, some_parts, all_parts, labelled_parts}
+use Rattle.jh_rules.specs.Exprs.{expr_type}
 use Rattle.jh_rules.specs.Formulas.{truth_faults}
 use Rattle.jh_rules.specs.Statements.{of_some, declared_faults, rhs_faults, inside, stmt_faults, all_faults}
 use Rattle.jh_vars.specs.Resolved.{as_truth}
 use Rattle.jh_vars.specs.Statements.{InScope, standing, inner_statements, all_statements, method_statements}
 use Rattle.jh_runs.specs.Code.{Stmt, Stmts}
 use Rattle.jh_runs.specs.Code as c
-use Rattle.jh_runs.specs.Program.{Program}
 use Rattle.jh_runs.specs.Lowered.{expr_code}
-use Rattle.jh_runs.specs.Lowered as lowered
-use Rattle.jh_runs.specs.LoweredStmts.{GhostTarget, a_name, a_read, no_target, ghost_target, ghost_code, word_type, spec_value, labelled_claim, target_code, stmt_code, stmts_code, local_code, declaration_code, rhs_code, call_code}
+use Rattle.jh_runs.specs.LoweredStmts.{word_type, spec_value, labelled_claim, target_code, stmt_code, stmts_code}
 use Rattle.jh_runs.specs.LoweredProgram.{program_of}
-use Rattle.jh_runs.specs.Typed.{Surroundings, IsOfStates, AreOfStates, Fits, scope_behind, StmtFits, StmtsFit}
-use Rattle.jh_runs.specs.Typed as typed-code
+use Rattle.jh_runs.specs.Typed.{Surroundings, IsOfStates, AreOfStates, scope_behind, StmtFits, StmtsFit}
 use Rattle.jh_sound.proofs.Lists.{has-first, has-later, more-not-empty, left-empty, right-empty, not-false}
-use Rattle.jh_sound.proofs.Judged.{not-broken, then-first}
+use Rattle.jh_sound.proofs.Judged.{not-broken}
 use Rattle.jh_sound.proofs.Shaped.{Shaped, shaped-left, shaped-right}
 use Rattle.jh_sound.proofs.Environment.{Declares, Agrees}
 use Rattle.jh_sound.proofs.Expressions.{TypedBy, typed}
@@ -86,6 +79,7 @@ module _ (p : ProgramTree) (declares : Declares p) (n : ℕ) (m : MethodPart) wh
 
     mutual
       unfolding stmt_faults stmt_parts stmt_code inner_statements
+
       pub stmt-fits : (a : StmtTree) (at : Scope) (s : Surroundings) → Agrees at s → Shaped (stmt_parts a) → stmt_faults l m a at ≡ [] → Inside (standing at a ∷ inner_statements l a at) → StmtFits (program_of p) result (stmt_code p a at) s
       stmt-fits (st.empty q) at s agrees shaped h inner = tt
       stmt-fits (st.block q ss) at s agrees shaped h inner = stmts-fit ss at s agrees shaped h (λ x i. inner x (has-later (standing at (st.block q ss)) (all_statements l ss at) x i))
@@ -102,16 +96,19 @@ module _ (p : ProgramTree) (declares : Declares p) (n : ℕ) (m : MethodPart) wh
       stmt-fits (st.branch q x a b) at s agrees shaped h inner =
           let test = (expr_type l at x >>= rule_20 x).faults in
           let first = stmt_faults l m a at in
-          let second = all_faults l m b (text_behind at a) in
-          (stmt-fits a at s agrees (shaped-left (stmt_parts a) (stmts_parts b) (shaped-right (expr_parts x) (stmt_parts a and stmts_parts b) shaped)) (branch-first test first second h)
-              (λ y i. inner y (has-later (standing at (st.branch q x a b)) (inner_statements l (st.branch q x a b) at) y (Contains-append_left (standing at a ∷ inner_statements l a at) (all_statements l b (text_behind at a)) y i))),
-          stmts-fit b (text_behind at a) s (record { this = agrees.this; no_this = agrees.no_this; known = agrees.known; unknown = agrees.unknown }) (shaped-right (stmt_parts a) (stmts_parts b) (shaped-right (expr_parts x) (stmt_parts a and stmts_parts b) shaped)) (branch-second test first second h)
-              (λ y i. inner y (has-later (standing at (st.branch q x a b)) (inner_statements l (st.branch q x a b) at) y (Contains-append_right (standing at a ∷ inner_statements l a at) (all_statements l b (text_behind at a)) y i))))
+          let second = all_faults l m b (text_behind at a) in (
+            stmt-fits a at s agrees (shaped-left (stmt_parts a) (stmts_parts b) (shaped-right (expr_parts x) (stmt_parts a and stmts_parts b) shaped)) (branch-first test first second h)
+                (λ y i. inner y (has-later (standing at (st.branch q x a b)) (inner_statements l (st.branch q x a b) at) y (Contains-append_left (standing at a ∷ inner_statements l a at) (all_statements l b (text_behind at a)) y i))),
+            stmts-fit b (text_behind at a) s (record { this = agrees.this; no_this = agrees.no_this; known = agrees.known; unknown = agrees.unknown }) (shaped-right (stmt_parts a) (stmts_parts b) (shaped-right (expr_parts x) (stmt_parts a and stmts_parts b) shaped)) (branch-second test first second h)
+                (λ y i. inner y (has-later (standing at (st.branch q x a b)) (inner_statements l (st.branch q x a b) at) y (Contains-append_right (standing at a ∷ inner_statements l a at) (all_statements l b (text_behind at a)) y i))),
+          )
       stmt-fits (st.loop q invs x a) at s agrees shaped h inner =
           let claims = flat_map (λ (y : LabelledPart). truth_faults l (inside l at) y.spec) invs in
-          let test = (expr_type l at x >>= rule_20 x).faults in
-          (claims-states invs, stmt-fits a (in_loop at invs) s (loop-scope p declares s at agrees invs) (shaped-right (expr_parts x) (stmt_parts a) (shaped-right (all_parts labelled_parts invs) (expr_parts x and stmt_parts a) shaped)) (branch-second claims test (stmt_faults l m a (in_loop at invs)) h)
-              (λ y i. inner y (has-later (standing at (st.loop q invs x a)) (inner_statements l (st.loop q invs x a) at) y i)))
+          let test = (expr_type l at x >>= rule_20 x).faults in (
+            claims-states invs,
+            stmt-fits a (in_loop at invs) s (loop-scope p declares s at agrees invs) (shaped-right (expr_parts x) (stmt_parts a) (shaped-right (all_parts labelled_parts invs) (expr_parts x and stmt_parts a) shaped)) (branch-second claims test (stmt_faults l m a (in_loop at invs)) h)
+                (λ y i. inner y (has-later (standing at (st.loop q invs x a)) (inner_statements l (st.loop q invs x a) at) y i)),
+          )
       stmt-fits (st.return q None) at s agrees shaped h inner = nothing m.result refl
         where
           nothing : (w : JType) → m.result ≡ w → result ≡ ty.Void
@@ -129,7 +126,8 @@ module _ (p : ProgramTree) (declares : Declares p) (n : ℕ) (m : MethodPart) wh
       stmts-fit (st.more a ss) at s agrees shaped h inner =
           let first = stmt_faults l m a at in
           let second = all_faults l m ss (behind l at a) in
-          let here : first ≡ [] = left-empty first second h in
-          (stmt-fits a at s agrees (shaped-left (stmt_parts a) (stmts_parts ss) shaped) here (λ y i. inner y (Contains-append_left (standing at a ∷ inner_statements l a at) (all_statements l ss (behind l at a)) y i)),
-          stmts-fit ss (behind l at a) (scope_behind (program_of p) s (stmt_code p a at)) (behind-agrees p declares s at agrees m a (shaped-left (stmt_parts a) (stmts_parts ss) shaped) here) (shaped-right (stmt_parts a) (stmts_parts ss) shaped) (right-empty first second h)
-              (λ y i. inner y (Contains-append_right (standing at a ∷ inner_statements l a at) (all_statements l ss (behind l at a)) y i)))
+          let here : first ≡ [] = left-empty first second h in (
+            stmt-fits a at s agrees (shaped-left (stmt_parts a) (stmts_parts ss) shaped) here (λ y i. inner y (Contains-append_left (standing at a ∷ inner_statements l a at) (all_statements l ss (behind l at a)) y i)),
+            stmts-fit ss (behind l at a) (scope_behind (program_of p) s (stmt_code p a at)) (behind-agrees p declares s at agrees m a (shaped-left (stmt_parts a) (stmts_parts ss) shaped) here) (shaped-right (stmt_parts a) (stmts_parts ss) shaped) (right-empty first second h)
+                (λ y i. inner y (Contains-append_right (standing at a ∷ inner_statements l a at) (all_statements l ss (behind l at a)) y i)),
+          )

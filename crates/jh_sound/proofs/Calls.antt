@@ -1,5 +1,5 @@
 -- A call in which no rule is broken is one of a method of the program, which its receiver and its arguments fit.
-use Rattle.std.proofs.Common.{◌≡◌, refl, sym, ap, subst, ◌∙◌, ℕ, Bool, true, false, not, ◌==◌, if◌then◌else◌, List, [], ◌∷◌, ◌++◌, map, length, Option, Some, None, is_some, option_map, suc, arith}
+use Rattle.std.proofs.Common.{◌≡◌, refl, sym, ap, subst, ◌∙◌, ℕ, Bool, true, false, not, ◌==◌, if◌then◌else◌, List, [], ◌∷◌, ◌++◌, map, length, Option, Some, None, is_some, suc, arith}
 use Rattle.std.specs.List.{Contains, flat_map}
 use Rattle.std.specs.Option.{option_map_or}
 use Rattle.std.proofs.lemmas.Bool.{true≢false}
@@ -14,25 +14,23 @@ use Rattle.jh_rules.specs.declared.fault.Fault.{Fault}
 use Rattle.jh_rules.specs.declared.types.Ty.{Ty}
 use Rattle.jh_rules.specs.declared.types.Ty.TheVariants as ty
 use Rattle.jh_rules.specs.declared.entries.MethodEntry.{MethodEntry}
-use Rattle.jh_rules.specs.Faults.{Judged, right, wrong, fault, needs, given, also, fine, both, pair_of, ◌>>=◌}
+use Rattle.jh_rules.specs.Faults.{Judged, right, fault, given, fine, both, ◌>>=◌}
 use Rattle.jh_rules.specs.Words.{text_of}
 use Rattle.jh_rules.specs.Kinds.{class_of, fits}
-use Rattle.jh_rules.specs.Names.{Declared, declared_in, type_of, param_type}
+use Rattle.jh_rules.specs.Names.{Declared, declared_in, param_type}
 use Rattle.jh_rules.specs.Scopes.{Scope}
 use Rattle.jh_rules.specs.Rules.{rule_22, rule_23, rule_23_number}
 use Rattle.jh_rules.specs.Exprs.{expr_type, receiver, class_spelled, callee_class, callee, arguments, result_of, call_type, call_place, own_or_static}
-use Rattle.jh_vars.specs.Written.{Callee, part_of}
 use Rattle.jh_runs.specs.Code.{Text, ObjectCode, AnyCode, Local, Target}
 use Rattle.jh_runs.specs.Code as c
-use Rattle.jh_runs.specs.Program.{Method}
 use Rattle.jh_runs.specs.Lowered.{as_object, expr_code}
-use Rattle.jh_runs.specs.LoweredStmts.{local_code, word_type, called_class, callee_of, calls_static, receiver_code}
-use Rattle.jh_runs.specs.LoweredProgram.{program_of, method_code}
+use Rattle.jh_runs.specs.LoweredStmts.{local_code, calls_static, receiver_code}
+use Rattle.jh_runs.specs.LoweredProgram.{program_of}
 use Rattle.jh_runs.specs.Typed.{Surroundings, ObjectHas, of_this, Has, AllFit, ReceiverFits}
-use Rattle.jh_sound.proofs.Lists.{has-first, has-later, map-from, more-not-empty, left-empty, right-empty, each-empty, some-same, no-none, not-true}
+use Rattle.jh_sound.proofs.Lists.{has-first, has-later, map-from, more-not-empty, left-empty, right-empty, each-empty, not-true}
 use Rattle.jh_sound.proofs.Judged.{met, met-known, then-first, then-next, then-known, both-known}
 use Rattle.jh_sound.proofs.Environment.{MethodPartFits, Declares, Agrees}
-use Rattle.jh_sound.proofs.Expressions.{TypedBy, ReceiverIs, class-type, object-has, typed}
+use Rattle.jh_sound.proofs.Expressions.{TypedBy, class-type, object-has, typed}
 use Rattle.jh_sound.proofs.Targets.{args-fit}
 
 -- which methods are wanted
@@ -102,18 +100,22 @@ module _ (p : ProgramTree) (declares : Declares p) (s : Surroundings) (at : Scop
   written-known a None h =
       let j : Judged Ty = expr_type l at a in
       let to : Ty → Judged (Option ℕ × Bool) = λ t. right (class_of t, false) in
-      let u : TypedBy p declares s j (expr_code p a at) = typed p declares s at agrees a (then-first j to (then-first (j >>= to) wanting h)) in
-      ((class_of u.type, Some false), then-known (j >>= to) wanting (class_of u.type, false) (then-known j to u.type u.known),
-      λ n m i asked. subst (λ b. ReceiverFits (program_of p) s (Some (as_object (expr_code p a at))) (if b then None else Some n)) (sym (asks-instance m asked))
-          (object-has p declares s (expr_code p a at) n (subst (λ t. Has (program_of p) s (expr_code p a at) t) (class-type u.type n i) u.has)))
+      let u : TypedBy p declares s j (expr_code p a at) = typed p declares s at agrees a (then-first j to (then-first (j >>= to) wanting h)) in (
+        (class_of u.type, Some false),
+        then-known (j >>= to) wanting (class_of u.type, false) (then-known j to u.type u.known),
+        λ n m i asked. subst (λ b. ReceiverFits (program_of p) s (Some (as_object (expr_code p a at))) (if b then None else Some n)) (sym (asks-instance m asked))
+            (object-has p declares s (expr_code p a at) n (subst (λ t. Has (program_of p) s (expr_code p a at) t) (class-type u.type n i) u.has)),
+      )
 
   written-receiver : (x : CallTree) (a : ExprTree) → x.receiver ≡ Some a → (callee_class l at x.receiver).faults ≡ [] → (r : Option ℕ × Option Bool) × ReceiverOf x r
   written-receiver x a e h =
-      let k = written-known a (class_spelled l at a) (subst (λ o. (callee_class l at o).faults ≡ []) e h) in
-      (k.0, record {
-        known = ap (λ o. (callee_class l at o).known) e ∙ k.1;
-        fits = λ n m i is asked. subst (λ (o : Option ExprTree). ReceiverFits (program_of p) s (receiver_code p at (record { class = n; name = text_of x.method }) o) (if m.fixed then None else Some n)) (sym e) (k.2 n m i asked);
-      })
+      let k = written-known a (class_spelled l at a) (subst (λ o. (callee_class l at o).faults ≡ []) e h) in (
+        k.0,
+        record {
+          known = ap (λ o. (callee_class l at o).known) e ∙ k.1;
+          fits = λ n m i is asked. subst (λ (o : Option ExprTree). ReceiverFits (program_of p) s (receiver_code p at (record { class = n; name = text_of x.method }) o) (if m.fixed then None else Some n)) (sym e) (k.2 n m i asked);
+        },
+      )
 
   receiver-known : (x : CallTree) (o : Option ExprTree) → x.receiver ≡ o → (callee_class l at x.receiver).faults ≡ [] → (r : Option ℕ × Option Bool) × ReceiverOf x r
   receiver-known x None e h = ((Some at.class, own_or_static l at at.fixed), own-receiver x e)
@@ -141,9 +143,11 @@ module _ (p : ProgramTree) (declares : Declares p) (s : Surroundings) (at : Scop
       let first : Judged MethodEntry = rule_23_number place n (length entry.params) entry in
       let last : MethodEntry → Judged Ty = λ m. arguments l at args m.params >>= λ u. given m.result in
       let known : first.known ≡ Some entry = met-known (n == length entry.params) 23 place entry (then-first first last h) in
-      let more : (last entry).faults ≡ [] = then-next first last entry h known in
-      (met (n == length entry.params) 23 place entry (then-first first last h), then-first (arguments l at args entry.params) (λ u. given entry.result) more,
-      λ k e. then-known first last entry known ∙ then-known (arguments l at args entry.params) (λ u. given entry.result) k e)
+      let more : (last entry).faults ≡ [] = then-next first last entry h known in (
+        met (n == length entry.params) 23 place entry (then-first first last h),
+        then-first (arguments l at args entry.params) (λ u. given entry.result) more,
+        λ k e. then-known first last entry known ∙ then-known (arguments l at args entry.params) (λ u. given entry.result) k e,
+      )
 
   -- the arguments are known where they fit
   args-known : (args : List ExprTree) (ds : List (Option Ty)) → ((a : ExprTree) → Contains args a → (expr_type l at a).faults ≡ []) → ((d : Option Ty) → Contains ds d → (t : Ty) × (d ≡ Some t)) → (arguments l at args ds).faults ≡ [] → (arguments l at args ds).known ≡ Some tt

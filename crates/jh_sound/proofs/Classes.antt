@@ -1,26 +1,23 @@
 -- The classes of a program that breaks no rule: nothing is wrong in any of them, their names are told apart, and so are their members.
-use Rattle.std.proofs.Common.{◌≡◌, refl, sym, ap, subst, ◌∙◌, ℕ, zero, suc, ◌+◌, ◌==◌, ◌<◌, nat_lt, Bool, true, false, ◌&&◌, ◌||◌, if◌then◌else◌, List, [], ◌∷◌, ◌++◌, map, Option, Some, None, slice_get, codes, arith, ◌⊎◌, inl, inr, ⊎_elim}
-use Rattle.std.specs.List.{Contains, flat_map, list_any}
-use Rattle.std.specs.Option.{option_map_or}
+use Rattle.std.proofs.Common.{◌≡◌, refl, sym, ap, subst, ◌∙◌, ℕ, zero, suc, ◌+◌, ◌==◌, nat_lt, Bool, true, false, ◌&&◌, ◌||◌, if◌then◌else◌, List, [], ◌∷◌, ◌++◌, map, Some, None, slice_get, codes, arith}
+use Rattle.std.specs.List.{Contains, flat_map}
 use Rattle.std.proofs.lemmas.Bool.{true≢false}
 use Rattle.std.proofs.lemmas.Bool.Decides.{nat_tests}
-use Rattle.std.proofs.lemmas.List.Elements.{Contains-append_left, Contains-append_right, Contains-append_cases}
 use Rattle.jh_name.specs.declared.place.Place.{Place}
 use Rattle.jh_ast.specs.declared.word.Word.{Word}
 use Rattle.jh_ast.specs.Forms.{LabelledPart}
 use Rattle.jh_ast.specs.Programs.{ProgramTree, ClassPart, FieldPart, VarPart, DefPart, MethodPart}
 use Rattle.jh_rules.specs.declared.fault.Fault.{Fault}
-use Rattle.jh_rules.specs.Faults.{fault, broken}
+use Rattle.jh_rules.specs.Faults.{fault}
 use Rattle.jh_rules.specs.Breaks.{faults_of, Breaks}
 use Rattle.jh_rules.specs.Words.{same_text, is_one_of, text_of, is_before, used_before}
 use Rattle.jh_rules.specs.Names.{Declared, declared_in, MemberPart, member_word, members_of, class_from, number_of}
-use Rattle.jh_rules.specs.Names as n
 use Rattle.jh_rules.specs.Rules.{rule_1, rule_2, rule_3, rule_4, rule_6_member, rule_12, rule_25, rule_32}
 use Rattle.jh_rules.specs.Scopes.{outermost, declare_all}
 use Rattle.jh_rules.specs.Formulas.{truth_faults}
 use Rattle.jh_rules.specs.Statements.{of_some, param_faults, contract_place, result_kind, all_faults, outside, field_faults, var_faults, def_faults, label_words, method_faults, class_faults, classes_faults}
 use Rattle.jh_sound.specs.Placed.{IsPlaced}
-use Rattle.jh_sound.proofs.Lists.{has-first, has-later, has-none, has-cases, at-has, map-has, left-empty, right-empty, each-empty, none-passes, or-false-left, or-false-right, some-same, no-none}
+use Rattle.jh_sound.proofs.Lists.{has-first, at-has, map-has, left-empty, right-empty, each-empty, none-passes, or-false-left, or-false-right, some-same, no-none}
 use Rattle.jh_sound.proofs.Judged.{not-broken}
 use Rattle.jh_sound.proofs.Texts.{same-is, is-same, not-same}
 

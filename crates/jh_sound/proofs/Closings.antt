@@ -1,5 +1,5 @@
 -- What stands for the leaves of a tree decides which loose bound variables the mapped tree has.
-use Rattle.std.proofs.Common.{◌≡◌, refl, ℕ, ◌+◌, nat_lt, Bool, true, ◌&&◌, arith}
+use Rattle.std.proofs.Common.{◌≡◌, refl, ℕ, ◌+◌, nat_lt, true, ◌&&◌, arith}
 use Rattle.jh_name.specs.declared.naming.Name.{Name}
 use Rattle.jh_tree.specs.Tree.{TermTree, IntTree, SetTree, FieldTree, ValueTree, FormulaTree, FieldTrees}
 use Rattle.jh_tree.specs.Tree as t

@@ -1,71 +1,48 @@
 -- The contracts and invariants of a program that breaks no rule speak of what they may.
-use Rattle.std.proofs.Common.{◌≡◌, refl, sym, ap, subst, ◌∙◌, ℕ, zero, suc, ◌+◌, ◌==◌, Bool, true, false, not, ◌&&◌, ◌||◌, if◌then◌else◌, List, [], ◌∷◌, ◌++◌, map, Option, Some, None, is_some, option_map, slice_get, codes, arith, ◌⊎◌, inl, inr, ⊎_elim}
-use Rattle.std.specs.List.{Contains, flat_map, list_any}
+use Rattle.std.proofs.Common.{◌≡◌, refl, sym, ap, subst, ◌∙◌, ℕ, zero, suc, ◌+◌, Bool, true, false, not, ◌&&◌, ◌||◌, if◌then◌else◌, List, [], ◌∷◌, map, Option, Some, None, slice_get, arith}
+use Rattle.std.specs.List.{Contains}
 use Rattle.std.specs.Option.{option_map_or}
 use Rattle.std.proofs.lemmas.Bool.{true≢false}
-use Rattle.std.proofs.lemmas.List.Elements.{Contains-append_cases}
 use Rattle.jh_name.specs.declared.naming.Name.{Name}
-use Rattle.jh_name.specs.declared.place.Kind.{Kind}
-use Rattle.jh_name.specs.declared.place.Kind.TheVariants as k
 use Rattle.jh_name.specs.declared.place.Sort.{Sort}
 use Rattle.jh_name.specs.declared.place.Sort.TheVariants as sort
-use Rattle.jh_ast.specs.declared.word.JType.{JType}
-use Rattle.jh_ast.specs.declared.word.JType.TheVariants as j
-use Rattle.jh_ast.specs.declared.word.Param.{Param}
-use Rattle.jh_ast.specs.Forms.{FormTree, SpecPart, LabelledPart}
-use Rattle.jh_ast.specs.Programs.{ProgramTree, ClassPart, DefPart, MethodPart}
+use Rattle.jh_ast.specs.Forms.{FormTree}
+use Rattle.jh_ast.specs.Programs.{ProgramTree, ClassPart, DefPart}
 use Rattle.jh_tree.specs.Tree.{ValueTree}
 use Rattle.jh_tree.specs.Tree as t
-use Rattle.jh_tree.specs.Sorts.{same_sort}
 use Rattle.jh_tree.specs.Closed.{is_closed_term, is_closed_int, is_closed_set, is_closed_field, is_closed_value, is_closed_formula}
-use Rattle.jh_tree.specs.Passing.{name_equal, term_passes, int_passes, set_passes, field_passes, value_passes, formula_passes}
-use Rattle.jh_tree.proofs.Names.{name_equal-true}
-use Rattle.jh_walk.specs.Mapped.{unchanged, mapped_value}
+use Rattle.jh_tree.specs.Passing.{term_passes, int_passes, set_passes, field_passes, value_passes, formula_passes}
+use Rattle.jh_walk.specs.Mapped.{unchanged}
 use Rattle.jh_walk.proofs.Identity.{mapped_value-unchanged}
 use Rattle.jh_rules.specs.declared.fault.Fault.{Fault}
-use Rattle.jh_rules.specs.declared.types.Ty.{Ty}
-use Rattle.jh_rules.specs.declared.types.Ty.TheVariants as ty
 use Rattle.jh_rules.specs.declared.entries.StateEntry.{StateEntry}
-use Rattle.jh_rules.specs.declared.entries.LocalEntry.{LocalEntry}
 use Rattle.jh_rules.specs.Breaks.{faults_of}
-use Rattle.jh_rules.specs.Faults.{Judged, ◌>>=◌, needs_none}
 use Rattle.jh_rules.specs.Words.{same_text, text_of, used_before}
-use Rattle.jh_rules.specs.Kinds.{kind_of}
-use Rattle.jh_rules.specs.Names.{◌then◌, Declared, declared_in, def_of, def_in, class_from, type_of, kind_of_word}
-use Rattle.jh_rules.specs.Scopes.{Scope, outermost, declare, declare_all}
-use Rattle.jh_rules.specs.Rules.{rule_8, rule_10, rule_11, is_void_word}
-use Rattle.jh_rules.specs.Shape.{program_parts, are_different}
-use Rattle.jh_rules.specs.Formulas.{Where, in_old, form_kind, truth_faults}
-use Rattle.jh_rules.specs.Statements.{of_some, asked, outside, contract_place, result_kind, def_faults}
-use Rattle.jh_state.specs.States.{sort_of}
-use Rattle.jh_vars.specs.Statements.{entry_scope}
+use Rattle.jh_rules.specs.Names.{◌then◌, Declared, declared_in, def_of, def_in, class_from}
+use Rattle.jh_rules.specs.Rules.{rule_8, rule_10}
+use Rattle.jh_rules.specs.Shape.{program_parts}
+use Rattle.jh_rules.specs.Formulas.{form_kind}
+use Rattle.jh_rules.specs.Statements.{asked, outside, def_faults}
 use Rattle.jh_vars.specs.States.{class_text}
-use Rattle.jh_vars.specs.Resolved.{Spot, own, turned, at_entry, resolved, kind_of_local, as_truth}
+use Rattle.jh_vars.specs.Resolved.{own, resolved, as_truth}
 use Rattle.jh_vars.specs.Opened.{is_of_objects, meant, all_definitions, value_at, uses_this, of_every_object, invariant_value}
 use Rattle.jh_vars.specs.Opened as opened
-use Rattle.jh_vars.specs.Written.{Callee}
-use Rattle.jh_runs.specs.Code.{Text, Local, Claim}
-use Rattle.jh_runs.specs.State.{named}
-use Rattle.jh_runs.specs.Locals.{has_dot}
-use Rattle.jh_runs.specs.Program.{Program, Method}
-use Rattle.jh_runs.specs.LoweredStmts.{spec_value, word_type, local_code, claim_of, labelled_claim}
-use Rattle.jh_runs.specs.LoweredProgram.{program_of, method_code, class_claims}
-use Rattle.jh_guard.specs.Items.{Item, item_text, item_sort, items}
-use Rattle.jh_guard.specs.Calls.{this_text, result_text, is_void}
-use Rattle.jh_logic.specs.MethodContracts.{is_item, is_state, is_param, is_plain, names_now, speaks_before, speaks_after, speaks_of_state, Speaks, AllSpeak, IsValueType, ContractFits, ContractsFit}
-use Rattle.jh_sound.specs.Placed.{IsPlaced, NoGhostObject}
-use Rattle.jh_sound.proofs.Lists.{has-none, has-first, has-later, has-cases, has-at, map-from, any-passes, left-empty, right-empty, both-true, and-left, and-right, some-same, no-none, not-true, not-false, or-false-left, or-true-left, or-true-right, or-cases}
-use Rattle.jh_sound.proofs.Judged.{not-broken, then-first}
-use Rattle.jh_sound.proofs.Texts.{same-is, is-same, not-same, differ}
-use Rattle.jh_sound.proofs.Shaped.{Shaped, shaped-left, shaped-right, shaped-each}
-use Rattle.jh_sound.proofs.Types.{kind-of-word}
+use Rattle.jh_runs.specs.Code.{Text}
+use Rattle.jh_runs.specs.Program.{Program}
+use Rattle.jh_runs.specs.LoweredProgram.{program_of}
+use Rattle.jh_logic.specs.MethodContracts.{is_state, speaks_of_state}
+use Rattle.jh_sound.specs.Placed.{IsPlaced}
+use Rattle.jh_sound.proofs.Lists.{left-empty, right-empty, both-true, and-left, some-same, no-none, not-false, or-false-left}
+use Rattle.jh_sound.proofs.Judged.{not-broken}
+use Rattle.jh_sound.proofs.Texts.{is-same}
+use Rattle.jh_sound.proofs.Shaped.{Shaped}
 use Rattle.jh_sound.proofs.Passings.{Passing}
 use Rattle.jh_sound.proofs.Closings.{Closing}
 use Rattle.jh_sound.proofs.Fine.{Test, Fine, truth-fine, mapped-fine}
-use Rattle.jh_sound.proofs.Leaves.{depth, fine-form}
-use Rattle.jh_sound.proofs.Classes.{class-fine, MethodFine}
+use Rattle.jh_sound.proofs.Leaves.{fine-form}
+use Rattle.jh_sound.proofs.Classes.{class-fine}
 use Rattle.jh_sound.proofs.Pieces.{def-found}
-use Rattle.jh_sound.proofs.Speaking.{Matches, Speaking, SpeakingOld, MayBeOld, class-state, leaves-speak}
+use Rattle.jh_sound.proofs.Speaking.{Matches, Speaking, class-state, leaves-speak}
 
 -- what passes one test passes a wider one
 unchanged-closed : (d : ℕ) → Closing unchanged d d

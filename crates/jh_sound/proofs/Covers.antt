@@ -1,28 +1,15 @@
 -- What the code of a body writes, its method may write.
-use Rattle.std.proofs.Common.{◌≡◌, refl, sym, ap, subst, ◌∙◌, ℕ, zero, suc, ◌+◌, ◌==◌, Bool, true, false, not, ◌||◌, if◌then◌else◌, List, [], ◌∷◌, ◌++◌, map, Option, Some, None, is_some, option_map, slice_get, codes, arith, ◌⊎◌, inl, inr, ⊎_elim}
-use Rattle.std.specs.List.{Contains, flat_map, list_any}
+use Rattle.std.proofs.Common.{◌≡◌, refl, sym, ap, subst, ◌∙◌, ℕ, zero, suc, ◌+◌, true, false, ◌||◌, List, [], ◌∷◌, ◌++◌, map, Option, Some, None, slice_get, codes, arith, ⊎_elim}
+use Rattle.std.specs.List.{Contains, list_any}
 use Rattle.std.specs.Option.{option_map_or}
 use Rattle.std.proofs.lemmas.Bool.{true≢false}
 use Rattle.std.proofs.lemmas.List.Elements.{Contains-append_left, Contains-append_right, Contains-append_cases}
-use Rattle.jh_name.specs.declared.naming.Name.{Name}
-use Rattle.jh_name.specs.declared.place.Place.{Place}
-use Rattle.jh_name.specs.declared.place.Kind.TheVariants as k
-use Rattle.jh_ast.specs.declared.word.Word.{Word}
-use Rattle.jh_ast.specs.declared.word.Param.{Param}
-use Rattle.jh_ast.specs.Exprs.{ExprTree}
-use Rattle.jh_ast.specs.Exprs as e
-use Rattle.jh_ast.specs.Forms.{SpecPart, LabelledPart}
-use Rattle.jh_ast.specs.Stmts.{StmtTree, StmtTrees, RhsTree, CallTree}
-use Rattle.jh_ast.specs.Stmts as st
-use Rattle.jh_ast.specs.Programs.{ProgramTree, ClassPart, FieldPart, VarPart, MethodPart}
+use Rattle.jh_ast.specs.Programs.{ProgramTree, ClassPart}
 use Rattle.jh_rules.specs.Breaks.{faults_of}
 use Rattle.jh_rules.specs.Words.{same_text, text_of, halves}
-use Rattle.jh_rules.specs.Names.{Declared, declared_in, number_of, class_from, members_of}
-use Rattle.jh_rules.specs.Shape.{◌and◌, all_parts, class_parts, program_parts, field_parts, method_parts, var_parts, def_parts, labelled_parts, of_declared, may_be_declared, is_empty, is_forbidden}
+use Rattle.jh_rules.specs.Shape.{◌and◌, all_parts, program_parts, field_parts, method_parts, var_parts, def_parts, labelled_parts, of_declared, may_be_declared, is_empty, is_forbidden}
 use Rattle.jh_vars.specs.States.{class_text}
-use Rattle.jh_vars.specs.Resolved.{own}
-use Rattle.jh_vars.specs.Written.{Written, allocated, objects, plain_objects, state, Callee, Piece, pieces_of, all_state, class_sets, members_in_order, written_name, MayWrite}
-use Rattle.jh_vars.specs.Written as vars
+use Rattle.jh_vars.specs.Written.{Written, allocated, objects, plain_objects, state, Piece, pieces_of, all_state, class_sets, members_in_order, written_name}
 use Rattle.jh_runs.specs.Code.{Text}
 use Rattle.jh_runs.specs.Program.{Program, Member}
 use Rattle.jh_runs.specs.Locals.{has_dot}
@@ -30,10 +17,10 @@ use Rattle.jh_runs.specs.WellFormed.{all_classes}
 use Rattle.jh_runs.specs.LoweredProgram.{program_of}
 use Rattle.jh_guard.specs.Items.{Item, all_objects, objects_of, of_member, item_text, items}
 use Rattle.jh_sound.specs.Placed.{IsPlaced}
-use Rattle.jh_sound.proofs.Lists.{has-none, has-first, has-later, has-cases, at-has, has-at, map-has, map-from, map-at, or-false-left, some-same, no-none, not-true, or-true-right}
-use Rattle.jh_sound.proofs.Texts.{same-is, is-same}
+use Rattle.jh_sound.proofs.Lists.{has-none, has-first, has-later, has-cases, has-at, map-has, map-from, or-false-left, some-same, no-none, not-true}
+use Rattle.jh_sound.proofs.Texts.{is-same}
 use Rattle.jh_sound.proofs.Shaped.{Shaped, shaped-left}
-use Rattle.jh_sound.proofs.Classes.{ClassAt, class-at, same-class, class-not-object, class-not-alloc}
+use Rattle.jh_sound.proofs.Classes.{same-class, class-not-object, class-not-alloc}
 use Rattle.jh_sound.proofs.Members.{MemberFrom, member-comes}
 use Rattle.jh_sound.proofs.Declared.{halves-of, class-text-is}
 use Rattle.jh_sound.proofs.Named.{class-shaped, dotless, middle-dot}
@@ -132,7 +119,7 @@ module _ (p : ProgramTree) (placed : IsPlaced p) (clean : faults_of p ≡ []) (s
   pub item-is : (y : Item) → Contains (items P) y → ItemIs y
   item-is y i = ⊎_elim (λ f. subst ItemIs f (record { written = allocated; stands = has-first allocated (class_sets p 0 p.classes ++ members_in_order p 0 p.classes); same = refl }))
       (λ j. ⊎_elim (λ h. let r = map-from (λ c. objects_of c) (all_classes P.classes) y h in subst ItemIs r.2 (class-item r.0 r.1)) (λ h. let r = map-from (λ x. of_member x) P.members y h in subst ItemIs r.2 (member-item r.0 r.1))
-          (Contains-append_cases (map (λ c. objects_of c) (all_classes P.classes)) (map (λ x. of_member x) P.members) y j))
+      (Contains-append_cases (map (λ c. objects_of c) (all_classes P.classes)) (map (λ x. of_member x) P.members) y j))
       (has-cases all_objects (map (λ c. objects_of c) (all_classes P.classes) ++ map (λ x. of_member x) P.members) y i)
 
   -- a piece of the state is known by its text

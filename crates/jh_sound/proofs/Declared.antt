@@ -1,18 +1,15 @@
 -- What the rules find of a class, a field or a method is what the program has.
-use Rattle.std.proofs.Common.{◌≡◌, refl, sym, ap, subst, ◌∙◌, ℕ, zero, suc, ◌==◌, Bool, true, false, not, ◌||◌, if◌then◌else◌, List, [], ◌∷◌, ◌++◌, map, Option, Some, None, is_some, option_map, slice_get, codes, arith, ◌⊎◌, inl, inr, ⊎_elim}
-use Rattle.std.specs.List.{Contains, list_any}
+use Rattle.std.proofs.Common.{◌≡◌, refl, sym, ap, subst, ◌∙◌, ℕ, zero, suc, ◌==◌, Bool, true, false, not, if◌then◌else◌, List, [], ◌∷◌, ◌++◌, map, Option, Some, None, option_map, slice_get, codes, arith, ◌⊎◌, inl, inr, ⊎_elim}
+use Rattle.std.specs.List.{Contains}
 use Rattle.std.specs.Option.{option_map_or}
 use Rattle.std.proofs.lemmas.Bool.{true≢false}
 use Rattle.std.proofs.lemmas.List.Elements.{Contains-append_left, Contains-append_right, Contains-append_cases}
 use Rattle.jh_name.specs.declared.place.Kind.{Kind}
 use Rattle.jh_name.specs.declared.place.Kind.TheVariants as k
 use Rattle.jh_name.specs.declared.place.Sort.TheVariants as sort
-use Rattle.jh_ast.specs.declared.word.Word.{Word}
-use Rattle.jh_ast.specs.declared.word.JType.{JType}
 use Rattle.jh_ast.specs.declared.word.Param.{Param}
 use Rattle.jh_ast.specs.Programs.{ProgramTree, ClassPart, FieldPart, VarPart, MethodPart}
 use Rattle.jh_tree.specs.Sorts.{same_sort}
-use Rattle.jh_rules.specs.declared.fault.Fault.{Fault}
 use Rattle.jh_rules.specs.declared.types.Ty.{Ty}
 use Rattle.jh_rules.specs.declared.entries.FieldEntry.{FieldEntry}
 use Rattle.jh_rules.specs.declared.entries.MethodEntry.{MethodEntry}
@@ -20,21 +17,20 @@ use Rattle.jh_rules.specs.Words.{same_text, text_of, is_before, halves}
 use Rattle.jh_rules.specs.Names.{◌then◌, Declared, declared_in, own_name, MemberPart, field, method, var, member_word, members_of, first_named, field_from, method_from, member_of, type_of, number_of, param_type}
 use Rattle.jh_rules.specs.Scopes.{Scope, outermost, declare}
 use Rattle.jh_rules.specs.Rules.{rule_4, rule_5, rule_6_local}
-use Rattle.jh_rules.specs.Statements.{field_faults, method_faults, param_faults, declared_faults}
+use Rattle.jh_rules.specs.Statements.{param_faults, declared_faults}
 use Rattle.jh_vars.specs.States.{class_text}
-use Rattle.jh_vars.specs.Written.{Callee, Piece, field_piece, method_in, part_of}
-use Rattle.jh_state.specs.States.{sort_of, member_sort, member_state}
+use Rattle.jh_vars.specs.Written.{field_piece, method_in, part_of}
+use Rattle.jh_state.specs.States.{member_sort}
 use Rattle.jh_runs.specs.Code.{Text}
-use Rattle.jh_runs.specs.Program.{Program, Member, class_at}
+use Rattle.jh_runs.specs.Program.{Program, class_at}
 use Rattle.jh_runs.specs.Locals.{has_dot}
-use Rattle.jh_runs.specs.LoweredProgram.{program_of, member_type}
-use Rattle.jh_runs.specs.Typed.{IsMember}
+use Rattle.jh_runs.specs.LoweredProgram.{program_of}
 use Rattle.jh_sound.proofs.Lists.{has-first, has-later, has-none, has-cases, at-has, map-has, map-from, at-map, some-same, no-none, left-empty, right-empty, or-false-left, or-false-right}
 use Rattle.jh_sound.proofs.Texts.{same-is, is-same}
 use Rattle.jh_sound.proofs.Types.{declared-type}
-use Rattle.jh_sound.proofs.Classes.{MethodFine, method-fine, ClassFine, ClassAt, class-at, class-fine, same-member}
+use Rattle.jh_sound.proofs.Classes.{MethodFine, method-fine, ClassAt, class-at, class-fine, same-member}
 use Rattle.jh_sound.proofs.Members.{member-of, member-stands, field-piece-has}
-use Rattle.jh_sound.proofs.Environment.{FieldFits, ClassFits, MethodPartFits, Declares}
+use Rattle.jh_sound.proofs.Environment.{FieldFits, MethodPartFits, Declares}
 use Rattle.jh_sound.specs.Placed.{IsPlaced}
 use Rattle.jh_rules.specs.Breaks.{faults_of}
 
@@ -108,7 +104,7 @@ module _ (c : ClassPart) where
   unfolding as_field sort_number
   field-in x i = ⊎_elim
       (λ j. ⊎_elim (λ h. let r = map-from field c.fields (field x) h in subst (Contains c.fields) (ap (as_field x) r.2) r.1)
-          (λ h. let r = map-from method c.methods (field x) h in absurd (no-less (sym (ap sort_number r.2)))) (Contains-append_cases (map field c.fields) (map method c.methods) (field x) j))
+      (λ h. let r = map-from method c.methods (field x) h in absurd (no-less (sym (ap sort_number r.2)))) (Contains-append_cases (map field c.fields) (map method c.methods) (field x) j))
       (λ h. let r = map-from var c.vars (field x) h in absurd (no-two (sym (ap sort_number r.2))))
       (Contains-append_cases (map field c.fields ++ map method c.methods) (map var c.vars) (field x) i)
 
@@ -116,7 +112,7 @@ module _ (c : ClassPart) where
   unfolding as_method sort_number
   method-in m i = ⊎_elim
       (λ j. ⊎_elim (λ h. let r = map-from field c.fields (method m) h in absurd (no-less (ap sort_number r.2)))
-          (λ h. let r = map-from method c.methods (method m) h in subst (Contains c.methods) (ap (as_method m) r.2) r.1) (Contains-append_cases (map field c.fields) (map method c.methods) (method m) j))
+      (λ h. let r = map-from method c.methods (method m) h in subst (Contains c.methods) (ap (as_method m) r.2) r.1) (Contains-append_cases (map field c.fields) (map method c.methods) (method m) j))
       (λ h. let r = map-from var c.vars (method m) h in absurd (no-one (sym (ap sort_number r.2))))
       (Contains-append_cases (map field c.fields ++ map method c.methods) (map var c.vars) (method m) i)
 
@@ -124,7 +120,7 @@ module _ (c : ClassPart) where
   unfolding as_var sort_number
   var-in v i = ⊎_elim
       (λ j. ⊎_elim (λ h. let r = map-from field c.fields (var v) h in absurd (no-two (ap sort_number r.2)))
-          (λ h. let r = map-from method c.methods (var v) h in absurd (no-one (ap sort_number r.2))) (Contains-append_cases (map field c.fields) (map method c.methods) (var v) j))
+      (λ h. let r = map-from method c.methods (var v) h in absurd (no-one (ap sort_number r.2))) (Contains-append_cases (map field c.fields) (map method c.methods) (var v) j))
       (λ h. let r = map-from var c.vars (var v) h in subst (Contains c.vars) (ap (as_var v) r.2) r.1)
       (Contains-append_cases (map field c.fields ++ map method c.methods) (map var c.vars) (var v) i)
 

@@ -1,6 +1,6 @@
 -- What the proofs about code need of what a program declares, and of the scope in which code stands. What is declared is shown in
 -- `Members` and `Classes`.
-use Rattle.std.proofs.Common.{◌≡◌, ℕ, Bool, true, false, List, [], ◌∷◌, ◌++◌, map, Option, Some, None}
+use Rattle.std.proofs.Common.{◌≡◌, ℕ, true, false, ◌++◌, map, Some, None}
 use Rattle.std.specs.List.{Contains}
 use Rattle.jh_ast.specs.declared.word.Param.{Param}
 use Rattle.jh_ast.specs.Programs.{ProgramTree, MethodPart}
@@ -10,9 +10,9 @@ use Rattle.jh_rules.specs.declared.entries.LocalEntry.{LocalEntry}
 use Rattle.jh_rules.specs.declared.entries.MethodEntry.{MethodEntry}
 use Rattle.jh_rules.specs.Names.{declared_in, type_of, param_type}
 use Rattle.jh_rules.specs.Scopes.{Scope}
-use Rattle.jh_vars.specs.Written.{Callee, part_of}
+use Rattle.jh_vars.specs.Written.{part_of}
 use Rattle.jh_runs.specs.Code.{Text, Local}
-use Rattle.jh_runs.specs.Program.{Program, Member, class_at}
+use Rattle.jh_runs.specs.Program.{Member, class_at}
 use Rattle.jh_runs.specs.Lowered.{member_text}
 use Rattle.jh_runs.specs.LoweredProgram.{program_of}
 use Rattle.jh_runs.specs.Typed.{Surroundings, IsMember}

@@ -1,10 +1,8 @@
 -- The code of an expression in which no rule is broken has values of its type.
-use Rattle.std.proofs.Common.{◌≡◌, refl, sym, ap, subst, ◌∙◌, ℕ, Bool, true, false, not, ◌||◌, if◌then◌else◌, List, [], ◌∷◌, ◌++◌, Option, Some, None}
-use Rattle.std.specs.List.{Contains}
+use Rattle.std.proofs.Common.{◌≡◌, refl, sym, ap, subst, ◌∙◌, ℕ, Bool, true, false, not, ◌||◌, if◌then◌else◌, [], ◌++◌, Option, Some, None}
 use Rattle.std.specs.Option.{option_map_or}
 use Rattle.std.proofs.lemmas.Bool.{true≢false}
 use Rattle.jh_name.specs.declared.place.Place.{Place}
-use Rattle.jh_name.specs.declared.place.Kind.{Kind}
 use Rattle.jh_name.specs.declared.place.Kind.TheVariants as k
 use Rattle.jh_ast.specs.declared.word.Word.{Word}
 use Rattle.jh_ast.specs.declared.expr.Op.{Op}
@@ -12,7 +10,6 @@ use Rattle.jh_ast.specs.declared.expr.Op.TheVariants as op
 use Rattle.jh_ast.specs.Exprs.{ExprTree}
 use Rattle.jh_ast.specs.Exprs as e
 use Rattle.jh_ast.specs.Programs.{ProgramTree}
-use Rattle.jh_rules.specs.declared.fault.Fault.{Fault}
 use Rattle.jh_rules.specs.declared.types.Ty.{Ty}
 use Rattle.jh_rules.specs.declared.types.Ty.TheVariants as ty
 use Rattle.jh_rules.specs.declared.entries.FieldEntry.{FieldEntry}
@@ -23,12 +20,11 @@ use Rattle.jh_rules.specs.Kinds.{kind_of, class_of, is_int, is_boolean, fits}
 use Rattle.jh_rules.specs.Names.{Declared, declared_in}
 use Rattle.jh_rules.specs.Scopes.{Scope}
 use Rattle.jh_rules.specs.Rules.{rule_13, rule_14, rule_15, rule_18, rule_19, rule_20, rule_21, is_literal}
-use Rattle.jh_rules.specs.Exprs.{expr_type, name_type, field_type, receiver, class_spelled, binary_type, two, product}
+use Rattle.jh_rules.specs.Exprs.{expr_type, field_type, receiver, class_spelled, binary_type, two, product}
 use Rattle.jh_vars.specs.Resolved.{kind_of_local}
 use Rattle.jh_runs.specs.Code.{Text, ObjectCode, AnyCode, an_object, a_number, a_truth}
 use Rattle.jh_runs.specs.Code as c
-use Rattle.jh_runs.specs.Program.{class_at}
-use Rattle.jh_runs.specs.Lowered.{as_object, name_code, read_code, expr_code, word_code, own_code, static_code, field_code, dotted_code, receiver_class, member_kind, member_text, field_kind, binary_code, literal}
+use Rattle.jh_runs.specs.Lowered.{as_object, name_code, read_code, expr_code, own_code, static_code, field_code, dotted_code, receiver_class, member_kind, member_text, field_kind, binary_code, literal}
 use Rattle.jh_runs.specs.LoweredProgram.{program_of}
 use Rattle.jh_runs.specs.Typed.{IsMember, Surroundings, Named, as_local, as_static, ObjectHas, of_null, of_this, of_name, of_read, Has}
 use Rattle.jh_sound.proofs.Lists.{more-not-empty, left-empty, right-empty, some-same, no-none, not-true}
@@ -236,9 +232,12 @@ module _ (p : ProgramTree) (declares : Declares p) where
           (option_map_or (λ (m : FieldEntry). needs (if fixed then m.fixed else not m.fixed) 15 place m.ty) o (wrong 15 place) >>= λ t. given t).faults ≡ [] →
           (entry : FieldEntry) × (o ≡ Some entry) × (entry.fixed ≡ fixed) × ((option_map_or (λ (m : FieldEntry). needs (if fixed then m.fixed else not m.fixed) 15 place m.ty) o (wrong 15 place) >>= λ t. given t).known ≡ entry.ty)
       member-by n fixed place w (Some m) is h =
-          let first : (needs (if fixed then m.fixed else not m.fixed) 15 place m.ty).faults ≡ [] = then-first (needs (if fixed then m.fixed else not m.fixed) 15 place m.ty) (λ t. given t) h in
-          (m, refl, asked-is fixed m.fixed (met (if fixed then m.fixed else not m.fixed) 15 place m.ty first),
-          then-known (needs (if fixed then m.fixed else not m.fixed) 15 place m.ty) (λ t. given t) m.ty (met-known (if fixed then m.fixed else not m.fixed) 15 place m.ty first))
+          let first : (needs (if fixed then m.fixed else not m.fixed) 15 place m.ty).faults ≡ [] = then-first (needs (if fixed then m.fixed else not m.fixed) 15 place m.ty) (λ t. given t) h in (
+            m,
+            refl,
+            asked-is fixed m.fixed (met (if fixed then m.fixed else not m.fixed) 15 place m.ty first),
+            then-known (needs (if fixed then m.fixed else not m.fixed) 15 place m.ty) (λ t. given t) m.ty (met-known (if fixed then m.fixed else not m.fixed) 15 place m.ty first),
+          )
       member-by n fixed place w None is h = absurd (more-not-empty (fault 15 place) [] h)
 
       pub member-is : (n : ℕ) (fixed : Bool) (place : Place) (w : Word) → (rule_15 (declared_in p) (Some n) fixed place (text_of w)).faults ≡ [] → MemberIs n fixed place w

@@ -1,7 +1,5 @@
 -- Values without loose bound variables beyond some, whose names pass a test: how they go together.
-use Rattle.std.proofs.Common.{◌≡◌, refl, sym, ap, subst, ◌∙◌, ℕ, zero, suc, ◌+◌, nat_lt, Bool, true, false, ◌&&◌, if◌then◌else◌, List, [], ◌∷◌, pos, arith}
-use Rattle.std.proofs.lemmas.Bool.{true≢false}
-use Rattle.std.proofs.lemmas.Bool.Decides.{nat_tests}
+use Rattle.std.proofs.Common.{◌≡◌, refl, subst, ◌∙◌, ℕ, zero, suc, ◌+◌, Bool, true, false, ◌&&◌, if◌then◌else◌, arith}
 use Rattle.jh_name.specs.declared.naming.Name.{Name}
 use Rattle.jh_name.specs.declared.place.Kind.{Kind}
 use Rattle.jh_name.specs.declared.place.Kind.TheVariants as k
@@ -9,15 +7,15 @@ use Rattle.jh_name.specs.declared.place.Sort.{Sort}
 use Rattle.jh_name.specs.declared.place.Sort.TheVariants as sort
 use Rattle.jh_tree.specs.Tree.{TermTree, IntTree, SetTree, FieldTree, ValueTree, FormulaTree, FieldTrees}
 use Rattle.jh_tree.specs.Tree as t
-use Rattle.jh_tree.specs.Sorts.{tree_sort, same_sort}
-use Rattle.jh_tree.specs.Closed.{is_closed_term, is_closed_int, is_closed_set, is_closed_field, is_closed_value, is_closed_formula, is_closed_fields}
-use Rattle.jh_tree.specs.Passing.{term_passes, int_passes, set_passes, field_passes, value_passes, formula_passes, fields_passes}
-use Rattle.jh_walk.specs.Mapped.{LeafMap, mapped_value, mapped_term}
+use Rattle.jh_tree.specs.Sorts.{tree_sort}
+use Rattle.jh_tree.specs.Closed.{is_closed_term, is_closed_int, is_closed_set, is_closed_field, is_closed_value, is_closed_formula}
+use Rattle.jh_tree.specs.Passing.{term_passes, int_passes, set_passes, field_passes, value_passes, formula_passes}
+use Rattle.jh_walk.specs.Mapped.{LeafMap, mapped_value}
 use Rattle.jh_state.specs.States.{sort_of}
-use Rattle.jh_vars.specs.Resolved.{as_object, as_number, as_set, as_truth, free, read, quantified, equal_at, equal, at_most, difference, opposite, multiple, is_of_sets}
+use Rattle.jh_vars.specs.Resolved.{as_object, as_number, as_set, as_truth, free, read, quantified, equal_at, equal, at_most, difference, opposite, is_of_sets}
 use Rattle.jh_sound.proofs.Lists.{both-true}
-use Rattle.jh_sound.proofs.Passings.{Passing, value-passing, term-passing}
-use Rattle.jh_sound.proofs.Closings.{Closing, value-closing, term-closing}
+use Rattle.jh_sound.proofs.Passings.{Passing, value-passing}
+use Rattle.jh_sound.proofs.Closings.{Closing, value-closing}
 
 abbrev pub Test : Type 0
 Test = Name → Sort → Bool

@@ -6,7 +6,7 @@ use Rattle.jh_rules.specs.Shape.{program_parts, are_different}
 use Rattle.jh_runs.specs.LoweredProgram.{program_of, ModifiesOf}
 use Rattle.jh_runs.specs.Typed.{ProgramFits}
 use Rattle.jh_sound.specs.Placed.{IsPlaced, NoGhostObject}
-use Rattle.jh_sound.specs.Laws.{IsAccepted, MeetsPremises, AcceptedMeetsPremises, AcceptedIsSound}
+use Rattle.jh_sound.specs.Laws.{MeetsPremises, AcceptedMeetsPremises, AcceptedIsSound}
 use Rattle.jh_logic.proofs.Soundness.{sound}
 use Rattle.jh_sound.proofs.Shaped.{Shaped, shaped-program}
 use Rattle.jh_sound.proofs.OfStates.{claims-of-states}

@@ -1,8 +1,7 @@
 -- Nothing is wrong in a formula: its kind is known.
-use Rattle.std.proofs.Common.{◌≡◌, refl, sym, ap, subst, ◌∙◌, ℕ, ℤ, Bool, true, false, not, ◌&&◌, ◌||◌, if◌then◌else◌, List, [], ◌∷◌, ◌++◌, map, Option, Some, None, is_some, option_map, codes}
-use Rattle.std.specs.List.{Contains, flat_map, list_all}
+use Rattle.std.proofs.Common.{◌≡◌, refl, sym, ap, ◌∙◌, ℕ, Bool, true, false, not, ◌&&◌, ◌||◌, if◌then◌else◌, List, [], ◌∷◌, ◌++◌, Option, Some, None, is_some, option_map, codes}
+use Rattle.std.specs.List.{flat_map, list_all}
 use Rattle.std.specs.Option.{option_map_or}
-use Rattle.std.proofs.lemmas.Bool.{true≢false}
 use Rattle.jh_name.specs.declared.place.Place.{Place}
 use Rattle.jh_name.specs.declared.place.Kind.{Kind}
 use Rattle.jh_name.specs.declared.place.Kind.TheVariants as k
@@ -14,12 +13,12 @@ use Rattle.jh_ast.specs.Forms as f
 use Rattle.jh_rules.specs.declared.fault.Fault.{Fault}
 use Rattle.jh_rules.specs.declared.entries.StateEntry.{StateEntry}
 use Rattle.jh_rules.specs.declared.entries.LocalEntry.{LocalEntry}
-use Rattle.jh_rules.specs.Faults.{Judged, right, wrong, fault, given, needs, needs_none, both, pair_of, first_of, second_of, each, ◌>>=◌}
+use Rattle.jh_rules.specs.Faults.{Judged, right, wrong, fault, given, needs, needs_none, both, pair_of, second_of, each, ◌>>=◌}
 use Rattle.jh_rules.specs.Words.{same_text, is_one_of, text_of}
 use Rattle.jh_rules.specs.Kinds.{kind_of, is_obj, is_number, is_truth, is_set, is_number_or_set, same_kind}
-use Rattle.jh_rules.specs.Names.{Declared, state_spelled, state_named, own_name}
+use Rattle.jh_rules.specs.Names.{Declared, state_spelled, state_named}
 use Rattle.jh_rules.specs.Rules.{rule_14, rule_27_name, rule_27_field, rule_28, rule_29_product, rule_29_dvd, rule_30_field, rule_30_shape, rule_30_list, rule_31_result, rule_31_old}
-use Rattle.jh_rules.specs.Formulas.{Where, under, in_old, equations, first_place, known_states, state_kind, set_or_unknown, outer_kind, local_kind, name_kind, one, two, alike, binary_kind, field_state, fields_kind, form_kind, form_kinds}
+use Rattle.jh_rules.specs.Formulas.{Where, under, in_old, equations, first_place, known_states, state_kind, outer_kind, local_kind, name_kind, one, two, alike, binary_kind, field_state, fields_kind, form_kind, form_kinds}
 use Rattle.jh_sound.proofs.Lists.{more-not-empty, left-empty, right-empty, some-same, no-none}
 use Rattle.jh_sound.proofs.Judged.{then-first, then-next, then-known, both-known}
 
@@ -173,6 +172,7 @@ module _ (l : Declared) (spelled-known : (c : ℕ) (x : List ℕ) (s : StateEntr
 
   mutual
     unfolding form_kind
+
     -- The kind of a formula in which nothing is wrong is known.
     pub kind-sure : (a : FormTree) (at : Where) → Known at → Sure (form_kind l a at)
     kind-sure (f.null q) at h = sure-right k.Obj

@@ -1,7 +1,6 @@
 -- Programs that break no rule and don't meet the premises, since no text has them or since a rule lets them pass: why `IsPlaced` and
 -- `NoGhostObject` are asked.
-use Rattle.std.proofs.Common.{◌≡◌, refl, sym, ap, ◌∙◌, ℕ, true, false, List, [], ◌∷◌, Option, Some, None, codes}
-use Rattle.std.specs.List.{Contains}
+use Rattle.std.proofs.Common.{◌≡◌, refl, sym, ap, ◌∙◌, ℕ, true, false, List, [], ◌∷◌, Some, None, codes}
 use Rattle.std.proofs.lemmas.Bool.{true≢false}
 use Rattle.jh_name.specs.declared.place.Place.{Place}
 use Rattle.jh_name.specs.declared.place.Kind.TheVariants as k
@@ -12,16 +11,14 @@ use Rattle.jh_ast.specs.Forms as f
 use Rattle.jh_ast.specs.Stmts.{StmtTrees}
 use Rattle.jh_ast.specs.Stmts as st
 use Rattle.jh_ast.specs.Programs.{ProgramTree, ClassPart, MethodPart}
-use Rattle.jh_walk.specs.Mapped.{mapped_value, mapped_term}
 use Rattle.jh_rules.specs.declared.types.Ty.TheVariants as ty
 use Rattle.jh_runs.specs.Locals.{has_dot}
 use Rattle.jh_rules.specs.Breaks.{faults_of}
 use Rattle.jh_rules.specs.Words.{halves}
 use Rattle.jh_rules.specs.Names.{first_named, class_from, def_in, states_from}
-use Rattle.jh_rules.specs.Scopes.{declared, all_declared, labels_in, all_labels_in, with_all_declared, declare_all, count, all_counted, is_closed, ends_closed}
+use Rattle.jh_rules.specs.Scopes.{declared, labels_in, with_all_declared, declare_all, count, is_closed}
 use Rattle.jh_rules.specs.Exprs.{expr_type}
 use Rattle.jh_rules.specs.Formulas.{form_kind}
-use Rattle.jh_rules.specs.Faults.{each}
 use Rattle.jh_rules.specs.Statements.{stmt_faults, param_faults, method_faults, class_faults, classes_faults}
 use Rattle.jh_vars.specs.Written.{Callee, method_in}
 use Rattle.jh_vars.specs.Resolved.{resolved, bound_as}
@@ -29,7 +26,6 @@ use Rattle.jh_vars.specs.Statements.{inner_statements}
 use Rattle.jh_vars.specs.Opened.{meant, in_method, in_class, in_classes, found_in}
 use Rattle.jh_runs.specs.Code as c
 use Rattle.jh_runs.specs.Program.{Method, Member}
-use Rattle.jh_runs.specs.Lowered.{expr_code}
 use Rattle.jh_runs.specs.LoweredStmts.{stmt_code}
 use Rattle.jh_runs.specs.LoweredProgram.{program_of}
 use Rattle.jh_runs.specs.Typed.{ProgramFits, NamesFit}

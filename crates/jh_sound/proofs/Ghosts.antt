@@ -1,9 +1,8 @@
 -- Ghost assignments in which nothing is wrong assign ghost variables of the program.
-use Rattle.std.proofs.Common.{◌≡◌, refl, sym, ap, subst, ◌∙◌, ℕ, Bool, true, false, not, ◌&&◌, ◌||◌, if◌then◌else◌, List, [], ◌∷◌, ◌++◌, Option, Some, None, is_some, option_map, slice_get, codes}
-use Rattle.std.specs.List.{Contains, flat_map}
+use Rattle.std.proofs.Common.{◌≡◌, refl, sym, ap, subst, ◌∙◌, ℕ, Bool, true, false, not, ◌||◌, if◌then◌else◌, List, [], ◌∷◌, ◌++◌, Option, Some, None, is_some, option_map, slice_get, codes}
+use Rattle.std.specs.List.{Contains}
 use Rattle.std.specs.Option.{option_map_or}
 use Rattle.std.proofs.lemmas.Bool.{true≢false}
-use Rattle.std.proofs.lemmas.List.Elements.{Contains-append_left, Contains-append_right}
 use Rattle.jh_name.specs.declared.naming.Name.{Name}
 use Rattle.jh_name.specs.declared.place.Place.{Place}
 use Rattle.jh_name.specs.declared.place.Kind.{Kind}
@@ -25,7 +24,7 @@ use Rattle.jh_rules.specs.declared.entries.FieldEntry.{FieldEntry}
 use Rattle.jh_rules.specs.declared.entries.LocalEntry.{LocalEntry}
 use Rattle.jh_rules.specs.declared.entries.StateEntry.{StateEntry}
 use Rattle.jh_rules.specs.Breaks.{faults_of}
-use Rattle.jh_rules.specs.Faults.{Judged, wrong, fault, needs, both, second_of, given, ◌>>=◌}
+use Rattle.jh_rules.specs.Faults.{Judged, wrong, needs, both, second_of, given, ◌>>=◌}
 use Rattle.jh_rules.specs.Words.{same_text, is_one_of, text_of, halves}
 use Rattle.jh_rules.specs.Kinds.{kind_of, is_obj}
 use Rattle.jh_rules.specs.Names.{◌then◌, Declared, declared_in, own_name}
@@ -33,27 +32,25 @@ use Rattle.jh_rules.specs.Names as names
 use Rattle.jh_rules.specs.Scopes.{Scope}
 use Rattle.jh_rules.specs.Rules.{rule_27_field, rule_28, rule_31_target, rule_31_value}
 use Rattle.jh_rules.specs.Shape.{program_parts, are_different}
-use Rattle.jh_rules.specs.Formulas.{Where, form_kind}
+use Rattle.jh_rules.specs.Formulas.{form_kind}
 use Rattle.jh_rules.specs.Statements.{of_some, asked, inside, is_ghost_state, is_ghost_target, ghost_faults, stmt_faults}
-use Rattle.jh_state.specs.States.{sort_of, member_state}
-use Rattle.jh_vars.specs.States.{State, called, class_text, state_spelled, state_named}
+use Rattle.jh_state.specs.States.{sort_of}
+use Rattle.jh_vars.specs.States.{State, called, class_text}
 use Rattle.jh_vars.specs.Statements.{standing, method_statements}
-use Rattle.jh_vars.specs.Written.{Written, state, ghost_writes}
-use Rattle.jh_vars.specs.Resolved.{Spot, receiving, own, free, read, as_object, bound_as, kind_known, state_name, static_value, member_value, state_value, state_or_class, outer_value, local_value, name_value, after_dots, this_at, resolved, kind_of_local}
+use Rattle.jh_vars.specs.Written.{state, ghost_writes}
+use Rattle.jh_vars.specs.Resolved.{Spot, receiving, own, free, read, as_object, bound_as, kind_known, state_name, static_value, member_value, state_value, state_or_class, outer_value, name_value, this_at, resolved, kind_of_local}
 use Rattle.jh_vars.specs.Opened.{value_at, valued, meant, all_definitions}
 use Rattle.jh_vars.specs.Opened as opened
-use Rattle.jh_runs.specs.Code.{Text}
-use Rattle.jh_runs.specs.Code as c
 use Rattle.jh_runs.specs.Program.{Program, Member}
-use Rattle.jh_runs.specs.LoweredStmts.{GhostTarget, a_name, a_read, no_target, ghost_target, of_kind, class_before_dot, ghost_code, spec_value, word_type, stmt_code}
+use Rattle.jh_runs.specs.LoweredStmts.{a_name, a_read, ghost_target, of_kind, class_before_dot, ghost_code, spec_value, word_type, stmt_code}
 use Rattle.jh_runs.specs.LoweredProgram.{program_of}
-use Rattle.jh_runs.specs.Typed.{Surroundings, IsOfStates, IsGhost, GhostFits, GhostFieldFits, StmtFits}
+use Rattle.jh_runs.specs.Typed.{Surroundings, IsGhost, GhostFits, StmtFits}
 use Rattle.jh_sound.specs.Placed.{IsPlaced, NoGhostObject}
-use Rattle.jh_sound.proofs.Lists.{has-first, left-empty, right-empty, some-same, no-none, and-left, and-right, not-true, not-false}
+use Rattle.jh_sound.proofs.Lists.{has-first, left-empty, right-empty, no-none, and-left, and-right, not-true, not-false}
 use Rattle.jh_sound.proofs.Judged.{not-broken, met, then-first}
-use Rattle.jh_sound.proofs.Texts.{same-is, differ}
+use Rattle.jh_sound.proofs.Texts.{differ}
 use Rattle.jh_sound.proofs.Shaped.{Shaped}
-use Rattle.jh_sound.proofs.Environment.{Declares, LocalFits, Agrees}
+use Rattle.jh_sound.proofs.Environment.{LocalFits, Agrees}
 use Rattle.jh_sound.proofs.Fine.{Fine, object-fine, number-fine, truth-fine, set-fine}
 use Rattle.jh_sound.proofs.OfStates.{of_states, value-fine, is-of-states, value-of-states}
 use Rattle.jh_sound.proofs.Members.{member-of, member-stands}
@@ -151,8 +148,8 @@ module _ (p : ProgramTree) (placed : IsPlaced p) (clean : faults_of p ≡ []) (s
     word-value w s free-of e ghost =
         ap (λ o. option_map_or (λ (x : LocalEntry). free (kind_of_local x) (own (text_of w) 0)) o (outer_value l (class_text p) meaning spot w)) free-of
         ∙ (λ i. if ghost-word at.class s ghost (text_of w) e (codes "this") (not-this at.class s ghost) i then t.of_object (this_at spot) else
-          if ghost-word at.class s ghost (text_of w) e (codes "result") (not-result at.class s ghost) i then free k.Obj (own (codes "result") 0) else
-          if not-one-of at.class s ghost (text_of w) e i then t.of_set (t.free_set (own (codes "alloc") 0)) else state_or_class l (class_text p) meaning spot w)
+        if ghost-word at.class s ghost (text_of w) e (codes "result") (not-result at.class s ghost) i then free k.Obj (own (codes "result") 0) else
+        if not-one-of at.class s ghost (text_of w) e i then t.of_set (t.free_set (own (codes "alloc") 0)) else state_or_class l (class_text p) meaning spot w)
         ∙ ap (λ o. option_map_or (state_value l (class_text p) meaning spot) (option_map (called (text_of w)) o) (t.of_set (t.free_set (own (text_of w) 0)))) e
 
     plain-static : (x : State) → x.entry.is_defined ≡ false → static_value l (class_text p) meaning x ≡ free (kind_known x) (state_name (class_text p) x)

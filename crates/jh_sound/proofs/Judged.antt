@@ -1,10 +1,9 @@
 -- What is known of a part in which nothing is wrong.
-use Rattle.std.proofs.Common.{◌≡◌, refl, sym, ap, subst, ◌∙◌, ℕ, Bool, true, false, if◌then◌else◌, List, [], ◌∷◌, ◌++◌, Option, Some, None}
+use Rattle.std.proofs.Common.{◌≡◌, refl, sym, ap, ◌∙◌, ℕ, Bool, true, false, List, [], ◌∷◌, Some, None}
 use Rattle.std.specs.Option.{option_map_or}
-use Rattle.std.proofs.lemmas.Bool.{true≢false}
 use Rattle.jh_name.specs.declared.place.Place.{Place}
 use Rattle.jh_rules.specs.declared.fault.Fault.{Fault}
-use Rattle.jh_rules.specs.Faults.{Judged, fault, broken, needs, needs_none, given, both, pair_of, ◌>>=◌}
+use Rattle.jh_rules.specs.Faults.{Judged, fault, broken, needs, needs_none, both, pair_of, ◌>>=◌}
 use Rattle.jh_sound.proofs.Lists.{more-not-empty, left-empty, right-empty}
 
 -- nothing is wrong in a part, and it is known

@@ -1,12 +1,7 @@
 -- The value of a formula is as its names are: it has no loose bound variables and its names pass a test, where those of its names and
 -- fields do.
-use Rattle.std.proofs.Common.{◌≡◌, refl, sym, ap, subst, ◌∙◌, ℕ, ℤ, zero, suc, ◌+◌, ◌==◌, nat_lt, Bool, true, false, ◌&&◌, if◌then◌else◌, List, [], ◌∷◌, ◌++◌, map, length, Option, Some, None, pos, arith, length-append}
-use Rattle.std.specs.List.{list_any}
+use Rattle.std.proofs.Common.{◌≡◌, refl, sym, ap, subst, ◌∙◌, ℕ, ℤ, suc, ◌+◌, nat_lt, true, ◌&&◌, if◌then◌else◌, List, [], ◌∷◌, ◌++◌, map, length, Option, Some, None, arith, length-append}
 use Rattle.std.specs.Option.{option_map_or}
-use Rattle.std.proofs.lemmas.Bool.{true≢false}
-use Rattle.std.proofs.lemmas.Bool.Decides.{nat_tests}
-use Rattle.jh_name.specs.declared.naming.Name.{Name}
-use Rattle.jh_name.specs.declared.place.Sort.{Sort}
 use Rattle.jh_name.specs.declared.place.Sort.TheVariants as sort
 use Rattle.jh_ast.specs.declared.word.Word.{Word}
 use Rattle.jh_ast.specs.declared.spec.SpecOp.{SpecOp}
@@ -17,11 +12,10 @@ use Rattle.jh_tree.specs.Tree.{TermTree, IntTree, SetTree, FieldTree, ValueTree,
 use Rattle.jh_tree.specs.Tree as t
 use Rattle.jh_tree.specs.Closed.{is_closed_term, is_closed_int, is_closed_set, is_closed_field, is_closed_value, is_closed_formula, is_closed_fields}
 use Rattle.jh_tree.specs.Passing.{term_passes, int_passes, set_passes, field_passes, value_passes, formula_passes, fields_passes}
-use Rattle.jh_walk.specs.Mapped.{LeafMap, mapped_value, mapped_term}
 use Rattle.jh_rules.specs.Words.{text_of}
 use Rattle.jh_rules.specs.Names.{Declared}
 use Rattle.jh_rules.specs.Formulas.{equations}
-use Rattle.jh_vars.specs.Resolved.{as_object, as_number, as_set, as_truth, Spot, under, at_entry, resolved, union_of, with_single, name_value, after_dots, field_name, field_list, path_fields, quantified, binary, scaled, multiple, literal, equal}
+use Rattle.jh_vars.specs.Resolved.{as_object, as_number, as_set, as_truth, Spot, under, at_entry, resolved, union_of, with_single, name_value, after_dots, field_name, field_list, path_fields, binary, scaled, multiple, literal, equal}
 use Rattle.jh_sound.proofs.Lists.{both-true}
 use Rattle.jh_sound.proofs.Passings.{Passing}
 use Rattle.jh_sound.proofs.Closings.{Closing}
@@ -148,6 +142,7 @@ module _ (l : Declared) (spelled : ℕ → List ℕ) (meaning : ℕ → List ℕ
 
   mutual
     unfolding resolved is_closed_value is_closed_term is_closed_int is_closed_set is_closed_formula value_passes term_passes int_passes set_passes formula_passes MadeFine
+
     pub fine-form : (a : FormTree) (at : Spot) (q : Test) → Leaves q a at → Fine q (depth at) (resolved l spelled meaning a at)
     fine-form (f.null p) at q h = record { closed = refl; passes = refl }
     fine-form (f.yes p) at q h = record { closed = refl; passes = refl }

@@ -1,32 +1,18 @@
 -- The members of a program are those that its classes declare; what the rules find of a field or a method is one of them.
-use Rattle.std.proofs.Common.{◌≡◌, refl, sym, ap, subst, ◌∙◌, ℕ, zero, suc, ◌+◌, ◌==◌, Bool, true, false, not, ◌||◌, if◌then◌else◌, List, [], ◌∷◌, ◌++◌, map, Option, Some, None, is_some, option_map, slice_get, codes, arith, ◌⊎◌, inl, inr, ⊎_elim}
-use Rattle.std.specs.List.{Contains, flat_map, list_any}
+use Rattle.std.proofs.Common.{◌≡◌, refl, sym, ap, subst, ◌∙◌, ℕ, zero, suc, ◌+◌, Bool, true, false, if◌then◌else◌, List, [], ◌∷◌, ◌++◌, map, Some, None, slice_get, codes, arith, ◌⊎◌, inl, inr, ⊎_elim}
+use Rattle.std.specs.List.{Contains, flat_map}
 use Rattle.std.specs.Option.{option_map_or}
 use Rattle.std.proofs.lemmas.Bool.{true≢false}
 use Rattle.std.proofs.lemmas.List.Elements.{Contains-append_left, Contains-append_right, Contains-append_cases}
-use Rattle.jh_name.specs.declared.place.Kind.{Kind}
-use Rattle.jh_name.specs.declared.place.Kind.TheVariants as k
-use Rattle.jh_name.specs.declared.place.Sort.{Sort}
-use Rattle.jh_name.specs.declared.place.Sort.TheVariants as sort
-use Rattle.jh_ast.specs.declared.word.Word.{Word}
-use Rattle.jh_ast.specs.declared.word.JType.{JType}
-use Rattle.jh_ast.specs.Programs.{ProgramTree, ClassPart, FieldPart, VarPart, MethodPart}
-use Rattle.jh_tree.specs.Sorts.{same_sort}
-use Rattle.jh_rules.specs.declared.types.Ty.{Ty}
-use Rattle.jh_rules.specs.declared.entries.FieldEntry.{FieldEntry}
-use Rattle.jh_rules.specs.Words.{same_text, text_of, halves}
-use Rattle.jh_rules.specs.Names.{◌then◌, Declared, declared_in, own_name, MemberPart, member_word, members_of, first_named, field_from, member_of, type_of}
-use Rattle.jh_rules.specs.Names as names
-use Rattle.jh_vars.specs.States.{class_text}
+use Rattle.jh_ast.specs.Programs.{ProgramTree, ClassPart, FieldPart, VarPart}
+use Rattle.jh_rules.specs.Words.{text_of}
+use Rattle.jh_rules.specs.Names.{◌then◌}
 use Rattle.jh_vars.specs.Written.{Piece, field_piece, ghost_pieces, front_before, rest_behind, merged, pieces_of, stands_before}
 use Rattle.jh_state.specs.declared.state.StateName.{StateName}
-use Rattle.jh_state.specs.States.{sort_of, member_sort, member_state, class_states, class_sets, members, state_list, set_state}
-use Rattle.jh_runs.specs.Code.{Text}
-use Rattle.jh_runs.specs.Program.{Program, Member, class_at}
-use Rattle.jh_runs.specs.Locals.{has_dot}
-use Rattle.jh_runs.specs.LoweredProgram.{program_of, member_type, member_in, member_from}
-use Rattle.jh_sound.proofs.Lists.{has-first, has-later, has-none, has-cases, at-has, map-has, map-from, flat-has, flat-from, some-same, no-none, or-false-left, or-false-right}
-use Rattle.jh_sound.proofs.Texts.{same-is, is-same}
+use Rattle.jh_state.specs.States.{member_state, class_states, class_sets, members, state_list, set_state}
+use Rattle.jh_runs.specs.Program.{Member}
+use Rattle.jh_runs.specs.LoweredProgram.{program_of, member_in, member_from}
+use Rattle.jh_sound.proofs.Lists.{has-first, has-later, has-none, has-cases, map-has, map-from, flat-has, flat-from, some-same, no-none}
 
 -- two lists of pieces made one
 module _ (z : Piece) where
@@ -56,16 +42,16 @@ module _ (z : Piece) where
   merged-has [] ys c = ⊎_elim (λ i. absurd (has-none z i)) (λ i. i) c
   merged-has (x ∷ xs) ys c = ⊎_elim
       (λ i. ⊎_elim (λ e. Contains-append_right (front_before x ys) (x ∷ merged xs (rest_behind x ys)) z (subst (Contains (x ∷ merged xs (rest_behind x ys))) e (has-first x (merged xs (rest_behind x ys)))))
-          (λ j. Contains-append_right (front_before x ys) (x ∷ merged xs (rest_behind x ys)) z (has-later x (merged xs (rest_behind x ys)) z (merged-has xs (rest_behind x ys) (inl j)))) (has-cases x xs z i))
+      (λ j. Contains-append_right (front_before x ys) (x ∷ merged xs (rest_behind x ys)) z (has-later x (merged xs (rest_behind x ys)) z (merged-has xs (rest_behind x ys) (inl j)))) (has-cases x xs z i))
       (λ i. ⊎_elim (λ j. Contains-append_left (front_before x ys) (x ∷ merged xs (rest_behind x ys)) z j)
-          (λ j. Contains-append_right (front_before x ys) (x ∷ merged xs (rest_behind x ys)) z (has-later x (merged xs (rest_behind x ys)) z (merged-has xs (rest_behind x ys) (inr j)))) (front-has x ys i)) c
+      (λ j. Contains-append_right (front_before x ys) (x ∷ merged xs (rest_behind x ys)) z (has-later x (merged xs (rest_behind x ys)) z (merged-has xs (rest_behind x ys) (inr j)))) (front-has x ys i)) c
 
   pub merged-from : (xs ys : List Piece) → Contains (merged xs ys) z → Contains xs z ⊎ Contains ys z
   unfolding merged
   merged-from [] ys i = inr i
   merged-from (x ∷ xs) ys i = ⊎_elim (λ j. inr (front-from x ys (inl j)))
       (λ j. ⊎_elim (λ e. inl (subst (Contains (x ∷ xs)) e (has-first x xs)))
-          (λ a. ⊎_elim (λ b. inl (has-later x xs z b)) (λ b. inr (front-from x ys (inr b))) (merged-from xs (rest_behind x ys) a)) (has-cases x (merged xs (rest_behind x ys)) z j))
+      (λ a. ⊎_elim (λ b. inl (has-later x xs z b)) (λ b. inr (front-from x ys (inr b))) (merged-from xs (rest_behind x ys) a)) (has-cases x (merged xs (rest_behind x ys)) z j))
       (Contains-append_cases (front_before x ys) (x ∷ merged xs (rest_behind x ys)) z i)
 
 -- where a piece of a class comes from

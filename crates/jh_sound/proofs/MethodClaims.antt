@@ -1,5 +1,5 @@
 -- The contracts of methods speak of what they may.
-use Rattle.std.proofs.Common.{◌≡◌, refl, sym, ap, subst, ◌∙◌, ℕ, zero, suc, ◌==◌, Bool, true, false, not, ◌&&◌, ◌||◌, if◌then◌else◌, List, [], ◌∷◌, ◌++◌, map, Option, Some, None, is_some, option_map, slice_get, codes, ◌⊎◌, inl, inr, ⊎_elim}
+use Rattle.std.proofs.Common.{◌≡◌, refl, sym, ap, subst, ◌∙◌, ℕ, ◌==◌, Bool, true, false, not, ◌&&◌, if◌then◌else◌, List, [], ◌∷◌, ◌++◌, map, Option, Some, None, is_some, option_map, slice_get, codes, ◌⊎◌, inl, inr, ⊎_elim}
 use Rattle.std.specs.List.{Contains, flat_map, list_any}
 use Rattle.std.specs.Option.{option_map_or}
 use Rattle.std.proofs.lemmas.Bool.{true≢false}
@@ -12,19 +12,17 @@ use Rattle.jh_name.specs.declared.place.Sort.TheVariants as sort
 use Rattle.jh_ast.specs.declared.word.JType.{JType}
 use Rattle.jh_ast.specs.declared.word.JType.TheVariants as j
 use Rattle.jh_ast.specs.declared.word.Param.{Param}
-use Rattle.jh_ast.specs.Forms.{FormTree, SpecPart, LabelledPart}
+use Rattle.jh_ast.specs.Forms.{SpecPart, LabelledPart}
 use Rattle.jh_ast.specs.Programs.{ProgramTree, ClassPart, MethodPart}
 use Rattle.jh_tree.specs.Tree.{ValueTree}
-use Rattle.jh_tree.specs.Tree as t
 use Rattle.jh_tree.specs.Sorts.{same_sort}
 use Rattle.jh_tree.specs.Passing.{name_equal, term_passes, int_passes, set_passes, field_passes, value_passes, formula_passes}
 use Rattle.jh_tree.proofs.Names.{name_equal-true}
-use Rattle.jh_rules.specs.declared.fault.Fault.{Fault}
 use Rattle.jh_rules.specs.declared.types.Ty.{Ty}
 use Rattle.jh_rules.specs.declared.types.Ty.TheVariants as ty
 use Rattle.jh_rules.specs.declared.entries.LocalEntry.{LocalEntry}
 use Rattle.jh_rules.specs.Breaks.{faults_of}
-use Rattle.jh_rules.specs.Faults.{Judged, ◌>>=◌, needs_none}
+use Rattle.jh_rules.specs.Faults.{needs_none}
 use Rattle.jh_rules.specs.Words.{same_text, text_of}
 use Rattle.jh_rules.specs.Kinds.{kind_of}
 use Rattle.jh_rules.specs.Kinds as kinds
@@ -32,28 +30,28 @@ use Rattle.jh_rules.specs.Names.{Declared, declared_in, type_of, kind_of_word}
 use Rattle.jh_rules.specs.Scopes.{Scope, outermost, declare, declare_all}
 use Rattle.jh_rules.specs.Rules.{rule_11, is_void_word}
 use Rattle.jh_rules.specs.Shape.{all_parts, of_param, program_parts, are_different, is_not_void}
-use Rattle.jh_rules.specs.Formulas.{Where, in_old, form_kind, truth_faults}
+use Rattle.jh_rules.specs.Formulas.{Where, form_kind, truth_faults}
 use Rattle.jh_rules.specs.Statements.{of_some, declared_faults, param_faults, contract_place, result_kind, outside}
 use Rattle.jh_state.specs.States.{sort_of}
 use Rattle.jh_vars.specs.Statements.{entry_scope}
 use Rattle.jh_vars.specs.States.{class_text}
-use Rattle.jh_vars.specs.Resolved.{Spot, own, turned, at_entry, kind_of_local, as_truth}
+use Rattle.jh_vars.specs.Resolved.{Spot, own, at_entry, kind_of_local, as_truth}
 use Rattle.jh_vars.specs.Opened.{is_of_objects, meant, all_definitions, value_at, uses_this, invariant_value}
 use Rattle.jh_vars.specs.Opened as opened
-use Rattle.jh_vars.specs.Written.{Callee, Written, state, written_name, all_state}
+use Rattle.jh_vars.specs.Written.{Written, state, written_name}
 use Rattle.jh_runs.specs.Code.{Text, Local, Claim}
 use Rattle.jh_runs.specs.State.{named}
 use Rattle.jh_runs.specs.Locals.{has_dot}
 use Rattle.jh_runs.specs.Program.{Program, Method}
 use Rattle.jh_runs.specs.LoweredStmts.{spec_value, word_type, local_code, claim_of, labelled_claim}
 use Rattle.jh_runs.specs.LoweredProgram.{program_of, method_code, class_claims}
-use Rattle.jh_guard.specs.Items.{Item, item_text, item_sort, items}
+use Rattle.jh_guard.specs.Items.{item_text, item_sort, items}
 use Rattle.jh_guard.specs.Calls.{this_text, result_text, is_void}
 use Rattle.jh_logic.specs.MethodContracts.{is_item, is_state, is_param, is_plain, names_now, speaks_before, speaks_after, speaks_of_state, Speaks, AllSpeak, IsValueType, ContractFits, ContractsFit}
 use Rattle.jh_sound.specs.Placed.{IsPlaced, NoGhostObject}
-use Rattle.jh_sound.proofs.Lists.{has-none, has-first, has-later, has-cases, has-at, map-from, any-passes, left-empty, right-empty, both-true, and-left, and-right, some-same, no-none, not-true, or-true-left, or-true-right, or-cases}
+use Rattle.jh_sound.proofs.Lists.{has-none, has-first, has-later, has-cases, has-at, map-from, any-passes, left-empty, right-empty, both-true, and-left, and-right, no-none, not-true, or-true-left, or-cases}
 use Rattle.jh_sound.proofs.Judged.{then-first}
-use Rattle.jh_sound.proofs.Texts.{same-is, is-same, not-same, differ, declared-not-this}
+use Rattle.jh_sound.proofs.Texts.{same-is, is-same, differ}
 use Rattle.jh_sound.proofs.Shaped.{Shaped, shaped-left, shaped-right, shaped-each}
 use Rattle.jh_sound.proofs.Types.{type-not-void, kind-of-word}
 use Rattle.jh_sound.proofs.Passings.{Passing}
@@ -62,7 +60,6 @@ use Rattle.jh_sound.proofs.Leaves.{fine-form}
 use Rattle.jh_sound.proofs.Classes.{class-fine, class-not-result, MethodFine}
 use Rattle.jh_sound.proofs.Declared.{class-text-is}
 use Rattle.jh_sound.proofs.Named.{dotless, middle-dot, class-not-this}
-use Rattle.jh_sound.proofs.Environment.{LocalFits, Agrees}
 use Rattle.jh_sound.proofs.Covers.{Standing, the_allocated, the_plain, the_objects, the_state, ItemIs, item-is, state-stands}
 use Rattle.jh_sound.proofs.Writing.{IsLocalText, LocalsPlain, params-plain, local-plain, local-not-state}
 use Rattle.jh_sound.proofs.Speaking.{Matches, Speaking, SpeakingOld, MayBeOld, leaves-speak}
@@ -217,7 +214,7 @@ module _ (p : ProgramTree) (placed : IsPlaced p) (clean : faults_of p ≡ []) (s
     names-state r x a h =
         let s : StateIs x = state-is x a h in
         (λ i. if state-not-this x s i then is_some X.this && same_sort a sort.Obj else if state-not-result x s i then r && (not (is_void X.result) && same_sort a (sort_of (kind_of X.result)))
-          else if no-param x (λ q. local-not-state p placed clean shaped none different x q s.written s.stands s.same) i then is_plain a else is_state P x a) ∙ h
+        else if no-param x (λ q. local-not-state p placed clean shaped none different x q s.written s.stands s.same) i then is_plain a else is_state P x a) ∙ h
 
     kind-not-set : (entry : LocalEntry) → kind_of_local entry ≡ k.Set → ⊥
     kind-not-set entry e = by entry.ty e
@@ -239,7 +236,7 @@ module _ (p : ProgramTree) (placed : IsPlaced p) (clean : faults_of p ≡ []) (s
         let q = plain x entry e in
         let a : Sort = sort_of (kind_of_local entry) in
         (λ i. if q.not_this i then is_some X.this && same_sort a sort.Obj else if q.not_result i then r && (not (is_void X.result) && same_sort a (sort_of (kind_of X.result)))
-          else if param-in x entry e i then is_plain a else is_state P x a) ∙ plain-sort (kind_of_local entry) (kind-not-set entry)
+        else if param-in x entry e i then is_plain a else is_state P x a) ∙ plain-sort (kind_of_local entry) (kind-not-set entry)
 
     names-this : (r : Bool) → not m.fixed ≡ true → names_now P X r (codes "this") sort.Obj ≡ true
     names-this r h = by m.fixed (not-true m.fixed h)

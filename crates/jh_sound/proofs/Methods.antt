@@ -1,14 +1,10 @@
 -- The methods of a lowered program fit, given what their formulas and their ghost assignments are.
-use Rattle.std.proofs.Common.{◌≡◌, refl, sym, ap, subst, ◌∙◌, ℕ, Bool, true, false, not, ◌&&◌, if◌then◌else◌, List, [], ◌∷◌, ◌++◌, map, Option, Some, None, option_map, slice_get, codes, append_assoc, append-nil, ◌⊎◌, inl, inr, ⊎_elim}
+use Rattle.std.proofs.Common.{◌≡◌, refl, sym, ap, subst, ◌∙◌, ℕ, Bool, true, false, not, ◌&&◌, if◌then◌else◌, List, [], ◌∷◌, ◌++◌, map, Option, Some, None, option_map, slice_get, append_assoc, append-nil, ◌⊎◌, inl, inr, ⊎_elim}
 use Rattle.std.specs.List.{Contains, flat_map}
-use Rattle.std.specs.Option.{option_map_or}
 use Rattle.std.proofs.lemmas.Bool.{true≢false}
 use Rattle.std.proofs.lemmas.List.Elements.{Contains-append_left, Contains-append_right, Contains-append_cases}
 use Rattle.jh_name.specs.declared.place.Place.{Place}
-use Rattle.jh_ast.specs.declared.word.Word.{Word}
-use Rattle.jh_ast.specs.declared.word.JType.{JType}
 use Rattle.jh_ast.specs.declared.word.Param.{Param}
-use Rattle.jh_ast.specs.Exprs.{ExprTree}
 use Rattle.jh_ast.specs.Forms.{SpecPart, LabelledPart}
 use Rattle.jh_ast.specs.Stmts.{StmtTree, StmtTrees, RhsTree}
 use Rattle.jh_ast.specs.Stmts as st
@@ -23,7 +19,7 @@ use Rattle.jh_rules.specs.Names.{◌then◌, Declared, declared_in, type_of}
 use Rattle.jh_rules.specs.Scopes.{Scope, outermost, declare, declare_all, local_of}
 use Rattle.jh_rules.specs.Scopes as scopes
 use Rattle.jh_rules.specs.Rules.{is_void_word}
-use Rattle.jh_rules.specs.Shape.{◌and◌, all_parts, some_parts, program_parts, class_parts, method_parts, stmts_parts, of_words, type_words, of_declared, of_param, spec_parts, field_parts, var_parts, def_parts, labelled_parts}
+use Rattle.jh_rules.specs.Shape.{◌and◌, all_parts, some_parts, program_parts, method_parts, stmts_parts, of_words, type_words, of_declared, of_param, spec_parts, field_parts, var_parts, def_parts, labelled_parts}
 use Rattle.jh_rules.specs.Statements.{declared_faults, param_faults}
 use Rattle.jh_vars.specs.Statements.{entry_scope}
 use Rattle.jh_vars.specs.Written.{Callee, part_of, method_in}
@@ -35,7 +31,7 @@ use Rattle.jh_runs.specs.LoweredProgram.{program_of, method_code, class_claims}
 use Rattle.jh_runs.specs.Typed.{Surroundings, AreOfStates, IsType, ParamsFit, MethodFits, ProgramFits, listed, StmtsFit}
 use Rattle.jh_runs.specs.Typed as code
 use Rattle.jh_sound.specs.Placed.{IsPlaced}
-use Rattle.jh_sound.proofs.Lists.{has-first, has-later, has-none, has-cases, at-has, left-empty, right-empty, some-same, no-none, not-true, not-false}
+use Rattle.jh_sound.proofs.Lists.{has-first, has-none, has-cases, left-empty, right-empty, some-same, no-none, not-false}
 use Rattle.jh_sound.proofs.Judged.{not-broken}
 use Rattle.jh_sound.proofs.Texts.{same-is, not-same}
 use Rattle.jh_sound.proofs.Shaped.{Shaped, shaped-left, shaped-right, shaped-each}
@@ -44,7 +40,7 @@ use Rattle.jh_sound.proofs.Classes.{MethodFine, method-fine, class-fine}
 use Rattle.jh_sound.proofs.Named.{class-shaped, dotless, names-fit}
 use Rattle.jh_sound.proofs.Declared.{method-found, class-stands, declares}
 use Rattle.jh_sound.proofs.Environment.{Declares, LocalFits, Agrees}
-use Rattle.jh_sound.proofs.Statements.{type-is, declared-known, is-absent, may-declare}
+use Rattle.jh_sound.proofs.Statements.{type-is, declared-known, may-declare}
 use Rattle.jh_sound.proofs.Bodies.{ClaimsOfStates, GhostsFit, stmts-fit}
 
 -- Code always returns where the source does.
@@ -65,6 +61,7 @@ module _ (p : ProgramTree) where
 
   mutual
     unfolding scopes.is_closed stmt_code
+
     closed-code : (a : StmtTree) (at : Scope) → code.is_closed (stmt_code p a at) ≡ scopes.is_closed a
     closed-code (st.empty q) at = refl
     closed-code (st.block q ss) at = ends-code ss at

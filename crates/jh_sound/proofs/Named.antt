@@ -1,30 +1,28 @@
 -- The names of the state of a lowered program are told apart.
-use Rattle.std.proofs.Common.{◌≡◌, refl, sym, ap, subst, ◌∙◌, ℕ, zero, suc, ◌==◌, Bool, true, false, not, ◌||◌, if◌then◌else◌, List, [], ◌∷◌, ◌++◌, map, Option, Some, None, option_map, slice_get, codes, arith, ◌⊎◌, inl, inr, ⊎_elim}
-use Rattle.std.specs.List.{Contains, list_any}
-use Rattle.std.specs.Option.{option_map_or}
+use Rattle.std.proofs.Common.{◌≡◌, refl, sym, ap, subst, ◌∙◌, ℕ, zero, suc, ◌==◌, true, false, List, [], ◌∷◌, ◌++◌, Some, slice_get, codes, arith, ⊎_elim}
+use Rattle.std.specs.List.{Contains}
 use Rattle.std.proofs.lemmas.Bool.{true≢false}
-use Rattle.std.proofs.lemmas.List.Elements.{Contains-append_left, Contains-append_right, Contains-append_cases}
+use Rattle.std.proofs.lemmas.List.Elements.{Contains-append_cases}
 use Rattle.jh_name.specs.declared.place.Kind.TheVariants as k
-use Rattle.jh_ast.specs.declared.word.Word.{Word}
-use Rattle.jh_ast.specs.Programs.{ProgramTree, ClassPart, FieldPart, VarPart}
+use Rattle.jh_ast.specs.Programs.{ProgramTree, ClassPart, FieldPart}
 use Rattle.jh_rules.specs.declared.types.Ty.{Ty}
 use Rattle.jh_rules.specs.declared.types.Ty.TheVariants as ty
 use Rattle.jh_rules.specs.Breaks.{faults_of}
 use Rattle.jh_rules.specs.Words.{text_of, halves}
 use Rattle.jh_rules.specs.Kinds.{kind_of}
 use Rattle.jh_rules.specs.Names.{MemberPart, field, var, method, member_word, members_of, number_of, type_of}
-use Rattle.jh_rules.specs.Shape.{◌and◌, all_parts, some_parts, class_parts, program_parts, field_parts, method_parts, var_parts, def_parts, labelled_parts, of_declared}
-use Rattle.jh_vars.specs.Written.{Piece, field_piece, pieces_of}
+use Rattle.jh_rules.specs.Shape.{◌and◌, all_parts, class_parts, program_parts, field_parts, method_parts, var_parts, def_parts, labelled_parts, of_declared}
+use Rattle.jh_vars.specs.Written.{Piece, field_piece}
 use Rattle.jh_runs.specs.Code.{Text}
-use Rattle.jh_runs.specs.Program.{Program, Member, class_at}
+use Rattle.jh_runs.specs.Program.{Program, Member}
 use Rattle.jh_runs.specs.Locals.{has_dot}
 use Rattle.jh_runs.specs.WellFormed.{all_classes}
 use Rattle.jh_runs.specs.LoweredProgram.{program_of}
 use Rattle.jh_runs.specs.Typed.{IsType, AreApart, NamesFit}
 use Rattle.jh_sound.specs.Placed.{IsPlaced}
-use Rattle.jh_sound.proofs.Lists.{has-first, has-later, has-none, has-cases, at-has, has-at, map-has, map-from, map-at, some-same, no-none, or-true-left, or-true-right}
+use Rattle.jh_sound.proofs.Lists.{has-first, has-later, has-none, has-cases, at-has, has-at, map-from, map-at, some-same, no-none, or-true-right}
 use Rattle.jh_sound.proofs.Texts.{is-same, declared-no-dot, declared-not-this}
-use Rattle.jh_sound.proofs.Shaped.{Shaped, shaped-left, shaped-right, shaped-each}
+use Rattle.jh_sound.proofs.Shaped.{Shaped, shaped-left, shaped-each}
 use Rattle.jh_sound.proofs.Types.{null-not-named, kind-of-word}
 use Rattle.jh_sound.proofs.Classes.{class-not-alloc, class-not-object, same-class, same-member}
 use Rattle.jh_sound.proofs.Members.{member-of, MemberFrom, member-comes, PieceOf, of_field, of_ghost, piece-from, ghost-piece}
@@ -50,9 +48,10 @@ apart-from (x ∷ xs) h =
 
 apart-more : (xs : List Text) (x : Text) → AreApart xs → ((y : Text) → Contains xs y → y ≡ x → ⊥) → AreApart (xs ++ x ∷ [])
 apart-more [] x a h = ((λ y i. absurd (has-none y i)), tt)
-apart-more (z ∷ zs) x a h =
-    (λ y i e. ⊎_elim (λ j. a.0 y j e) (λ j. ⊎_elim (λ f. h z (has-first z zs) (e ∙ sym f)) (λ g. has-none y g) (has-cases x [] y j)) (Contains-append_cases zs (x ∷ []) y i),
-    apart-more zs x a.1 (λ y i. h y (has-later z zs y i)))
+apart-more (z ∷ zs) x a h = (
+  λ y i e. ⊎_elim (λ j. a.0 y j e) (λ j. ⊎_elim (λ f. h z (has-first z zs) (e ∙ sym f)) (λ g. has-none y g) (has-cases x [] y j)) (Contains-append_cases zs (x ∷ []) y i),
+  apart-more zs x a.1 (λ y i. h y (has-later z zs y i)),
+)
 
 module _ (p : ProgramTree) (placed : IsPlaced p) (clean : faults_of p ≡ []) (shaped : Shaped (program_parts p)) where
   abbrev P : Program
@@ -115,7 +114,7 @@ module _ (p : ProgramTree) (placed : IsPlaced p) (clean : faults_of p ≡ []) (s
       let b : MemberFrom p y = member-comes p y j in
       let texts : (text_of a.class.name ++ codes ".") ++ text_of a.piece.word ≡ (text_of b.class.name ++ codes ".") ++ text_of b.piece.word = ap (λ (m : Member). m.text) (sym a.same) ∙ e ∙ ap (λ (m : Member). m.text) b.same in
       let parts : (text_of a.class.name, text_of a.piece.word) ≡ (text_of b.class.name, text_of b.piece.word) = some-same (text_of a.class.name, text_of a.piece.word) (text_of b.class.name, text_of b.piece.word)
-          (sym (halves-of (text_of a.class.name) (text_of a.piece.word) (dotless a.number a.class a.is)) ∙ ap halves texts ∙ halves-of (text_of b.class.name) (text_of b.piece.word) (dotless b.number b.class b.is)) in
+      (sym (halves-of (text_of a.class.name) (text_of a.piece.word) (dotless a.number a.class a.is)) ∙ ap halves texts ∙ halves-of (text_of b.class.name) (text_of b.piece.word) (dotless b.number b.class b.is)) in
       let number : a.number ≡ b.number = same-class p placed clean a.number b.number a.class b.class a.is b.is (ap (λ (h : Text × Text). h.0) parts) in
       let class : a.class ≡ b.class = some-same a.class b.class (sym a.is ∙ ap (slice_get p.classes) number ∙ b.is) in
       let u : MemberPiece a.class a.piece = member-piece a.class a.piece (piece-from a.class a.piece a.stands) in

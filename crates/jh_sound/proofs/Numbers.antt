@@ -1,11 +1,10 @@
 -- No two formulas of a source have one number, so the value by the number of a formula is that of the formula.
-use Rattle.std.proofs.Common.{◌≡◌, refl, sym, ap, subst, ◌∙◌, ℕ, zero, suc, ◌+◌, ◌≤◌, ◌==◌, Bool, true, false, not, ◌&&◌, ◌||◌, if◌then◌else◌, List, [], ◌∷◌, ◌++◌, map, Option, Some, None, slice_get, arith, ◌⊎◌, inl, inr, ⊎_elim}
+use Rattle.std.proofs.Common.{◌≡◌, refl, sym, ap, subst, ◌∙◌, ℕ, zero, suc, ◌+◌, ◌≤◌, ◌==◌, Bool, true, false, not, ◌||◌, if◌then◌else◌, List, [], ◌∷◌, ◌++◌, map, Option, Some, None, slice_get, arith, ◌⊎◌, inl, inr, ⊎_elim}
 use Rattle.std.specs.List.{Contains, flat_map, list_any}
 use Rattle.std.specs.Option.{option_map_or}
 use Rattle.std.proofs.lemmas.Bool.{true≢false}
 use Rattle.std.proofs.lemmas.Bool.Decides.{nat_tests}
 use Rattle.std.proofs.lemmas.List.Elements.{Contains-append_left, Contains-append_right}
-use Rattle.jh_ast.specs.declared.word.Param.{Param}
 use Rattle.jh_ast.specs.declared.word.Word.{Word}
 use Rattle.jh_ast.specs.Exprs.{ExprTree}
 use Rattle.jh_ast.specs.Exprs as e
@@ -13,17 +12,16 @@ use Rattle.jh_ast.specs.Forms.{FormTree, FormTrees, SpecPart, LabelledPart}
 use Rattle.jh_ast.specs.Forms as f
 use Rattle.jh_ast.specs.Stmts.{StmtTree, StmtTrees, RhsTree, CallTree}
 use Rattle.jh_ast.specs.Stmts as st
-use Rattle.jh_ast.specs.Programs.{ProgramTree, ClassPart, FieldPart, VarPart, DefPart, MethodPart}
-use Rattle.jh_name.specs.declared.place.Kind.{Kind}
+use Rattle.jh_ast.specs.Programs.{ProgramTree, ClassPart, VarPart, DefPart, MethodPart}
 use Rattle.jh_name.specs.declared.place.Kind.TheVariants as k
 use Rattle.jh_tree.specs.Tree.{ValueTree}
 use Rattle.jh_tree.specs.Tree as t
 use Rattle.jh_rules.specs.Names.{Declared, declared_in, kind_of_word}
 use Rattle.jh_rules.specs.Scopes.{Scope, behind, text_behind, in_loop}
-use Rattle.jh_rules.specs.Shape.{Parts, nothing, ◌and◌, of_words, type_words, of_declared, of_param, of_target, some_parts, all_parts, expr_parts, form_parts, forms_parts, spec_parts, labelled_parts, call_parts, rhs_parts, stmt_parts, stmts_parts, field_parts, var_parts, def_parts, method_parts, class_parts, program_parts, are_different}
+use Rattle.jh_rules.specs.Shape.{Parts, ◌and◌, of_words, type_words, of_declared, of_param, of_target, some_parts, all_parts, expr_parts, form_parts, forms_parts, spec_parts, labelled_parts, call_parts, rhs_parts, stmt_parts, stmts_parts, field_parts, var_parts, def_parts, method_parts, class_parts, program_parts, are_different}
 use Rattle.jh_vars.specs.Statements.{InScope, standing, inner_statements, all_statements, entry_scope, method_statements}
 use Rattle.jh_vars.specs.Resolved.{Spot}
-use Rattle.jh_vars.specs.Opened.{outside, inside, value_at, invariant_value, valued, valued_some, labelled_values, ghost_values, stmt_values, values_of, in_method, in_class, in_classes, found_in, opened}
+use Rattle.jh_vars.specs.Opened.{outside, inside, value_at, invariant_value, valued, valued_some, ghost_values, values_of, in_method, in_class, in_classes, found_in}
 use Rattle.jh_runs.specs.LoweredStmts.{spec_value}
 use Rattle.jh_sound.proofs.Lists.{has-none, has-first, has-cases, flat-has, and-left, and-right, not-true, some-same, no-none}
 
@@ -148,6 +146,7 @@ module _ (n : ℕ) where
 
   mutual
     unfolding form_parts of-parts count
+
     form-none : (a : FormTree) → of-parts n (form_parts a) ≡ 0
     form-none (f.null q) = refl
     form-none (f.yes q) = refl
@@ -276,6 +275,7 @@ module _ (n : ℕ) where
 
     mutual
       unfolding stmt_parts inner_statements of-parts of-values keys count
+
       stmt-count : (a : StmtTree) (at : Scope) → here (standing at a ∷ inner_statements l a at) ≡ of-parts n (stmt_parts a)
       stmt-count (st.empty q) at = refl
       stmt-count (st.block q ss) at = more-here (standing at (st.block q ss)) (all_statements l ss at) ∙ zero-left 0 (here (all_statements l ss at)) refl ∙ stmts-count ss at
@@ -337,9 +337,9 @@ module _ (n : ℕ) where
         let p4 : Parts = all_parts method_parts x.methods in
         values-append (f1 ++ f2 ++ f3) f4 ∙ ap (λ k. k + of-values f4) (values-append (f1 ++ f2) f3 ∙ ap (λ k. k + of-values f3) (values-append f1 f2))
         ∙ (λ i. flat-same (λ (v : VarPart). valued_some p (outside c false) v.init) var_parts (λ v. some-same-count (outside c false) v.init ∙ sym (none-first (of_declared v.name) (some_parts spec_parts v.init) refl)) x.vars i
-            + flat-same (λ (d : DefPart). valued p (outside c false) d.spec) def_parts (λ d. valued-same (outside c false) d.spec ∙ sym (none-first (of_words (d.name ∷ [])) (spec_parts d.spec) refl)) x.defs i
-            + flat-same (λ (a : LabelledPart). (a.spec.number, invariant_value p c x a.spec.form) ∷ []) labelled_parts (λ a. one-value a.spec.number (invariant_value p c x a.spec.form) ∙ sym (labelled-one a)) x.invariants i
-            + flat-same (in_method p c) method_parts (method-count c) x.methods i)
+        + flat-same (λ (d : DefPart). valued p (outside c false) d.spec) def_parts (λ d. valued-same (outside c false) d.spec ∙ sym (none-first (of_words (d.name ∷ [])) (spec_parts d.spec) refl)) x.defs i
+        + flat-same (λ (a : LabelledPart). (a.spec.number, invariant_value p c x a.spec.form) ∷ []) labelled_parts (λ a. one-value a.spec.number (invariant_value p c x a.spec.form) ∙ sym (labelled-one a)) x.invariants i
+        + flat-same (in_method p c) method_parts (method-count c) x.methods i)
         ∙ regroup (of-parts n p1) (of-parts n p2) (of-parts n p3) (of-parts n p4)
         ∙ ap (λ k. of-parts n p4 + (of-parts n p1 + k)) (sym (parts-and p2 p3)) ∙ ap (λ k. of-parts n p4 + k) (sym (parts-and p1 (p2 and p3))) ∙ sym (parts-and p4 (p1 and p2 and p3))
         ∙ sym (none-first (all_parts field_parts x.fields) (p4 and p1 and p2 and p3) (all-none field_parts (λ y. none-and (of_declared y.name) (some_parts expr_parts y.init) refl (some-none expr_parts expr-none y.init)) x.fields))

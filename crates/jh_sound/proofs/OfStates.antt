@@ -1,13 +1,11 @@
 -- The value of each formula of a source has no loose bound variables, and speaks of what is now and what was at entry alone.
-use Rattle.std.proofs.Common.{◌≡◌, refl, sym, ap, subst, ◌∙◌, ℕ, zero, suc, ◌+◌, ◌==◌, nat_lt, Bool, true, false, not, if◌then◌else◌, List, [], ◌∷◌, ◌++◌, map, Option, Some, None, ⊎_elim, arith}
+use Rattle.std.proofs.Common.{◌≡◌, refl, subst, ℕ, zero, suc, ◌+◌, ◌==◌, nat_lt, Bool, true, false, if◌then◌else◌, List, [], ◌∷◌, ◌++◌, Option, Some, None, ⊎_elim, arith}
 use Rattle.std.specs.List.{Contains, flat_map, list_any}
 use Rattle.std.specs.Option.{option_map_or}
 use Rattle.std.proofs.lemmas.List.Elements.{Contains-append_cases}
 use Rattle.jh_name.specs.declared.naming.Name.{Name}
 use Rattle.jh_name.specs.declared.place.Kind.{Kind}
 use Rattle.jh_name.specs.declared.place.Kind.TheVariants as k
-use Rattle.jh_name.specs.declared.place.Sort.{Sort}
-use Rattle.jh_name.specs.declared.place.Sort.TheVariants as sort
 use Rattle.jh_ast.specs.declared.word.Word.{Word}
 use Rattle.jh_ast.specs.Forms.{FormTree, FormTrees, SpecPart, LabelledPart}
 use Rattle.jh_ast.specs.Forms as f
@@ -24,14 +22,14 @@ use Rattle.jh_rules.specs.Scopes.{Scope}
 use Rattle.jh_rules.specs.Formulas.{equations}
 use Rattle.jh_vars.specs.States.{State, class_text, state_named}
 use Rattle.jh_vars.specs.Statements.{InScope, entry_scope, method_statements}
-use Rattle.jh_vars.specs.Resolved.{Spot, own, turned, at_entry, state_name, field_name, resolved, under, as_truth}
-use Rattle.jh_vars.specs.Opened.{outside, inside, is_of_objects, meant, all_definitions, value_at, uses_this, of_every_object, invariant_value, valued, valued_some, labelled_values, ghost_values, stmt_values, values_of, in_method, in_class, in_classes, found_in, opened}
+use Rattle.jh_vars.specs.Resolved.{Spot, own, at_entry, state_name, resolved, under, as_truth}
+use Rattle.jh_vars.specs.Opened.{outside, inside, is_of_objects, meant, all_definitions, value_at, uses_this, of_every_object, invariant_value, valued, valued_some, stmt_values, values_of, in_method, in_class, in_classes, found_in, opened}
 use Rattle.jh_runs.specs.LoweredStmts.{spec_value}
 use Rattle.jh_runs.specs.Typed.{IsOfStates}
-use Rattle.jh_sound.proofs.Lists.{has-none, has-first, has-later, has-cases, flat-from, map-from, some-same, no-none, both-true}
+use Rattle.jh_sound.proofs.Lists.{has-none, has-first, has-later, has-cases, flat-from, some-same, no-none}
 use Rattle.jh_sound.proofs.Passings.{Passing}
 use Rattle.jh_sound.proofs.Fine.{Test, Fine, truth-fine}
-use Rattle.jh_sound.proofs.Leaves.{depth, MemberFine, FieldsFine, PathFine, Leaves, AllLeaves, fine-form}
+use Rattle.jh_sound.proofs.Leaves.{depth, FieldsFine, PathFine, Leaves, AllLeaves, fine-form}
 use Rattle.jh_sound.proofs.Words.{Passes, name-fine, dots-fine}
 
 -- names of what is now and what was at entry

@@ -1,28 +1,23 @@
 -- A state that has no definition is a member of the program, and words that stand for something everywhere name none.
-use Rattle.std.proofs.Common.{◌≡◌, refl, sym, ap, subst, ◌∙◌, ℕ, zero, suc, Bool, true, false, not, ◌&&◌, ◌||◌, if◌then◌else◌, List, [], ◌∷◌, ◌++◌, map, Option, Some, None, is_some, option_map, slice_get, codes, ⊎_elim}
+use Rattle.std.proofs.Common.{◌≡◌, refl, sym, ap, subst, ◌∙◌, ℕ, Bool, true, false, not, ◌&&◌, ◌||◌, if◌then◌else◌, List, [], ◌∷◌, map, Option, Some, None, is_some, option_map, slice_get, codes}
 use Rattle.std.specs.List.{Contains}
 use Rattle.std.specs.Option.{option_map_or}
 use Rattle.std.proofs.lemmas.Bool.{true≢false}
-use Rattle.jh_name.specs.declared.naming.Name.{Name}
 use Rattle.jh_name.specs.declared.place.Kind.{Kind}
 use Rattle.jh_name.specs.declared.place.Kind.TheVariants as k
-use Rattle.jh_ast.specs.declared.word.Word.{Word}
-use Rattle.jh_ast.specs.Programs.{ProgramTree, ClassPart, FieldPart, VarPart, DefPart, MethodPart}
-use Rattle.jh_rules.specs.declared.fault.Fault.{Fault}
-use Rattle.jh_rules.specs.declared.types.Ty.{Ty}
+use Rattle.jh_ast.specs.Programs.{ProgramTree, ClassPart, VarPart, DefPart}
 use Rattle.jh_rules.specs.declared.entries.StateEntry.{StateEntry}
 use Rattle.jh_rules.specs.Breaks.{faults_of}
-use Rattle.jh_rules.specs.Words.{same_text, is_one_of, text_of, used_before, halves}
+use Rattle.jh_rules.specs.Words.{same_text, is_one_of, text_of, used_before}
 use Rattle.jh_rules.specs.Kinds.{kind_of}
-use Rattle.jh_rules.specs.Names.{◌then◌, Declared, declared_in, MemberPart, field, method, var, member_word, members_of, first_named, state_from, state_in, def_in, number_of, type_of, kind_of_word}
-use Rattle.jh_rules.specs.Rules.{rule_6_member, rule_8, rule_9}
-use Rattle.jh_rules.specs.Shape.{may_be_declared, ◌and◌, all_parts, some_parts, class_parts, program_parts, field_parts, method_parts, var_parts, def_parts, labelled_parts, of_declared, of_type, spec_parts, expr_parts, of_words, type_words, of_param, stmts_parts}
-use Rattle.jh_rules.specs.Statements.{def_faults, var_faults}
+use Rattle.jh_rules.specs.Names.{◌then◌, Declared, declared_in, MemberPart, field, method, var, member_word, members_of, first_named, state_from, state_in, def_in, number_of, kind_of_word}
+use Rattle.jh_rules.specs.Rules.{rule_8, rule_9}
+use Rattle.jh_rules.specs.Shape.{may_be_declared, ◌and◌, all_parts, some_parts, program_parts, field_parts, method_parts, var_parts, def_parts, labelled_parts, of_declared, of_type, spec_parts, expr_parts, of_words, type_words, of_param, stmts_parts}
 use Rattle.jh_vars.specs.States.{State}
 use Rattle.jh_vars.specs.Written.{Piece, field_piece, pieces_of}
 use Rattle.jh_vars.specs.Resolved.{kind_known}
 use Rattle.jh_sound.specs.Placed.{IsPlaced, NoGhostObject}
-use Rattle.jh_sound.proofs.Lists.{has-none, has-first, has-later, has-cases, at-has, left-empty, right-empty, and-right, not-true, not-false, or-false-left, or-false-right, some-same, no-none}
+use Rattle.jh_sound.proofs.Lists.{has-first, has-later, at-has, left-empty, right-empty, and-right, not-true, not-false, or-false-left, or-false-right, some-same, no-none}
 use Rattle.jh_sound.proofs.Judged.{not-broken}
 use Rattle.jh_sound.proofs.Texts.{same-is, not-same, declared-not-this}
 use Rattle.jh_sound.proofs.Shaped.{Shaped, shaped-left, shaped-right, shaped-each}
@@ -162,18 +157,18 @@ module _ (p : ProgramTree) (placed : IsPlaced p) (clean : faults_of p ≡ []) (s
     member-declared : (m : MemberPart) → Contains (members_of c) m → may_be_declared (text_of (member_word m)) ≡ true
     member-declared (field y) i =
         let s : Shaped (field_parts y) = shaped-each field_parts c.fields (shaped-left (all_parts field_parts c.fields) (all_parts method_parts c.methods and all_parts var_parts c.vars and all_parts def_parts c.defs and all_parts labelled_parts c.invariants)
-            (shaped-right (of_declared c.name) (all_parts field_parts c.fields and all_parts method_parts c.methods and all_parts var_parts c.vars and all_parts def_parts c.defs and all_parts labelled_parts c.invariants) (class-shaped p placed clean shaped n c is))) y (field-in c y i) in
+        (shaped-right (of_declared c.name) (all_parts field_parts c.fields and all_parts method_parts c.methods and all_parts var_parts c.vars and all_parts def_parts c.defs and all_parts labelled_parts c.invariants) (class-shaped p placed clean shaped n c is))) y (field-in c y i) in
         (shaped-left (of_declared y.name) (some_parts expr_parts y.init) (shaped-right (of_type y.jtype) (of_declared y.name and some_parts expr_parts y.init) s)).declared y.name (has-first y.name [])
     member-declared (method m) i =
         let s : Shaped (method_parts m) = shaped-each method_parts c.methods (shaped-left (all_parts method_parts c.methods) (all_parts var_parts c.vars and all_parts def_parts c.defs and all_parts labelled_parts c.invariants)
-            (shaped-right (all_parts field_parts c.fields) (all_parts method_parts c.methods and all_parts var_parts c.vars and all_parts def_parts c.defs and all_parts labelled_parts c.invariants)
-            (shaped-right (of_declared c.name) (all_parts field_parts c.fields and all_parts method_parts c.methods and all_parts var_parts c.vars and all_parts def_parts c.defs and all_parts labelled_parts c.invariants) (class-shaped p placed clean shaped n c is)))) m (method-in c m i) in
+        (shaped-right (all_parts field_parts c.fields) (all_parts method_parts c.methods and all_parts var_parts c.vars and all_parts def_parts c.defs and all_parts labelled_parts c.invariants)
+        (shaped-right (of_declared c.name) (all_parts field_parts c.fields and all_parts method_parts c.methods and all_parts var_parts c.vars and all_parts def_parts c.defs and all_parts labelled_parts c.invariants) (class-shaped p placed clean shaped n c is)))) m (method-in c m i) in
         (shaped-left (of_declared m.name) (all_parts of_param m.params and some_parts spec_parts m.pre and of_words m.modifies and some_parts spec_parts m.post and stmts_parts m.body) (shaped-right (of_words (type_words m.result)) (of_declared m.name and all_parts of_param m.params and some_parts spec_parts m.pre and of_words m.modifies and some_parts spec_parts m.post and stmts_parts m.body) s)).declared m.name (has-first m.name [])
     member-declared (var v) i =
         let s : Shaped (var_parts v) = shaped-each var_parts c.vars (shaped-left (all_parts var_parts c.vars) (all_parts def_parts c.defs and all_parts labelled_parts c.invariants)
-            (shaped-right (all_parts method_parts c.methods) (all_parts var_parts c.vars and all_parts def_parts c.defs and all_parts labelled_parts c.invariants)
-            (shaped-right (all_parts field_parts c.fields) (all_parts method_parts c.methods and all_parts var_parts c.vars and all_parts def_parts c.defs and all_parts labelled_parts c.invariants)
-            (shaped-right (of_declared c.name) (all_parts field_parts c.fields and all_parts method_parts c.methods and all_parts var_parts c.vars and all_parts def_parts c.defs and all_parts labelled_parts c.invariants) (class-shaped p placed clean shaped n c is))))) v (var-in c v i) in
+        (shaped-right (all_parts method_parts c.methods) (all_parts var_parts c.vars and all_parts def_parts c.defs and all_parts labelled_parts c.invariants)
+        (shaped-right (all_parts field_parts c.fields) (all_parts method_parts c.methods and all_parts var_parts c.vars and all_parts def_parts c.defs and all_parts labelled_parts c.invariants)
+        (shaped-right (of_declared c.name) (all_parts field_parts c.fields and all_parts method_parts c.methods and all_parts var_parts c.vars and all_parts def_parts c.defs and all_parts labelled_parts c.invariants) (class-shaped p placed clean shaped n c is))))) v (var-in c v i) in
         (shaped-left (of_declared v.name) (some_parts spec_parts v.init) s).declared v.name (has-first v.name [])
 
     member-plain : (m : MemberPart) → Contains (members_of c) m → is_one_of (text_of (member_word m)) (codes "result" ∷ codes "alloc" ∷ []) ≡ false

@@ -1,7 +1,6 @@
 -- The shape of the parts of a source.
-use Rattle.std.proofs.Common.{◌≡◌, refl, ap, subst, ℕ, Bool, true, List, [], ◌∷◌, ◌++◌, ⊎_elim, Option, None, Some}
-use Rattle.std.specs.List.{Contains, list_all}
-use Rattle.std.specs.Option.{option_map_or}
+use Rattle.std.proofs.Common.{◌≡◌, ap, subst, true, List, [], ◌∷◌, ⊎_elim, Option, Some}
+use Rattle.std.specs.List.{Contains}
 use Rattle.std.proofs.lemmas.List.Elements.{Contains-append_left, Contains-append_right}
 use Rattle.jh_ast.specs.declared.word.Word.{Word}
 use Rattle.jh_ast.specs.declared.word.JType.{JType}

@@ -1,10 +1,9 @@
 -- A formula in which nothing is wrong speaks of what its place allows.
-use Rattle.std.proofs.Common.{◌≡◌, refl, sym, ap, subst, ◌∙◌, ℕ, ℤ, zero, suc, ◌==◌, Bool, true, false, not, ◌&&◌, ◌||◌, if◌then◌else◌, List, [], ◌∷◌, ◌++◌, map, length, Option, Some, None, is_some, option_map, slice_get, codes, ◌⊎◌, inl, inr, ⊎_elim}
-use Rattle.std.specs.List.{Contains, flat_map, list_any, list_all}
+use Rattle.std.proofs.Common.{◌≡◌, refl, sym, ap, subst, ◌∙◌, ℕ, Bool, true, false, not, ◌&&◌, ◌||◌, if◌then◌else◌, List, [], ◌∷◌, ◌++◌, map, length, Option, Some, None, is_some, option_map, codes, ⊎_elim}
+use Rattle.std.specs.List.{Contains, flat_map, list_all}
 use Rattle.std.specs.Option.{option_map_or}
 use Rattle.std.proofs.lemmas.Bool.{true≢false}
-use Rattle.std.proofs.lemmas.List.Elements.{Contains-append_left, Contains-append_right, Contains-append_cases}
-use Rattle.jh_name.specs.declared.naming.Name.{Name}
+use Rattle.std.proofs.lemmas.List.Elements.{Contains-append_left, Contains-append_right}
 use Rattle.jh_name.specs.declared.place.Place.{Place}
 use Rattle.jh_name.specs.declared.place.Kind.{Kind}
 use Rattle.jh_name.specs.declared.place.Kind.TheVariants as k
@@ -16,9 +15,9 @@ use Rattle.jh_ast.specs.declared.spec.SpecOp.TheVariants as op
 use Rattle.jh_ast.specs.Forms.{FormTree, FormTrees}
 use Rattle.jh_ast.specs.Forms as f
 use Rattle.jh_ast.specs.Programs.{ProgramTree, ClassPart}
-use Rattle.jh_tree.specs.Tree.{ValueTree, TermTree}
+use Rattle.jh_tree.specs.Tree.{ValueTree}
 use Rattle.jh_tree.specs.Sorts.{same_sort}
-use Rattle.jh_tree.specs.Passing.{name_equal, term_passes, int_passes, set_passes, field_passes, value_passes, formula_passes}
+use Rattle.jh_tree.specs.Passing.{name_equal}
 use Rattle.jh_tree.proofs.Names.{name_equal-same}
 use Rattle.jh_rules.specs.declared.fault.Fault.{Fault}
 use Rattle.jh_rules.specs.declared.entries.StateEntry.{StateEntry}
@@ -46,7 +45,7 @@ use Rattle.jh_guard.specs.Items.{Item, all_objects, objects_of, of_member, item_
 use Rattle.jh_logic.specs.MethodContracts.{is_item, is_state}
 use Rattle.jh_sound.specs.Placed.{IsPlaced}
 use Rattle.jh_sound.proofs.Lists.{has-none, has-first, has-later, has-cases, at-has, map-has, any-passes, more-not-empty, left-empty, right-empty, both-true, and-right, some-same, no-none, not-true, or-false-left, or-false-right, or-true-left, or-true-right}
-use Rattle.jh_sound.proofs.Judged.{met, met-known, then-first, then-next, then-known}
+use Rattle.jh_sound.proofs.Judged.{met, met-known, then-first, then-next}
 use Rattle.jh_sound.proofs.Texts.{same-is, is-same}
 use Rattle.jh_sound.proofs.Shaped.{Shaped}
 use Rattle.jh_sound.proofs.Passings.{Passing}
@@ -119,7 +118,7 @@ module _ (p : ProgramTree) (placed : IsPlaced p) (clean : faults_of p ≡ []) (s
       let piece : PieceIs p placed clean shaped x = piece-is p placed clean shaped x is plain in
       let m : Member = member-of p x.entry.class piece.class piece.piece in
       let there : Contains (items P) (of_member m) = has-later all_objects (map (λ c. objects_of c) (all_classes P.classes) ++ map (λ x. of_member x) P.members) (of_member m)
-          (Contains-append_right (map (λ c. objects_of c) (all_classes P.classes)) (map (λ x. of_member x) P.members) (of_member m) (map-has (λ x. of_member x) P.members m (member-stands p x.entry.class piece.class piece.is piece.piece piece.stands))) in
+      (Contains-append_right (map (λ c. objects_of c) (all_classes P.classes)) (map (λ x. of_member x) P.members) (of_member m) (map-has (λ x. of_member x) P.members m (member-stands p x.entry.class piece.class piece.is piece.piece piece.stands))) in
       subst (λ (y : Text). is_state P y (member_sort (kind_known x) x.entry.fixed) ≡ true) (λ i. (sym (class-text-is p placed clean (dotless p placed clean shaped) x.entry.class piece.class piece.is) i ++ codes ".") ++ piece.name i)
       (subst (λ (a : Sort). is_state P m.text a ≡ true) (λ i. member_sort (piece.kind i) ((static-sort (piece.piece).kind (piece.piece).fixed ∙ piece.fixed) i)) (item-state (of_member m) there))
 
@@ -325,6 +324,7 @@ module _ (p : ProgramTree) (placed : IsPlaced p) (clean : faults_of p ≡ []) (s
 
     mutual
       unfolding form_kind uses_this
+
       -- The names and fields of a formula in which nothing is wrong are allowed.
       pub leaves-speak : (a : FormTree) (uses : Bool) (q : Test) (there : Where) (at : Spot) → Speaking uses q there at → MayBeOld uses q there at → Matches there at → (uses_this p a at.class at.bound ≡ true → uses ≡ true) → (form_kind l a there).faults ≡ [] → Leaves l (class_text p) meaning q a at
       leaves-speak (f.null r) uses q there at s old m u h = tt
@@ -334,9 +334,10 @@ module _ (p : ProgramTree) (placed : IsPlaced p) (clean : faults_of p ≡ []) (s
       leaves-speak (f.number r z) uses q there at s old m u h = tt
       leaves-speak (f.name r w) uses q there at s old m u h = name-fine p q meaning s.means at w (word-passes uses q there at s m w u h)
       leaves-speak (f.member r a w) uses q there at s old m u h =
-          let parts : (form_kind l a there).faults ++ (rule_27_field l there.class w).faults ≡ [] = then-first (both (form_kind l a there) (rule_27_field l there.class w)) (λ v. rule_28 (is_obj v.0) (f.place_of a) k.Obj >>= λ z. given (second_of v).kind) h in
-          (leaves-speak a uses q there at s old m u (left-empty (form_kind l a there).faults (rule_27_field l there.class w).faults parts),
-          dots-fine p q meaning s.means at w (field-passes q there at m s.state w (right-empty (form_kind l a there).faults (rule_27_field l there.class w).faults parts)))
+          let parts : (form_kind l a there).faults ++ (rule_27_field l there.class w).faults ≡ [] = then-first (both (form_kind l a there) (rule_27_field l there.class w)) (λ v. rule_28 (is_obj v.0) (f.place_of a) k.Obj >>= λ z. given (second_of v).kind) h in (
+            leaves-speak a uses q there at s old m u (left-empty (form_kind l a there).faults (rule_27_field l there.class w).faults parts),
+            dots-fine p q meaning s.means at w (field-passes q there at m s.state w (right-empty (form_kind l a there).faults (rule_27_field l there.class w).faults parts)),
+          )
       leaves-speak (f.negation r a) uses q there at s old m u h = leaves-speak a uses q there at s old m u (one-clean is_truth a (form_kind l a there) k.Bool h)
       leaves-speak (f.minus r a) uses q there at s old m u h = leaves-speak a uses q there at s old m u (then-first (form_kind l a there) (λ v. rule_28 (is_number_or_set v) (f.place_of a) v) h)
       leaves-speak (f.old r a) uses q there at s old m u h =
@@ -345,9 +346,10 @@ module _ (p : ProgramTree) (placed : IsPlaced p) (clean : faults_of p ≡ []) (s
           (o.test, o.passing, leaves-speak a uses o.test (in_old there) at o.speaking (λ e. absurd (true≢false (sym e))) (matches-old there at m) u (right-empty (rule_31_old there.old r).faults (form_kind l a (in_old there)).faults parts))
       leaves-speak (f.card r a) uses q there at s old m u h = leaves-speak a uses q there at s old m u (one-clean is_set a (form_kind l a there) k.Int h)
       leaves-speak (f.binary r o a b) uses q there at s old m u h =
-          let parts = binary-clean r o a b (form_kind l a there) (form_kind l b there) h in
-          (leaves-speak a uses q there at s old m (λ e. u (or-true-left (uses_this p a at.class at.bound) (uses_this p b at.class at.bound) e)) (left-empty (form_kind l a there).faults (form_kind l b there).faults parts),
-          leaves-speak b uses q there at s old m (λ e. u (or-true-right (uses_this p a at.class at.bound) (uses_this p b at.class at.bound) e)) (right-empty (form_kind l a there).faults (form_kind l b there).faults parts))
+          let parts = binary-clean r o a b (form_kind l a there) (form_kind l b there) h in (
+            leaves-speak a uses q there at s old m (λ e. u (or-true-left (uses_this p a at.class at.bound) (uses_this p b at.class at.bound) e)) (left-empty (form_kind l a there).faults (form_kind l b there).faults parts),
+            leaves-speak b uses q there at s old m (λ e. u (or-true-right (uses_this p a at.class at.bound) (uses_this p b at.class at.bound) e)) (right-empty (form_kind l a there).faults (form_kind l b there).faults parts),
+          )
       leaves-speak (f.dvd r z a) uses q there at s old m u h =
           let inner : Judged Kind = form_kind l a there >>= λ v. rule_28 (is_number v) r k.Bool in
           leaves-speak a uses q there at s old m u (then-first (form_kind l a there) (λ v. rule_28 (is_number v) r k.Bool) (right-empty (needs_none (rule_29_dvd r z)).faults inner.faults (then-first (both (needs_none (rule_29_dvd r z)) inner) (λ v. right k.Bool) h)))
@@ -359,16 +361,18 @@ module _ (p : ProgramTree) (placed : IsPlaced p) (clean : faults_of p ≡ []) (s
           let first : Judged Kind = shape >>= fields_kind l there r in
           let second : Judged Kind = two l is_obj is_obj a (form_kind l a there) (form_kind l b there) k.Bool in
           let parts : first.faults ++ second.faults ≡ [] = then-first (both first second) (λ v. right k.Bool) h in
-          let ends = two-clean is_obj is_obj a (form_kind l a there) (form_kind l b there) k.Bool (right-empty first.faults second.faults parts) in
-          (path-speaks q there at m s.state r (same_text (text_of x) (text_of y)) (equations (text_of x) (text_of y) body) (left-empty first.faults second.faults parts),
-          leaves-speak a uses q there at s old m (λ e. u (or-true-left (uses_this p a at.class at.bound) (uses_this p b at.class at.bound) e)) (left-empty (form_kind l a there).faults (form_kind l b there).faults ends),
-          leaves-speak b uses q there at s old m (λ e. u (or-true-right (uses_this p a at.class at.bound) (uses_this p b at.class at.bound) e)) (right-empty (form_kind l a there).faults (form_kind l b there).faults ends))
+          let ends = two-clean is_obj is_obj a (form_kind l a there) (form_kind l b there) k.Bool (right-empty first.faults second.faults parts) in (
+            path-speaks q there at m s.state r (same_text (text_of x) (text_of y)) (equations (text_of x) (text_of y) body) (left-empty first.faults second.faults parts),
+            leaves-speak a uses q there at s old m (λ e. u (or-true-left (uses_this p a at.class at.bound) (uses_this p b at.class at.bound) e)) (left-empty (form_kind l a there).faults (form_kind l b there).faults ends),
+            leaves-speak b uses q there at s old m (λ e. u (or-true-right (uses_this p a at.class at.bound) (uses_this p b at.class at.bound) e)) (right-empty (form_kind l a there).faults (form_kind l b there).faults ends),
+          )
       leaves-speak (f.braces r fs) uses q there at s old m u h = all-speak fs uses q there at s old m u (then-first (form_kinds l fs there) (λ us. rule_28 (list_all is_obj us) (first_place r fs) k.Set) h)
       leaves-speak (f.compr r w a) uses q there at s old m u h = leaves-speak a uses q (rules.under there (w ∷ [])) (under at (w ∷ [])) (speaking-under uses q there at (w ∷ []) s) (old-under uses q there at (w ∷ []) old) (matches-under there at (w ∷ []) m) u (one-clean is_truth a (form_kind l a (rules.under there (w ∷ []))) k.Set h)
 
       all-speak : (fs : FormTrees) (uses : Bool) (q : Test) (there : Where) (at : Spot) → Speaking uses q there at → MayBeOld uses q there at → Matches there at → (one_uses_this p fs at.class at.bound ≡ true → uses ≡ true) → (form_kinds l fs there).faults ≡ [] → AllLeaves l (class_text p) meaning q fs at
       all-speak f.none uses q there at s old m u h = tt
       all-speak (f.more a fs) uses q there at s old m u h =
-          let parts : (form_kind l a there).faults ++ (form_kinds l fs there).faults ≡ [] = then-first (both (form_kind l a there) (form_kinds l fs there)) (λ v. right (v.0 ∷ v.1)) h in
-          (leaves-speak a uses q there at s old m (λ e. u (or-true-left (uses_this p a at.class at.bound) (one_uses_this p fs at.class at.bound) e)) (left-empty (form_kind l a there).faults (form_kinds l fs there).faults parts),
-          all-speak fs uses q there at s old m (λ e. u (or-true-right (uses_this p a at.class at.bound) (one_uses_this p fs at.class at.bound) e)) (right-empty (form_kind l a there).faults (form_kinds l fs there).faults parts))
+          let parts : (form_kind l a there).faults ++ (form_kinds l fs there).faults ≡ [] = then-first (both (form_kind l a there) (form_kinds l fs there)) (λ v. right (v.0 ∷ v.1)) h in (
+            leaves-speak a uses q there at s old m (λ e. u (or-true-left (uses_this p a at.class at.bound) (one_uses_this p fs at.class at.bound) e)) (left-empty (form_kind l a there).faults (form_kinds l fs there).faults parts),
+            all-speak fs uses q there at s old m (λ e. u (or-true-right (uses_this p a at.class at.bound) (one_uses_this p fs at.class at.bound) e)) (right-empty (form_kind l a there).faults (form_kinds l fs there).faults parts),
+          )

@@ -1,57 +1,49 @@
 -- The code of statements in which no rule is broken fits its place.
-use Rattle.std.proofs.Common.{◌≡◌, refl, sym, ap, subst, ◌∙◌, ℕ, Bool, true, false, not, ◌||◌, ◌&&◌, ◌⊎◌, inl, inr, if◌then◌else◌, List, [], ◌∷◌, ◌++◌, map, Option, Some, None, is_some, option_map, codes, ⊎_elim}
-use Rattle.std.specs.List.{Contains, flat_map}
+use Rattle.std.proofs.Common.{◌≡◌, refl, sym, ap, subst, ◌∙◌, ℕ, Bool, true, false, not, ◌||◌, ◌⊎◌, inl, inr, if◌then◌else◌, List, [], ◌∷◌, ◌++◌, map, Option, Some, None, is_some, option_map, codes, ⊎_elim}
+use Rattle.std.specs.List.{Contains}
 use Rattle.std.specs.Option.{option_map_or}
 use Rattle.std.proofs.lemmas.Bool.{true≢false}
 use Rattle.std.proofs.lemmas.List.Elements.{Contains-append_left, Contains-append_right, Contains-append_cases}
 use Rattle.jh_name.specs.declared.place.Place.{Place}
-use Rattle.jh_name.specs.declared.place.Kind.{Kind}
 use Rattle.jh_ast.specs.declared.word.Word.{Word}
 use Rattle.jh_ast.specs.declared.word.JType.{JType}
 use Rattle.jh_ast.specs.declared.word.JType.TheVariants as j
 use Rattle.jh_ast.specs.declared.word.Param.{Param}
 use Rattle.jh_ast.specs.Exprs.{ExprTree}
 use Rattle.jh_ast.specs.Exprs as e
-use Rattle.jh_ast.specs.Forms.{SpecPart, LabelledPart}
+use Rattle.jh_ast.specs.Forms.{LabelledPart}
 use Rattle.jh_ast.specs.Stmts.{StmtTree, StmtTrees, RhsTree, CallTree}
 use Rattle.jh_ast.specs.Stmts as st
 use Rattle.jh_ast.specs.Programs.{ProgramTree, MethodPart}
-use Rattle.jh_tree.specs.Tree.{ValueTree, TermTree}
-use Rattle.jh_tree.specs.Tree as t
-use Rattle.jh_rules.specs.declared.fault.Fault.{Fault}
+use Rattle.jh_tree.specs.Tree.{ValueTree}
 use Rattle.jh_rules.specs.declared.types.Ty.{Ty}
 use Rattle.jh_rules.specs.declared.types.Ty.TheVariants as ty
 use Rattle.jh_rules.specs.declared.entries.FieldEntry.{FieldEntry}
 use Rattle.jh_rules.specs.declared.entries.LocalEntry.{LocalEntry}
-use Rattle.jh_rules.specs.declared.entries.MethodEntry.{MethodEntry}
-use Rattle.jh_rules.specs.Faults.{Judged, right, wrong, fault, broken, needs, given, ◌>>=◌}
-use Rattle.jh_rules.specs.Words.{same_text, text_of, is_one_of}
+use Rattle.jh_rules.specs.Faults.{Judged, right, wrong, fault, ◌>>=◌}
+use Rattle.jh_rules.specs.Words.{same_text, text_of}
 use Rattle.jh_rules.specs.Kinds.{fits, is_void}
-use Rattle.jh_rules.specs.Names.{Declared, declared_in, type_of, class_type, kind_of_word}
+use Rattle.jh_rules.specs.Names.{Declared, declared_in, type_of, kind_of_word}
 use Rattle.jh_rules.specs.Scopes.{Scope, behind, text_behind, in_loop, declare, local_of, has_other_sort}
-use Rattle.jh_rules.specs.Scopes as scopes
-use Rattle.jh_rules.specs.Rules.{rule_4, rule_5, rule_6_local, rule_16, rule_17, rule_20, rule_24_value, rule_24_none, rule_24_some, rule_26, is_void_word}
-use Rattle.jh_rules.specs.Shape.{Parts, ◌and◌, stmt_parts, stmts_parts, rhs_parts, expr_parts, of_param, of_target, of_type, of_declared, some_parts, all_parts, labelled_parts, is_not_void, may_be_declared}
-use Rattle.jh_rules.specs.Exprs.{expr_type, call_type, call_place, callee_class, class_spelled}
-use Rattle.jh_rules.specs.Statements.{asked, of_some, declared_faults, rhs_type, rhs_place, rhs_faults, stmt_faults, all_faults}
-use Rattle.jh_vars.specs.Written.{Callee, part_of}
-use Rattle.jh_vars.specs.Statements.{InScope, standing, inner_statements, all_statements, statements_in, method_statements}
+use Rattle.jh_rules.specs.Rules.{rule_4, rule_5, rule_6_local, rule_16, rule_24_value, rule_26, is_void_word}
+use Rattle.jh_rules.specs.Shape.{stmt_parts, rhs_parts, of_param, some_parts, is_not_void, may_be_declared}
+use Rattle.jh_rules.specs.Exprs.{expr_type, call_type, call_place, class_spelled}
+use Rattle.jh_rules.specs.Statements.{of_some, declared_faults, rhs_type, rhs_place, rhs_faults, stmt_faults}
 use Rattle.jh_runs.specs.Code.{Text, ObjectCode, AnyCode, an_object, Local, Target, Claim, Stmt, Stmts}
 use Rattle.jh_runs.specs.Code as c
-use Rattle.jh_runs.specs.Program.{Program, Method, class_at}
+use Rattle.jh_runs.specs.Program.{Program}
 use Rattle.jh_runs.specs.Lowered.{receiver_class, expr_code}
 use Rattle.jh_runs.specs.Lowered as lowered
-use Rattle.jh_runs.specs.LoweredStmts.{default_code, GhostTarget, a_name, a_read, no_target, ghost_target, ghost_code, word_type, local_code, static_target, field_target, own_target, dotted_target, spec_value, claim_of, labelled_claim, target_code, callee_of, receiver_code, call_code, rhs_code, declaration_code, return_code, stmt_code, stmts_code}
+use Rattle.jh_runs.specs.LoweredStmts.{default_code, GhostTarget, a_name, a_read, no_target, ghost_target, ghost_code, word_type, local_code, static_target, field_target, own_target, dotted_target, spec_value, target_code, callee_of, receiver_code, rhs_code, declaration_code, stmt_code}
 use Rattle.jh_runs.specs.LoweredProgram.{program_of, method_code}
-use Rattle.jh_runs.specs.Typed.{Surroundings, IsOfStates, AreOfStates, IsType, MayDeclare, ObjectHas, of_null, Has, Fits, Takes, new_local, TakesFit, TypeOf, plain_objects, objects_of, ReceiverFits, ResultFits, CallFits, AssignFits, NewFits, declaring, scope_behind, StmtFits, StmtsFit}
-use Rattle.jh_sound.proofs.Lists.{has-first, has-later, has-cases, more-not-empty, left-empty, right-empty, each-empty, some-same, no-none, not-false, not-true, or-false-left, or-false-right}
+use Rattle.jh_runs.specs.Typed.{Surroundings, IsType, MayDeclare, of_null, Fits, Takes, new_local, TakesFit, TypeOf, plain_objects, objects_of, ReceiverFits, ResultFits, CallFits, declaring, scope_behind, StmtFits}
+use Rattle.jh_sound.proofs.Lists.{has-first, has-later, has-cases, more-not-empty, left-empty, right-empty, some-same, no-none, not-false, not-true, or-false-left}
 use Rattle.jh_sound.proofs.Judged.{not-broken, met, met-known, then-first, then-next, then-known}
 use Rattle.jh_sound.proofs.Types.{type-not-void, declared-type, word-known}
-use Rattle.jh_sound.proofs.Texts.{same-is, is-same, not-same, declared-no-dot, declared-not-this}
-use Rattle.jh_sound.proofs.Shaped.{Shaped, shaped-left, shaped-right, shaped-some}
+use Rattle.jh_sound.proofs.Texts.{same-is, not-same, declared-no-dot, declared-not-this}
+use Rattle.jh_sound.proofs.Shaped.{Shaped, shaped-left}
 use Rattle.jh_sound.proofs.Environment.{ClassFits, MethodPartFits, Declares, LocalFits, Agrees}
 use Rattle.jh_sound.proofs.Expressions.{TypedBy, typed}
-use Rattle.jh_sound.proofs.Targets.{TakesBy, target-takes}
 use Rattle.jh_sound.proofs.Calls.{CallIs, call-is}
 
 module _ (p : ProgramTree) (declares : Declares p) where

@@ -1,17 +1,15 @@
 -- The state that a word names is what its class declares, and its value is fine where its name passes.
-use Rattle.std.proofs.Common.{◌≡◌, refl, sym, ap, subst, ◌∙◌, ℕ, zero, suc, ◌+◌, ◌≤◌, ◌==◌, nat_lt, Bool, true, false, not, if◌then◌else◌, List, [], ◌∷◌, ◌++◌, Option, Some, None, is_some, option_map, slice_get, codes, arith, ⊎_elim}
-use Rattle.std.specs.List.{Contains, list_any}
+use Rattle.std.proofs.Common.{◌≡◌, refl, sym, ap, subst, ◌∙◌, ℕ, zero, suc, ◌+◌, ◌≤◌, nat_lt, Bool, true, false, not, if◌then◌else◌, List, [], ◌∷◌, Option, Some, None, is_some, option_map, slice_get, arith, ⊎_elim}
+use Rattle.std.specs.List.{Contains}
 use Rattle.std.specs.Option.{option_map_or}
-use Rattle.std.proofs.lemmas.Bool.{true≢false}
 use Rattle.std.proofs.lemmas.Bool.Decides.{nat_tests}
-use Rattle.jh_name.specs.declared.naming.Name.{Name}
 use Rattle.jh_name.specs.declared.place.Sort.TheVariants as sort
-use Rattle.jh_ast.specs.Programs.{ProgramTree, ClassPart, FieldPart, VarPart, MethodPart}
+use Rattle.jh_ast.specs.Programs.{ProgramTree, ClassPart}
 use Rattle.jh_tree.specs.Tree.{TermTree, ValueTree}
 use Rattle.jh_tree.specs.Tree as t
 use Rattle.jh_tree.specs.Closed.{is_closed_term, is_closed_int, is_closed_set, is_closed_field, is_closed_value, is_closed_formula}
 use Rattle.jh_tree.specs.Passing.{term_passes, int_passes, set_passes, field_passes, value_passes, formula_passes}
-use Rattle.jh_walk.specs.Mapped.{LeafMap, unchanged, mapped_value, mapped_term}
+use Rattle.jh_walk.specs.Mapped.{unchanged, mapped_value}
 use Rattle.jh_walk.proofs.Identity.{mapped_value-unchanged}
 use Rattle.jh_rules.specs.declared.entries.StateEntry.{StateEntry}
 use Rattle.jh_rules.specs.Words.{halves}
@@ -19,7 +17,7 @@ use Rattle.jh_rules.specs.Names.{◌then◌, Declared, declared_in, own_name, Me
 use Rattle.jh_rules.specs.Names as names
 use Rattle.jh_state.specs.States.{sort_of}
 use Rattle.jh_vars.specs.States.{State, called, class_text, state_spelled, state_named}
-use Rattle.jh_vars.specs.Resolved.{Spot, free, read, receiving, shifting, shifted, kind_known, state_name, static_value, member_value}
+use Rattle.jh_vars.specs.Resolved.{free, read, receiving, shifting, shifted, kind_known, state_name, static_value, member_value}
 use Rattle.jh_vars.specs.Opened.{is_of_objects}
 use Rattle.jh_sound.proofs.Lists.{has-none, has-first, has-cases, some-same, no-none}
 use Rattle.jh_sound.proofs.Passings.{Passing}

@@ -1,6 +1,6 @@
 -- What is assigned to takes values of its type, and a call in which no rule is broken fits its method.
-use Rattle.std.proofs.Common.{◌≡◌, refl, sym, ap, subst, ◌∙◌, ℕ, zero, suc, Bool, true, false, not, ◌||◌, ◌==◌, if◌then◌else◌, List, [], ◌∷◌, ◌++◌, map, length, Option, Some, None, is_some, option_map, arith}
-use Rattle.std.specs.List.{Contains, flat_map}
+use Rattle.std.proofs.Common.{◌≡◌, refl, sym, ap, subst, ◌∙◌, ℕ, suc, Bool, true, false, not, ◌||◌, if◌then◌else◌, List, [], ◌∷◌, ◌++◌, map, length, Option, Some, None, arith}
+use Rattle.std.specs.List.{Contains}
 use Rattle.std.specs.Option.{option_map_or}
 use Rattle.std.proofs.lemmas.Bool.{true≢false}
 use Rattle.jh_name.specs.declared.place.Place.{Place}
@@ -8,33 +8,28 @@ use Rattle.jh_ast.specs.declared.word.Word.{Word}
 use Rattle.jh_ast.specs.declared.word.Param.{Param}
 use Rattle.jh_ast.specs.Exprs.{ExprTree}
 use Rattle.jh_ast.specs.Exprs as e
-use Rattle.jh_ast.specs.Stmts.{CallTree}
-use Rattle.jh_ast.specs.Programs.{ProgramTree, MethodPart}
-use Rattle.jh_rules.specs.declared.fault.Fault.{Fault}
+use Rattle.jh_ast.specs.Programs.{ProgramTree}
 use Rattle.jh_rules.specs.declared.types.Ty.{Ty}
 use Rattle.jh_rules.specs.declared.types.Ty.TheVariants as ty
 use Rattle.jh_rules.specs.declared.entries.FieldEntry.{FieldEntry}
 use Rattle.jh_rules.specs.declared.entries.LocalEntry.{LocalEntry}
-use Rattle.jh_rules.specs.declared.entries.MethodEntry.{MethodEntry}
-use Rattle.jh_rules.specs.Faults.{Judged, right, wrong, fault, broken, needs, given, also, fine, both, pair_of, ◌>>=◌}
+use Rattle.jh_rules.specs.Faults.{Judged, right, fault, broken, given, fine, both, ◌>>=◌}
 use Rattle.jh_rules.specs.Words.{text_of}
 use Rattle.jh_rules.specs.Kinds.{class_of, fits}
-use Rattle.jh_rules.specs.Names.{Declared, declared_in, type_of, param_type}
+use Rattle.jh_rules.specs.Names.{declared_in, param_type}
 use Rattle.jh_rules.specs.Scopes.{Scope}
-use Rattle.jh_rules.specs.Rules.{rule_13, rule_14, rule_15, rule_17, rule_22, rule_23, rule_23_number}
+use Rattle.jh_rules.specs.Rules.{rule_13, rule_14, rule_15, rule_17, rule_23}
 use Rattle.jh_rules.specs.Shape.{may_be_assigned}
-use Rattle.jh_rules.specs.Exprs.{expr_type, field_type, receiver, class_spelled, callee_class, callee, arguments, result_of, call_type, call_place, own_or_static}
-use Rattle.jh_vars.specs.Written.{Callee, part_of}
+use Rattle.jh_rules.specs.Exprs.{expr_type, field_type, receiver, class_spelled, arguments}
 use Rattle.jh_runs.specs.Code.{Text, ObjectCode, AnyCode, Local, Target}
 use Rattle.jh_runs.specs.Code as c
-use Rattle.jh_runs.specs.Program.{Method, class_at}
-use Rattle.jh_runs.specs.Lowered.{as_object, expr_code, receiver_class, member_text}
-use Rattle.jh_runs.specs.LoweredStmts.{local_code, word_type, static_target, field_target, own_target, word_target, dotted_target, target_code, called_class, callee_of, calls_static, receiver_code}
-use Rattle.jh_runs.specs.LoweredProgram.{program_of, method_code}
-use Rattle.jh_runs.specs.Typed.{Surroundings, ObjectHas, of_this, Has, Fits, AllFit, Takes, old_local, a_static, a_field, ReceiverFits, IsMember}
-use Rattle.jh_sound.proofs.Lists.{has-none, has-first, has-later, more-not-empty, left-empty, right-empty, each-empty, some-same, no-none, not-true}
+use Rattle.jh_runs.specs.Lowered.{as_object, expr_code, receiver_class}
+use Rattle.jh_runs.specs.LoweredStmts.{local_code, static_target, field_target, own_target, dotted_target, target_code}
+use Rattle.jh_runs.specs.LoweredProgram.{program_of}
+use Rattle.jh_runs.specs.Typed.{Surroundings, ObjectHas, AllFit, Takes, old_local, a_static, a_field, IsMember}
+use Rattle.jh_sound.proofs.Lists.{has-first, has-later, more-not-empty, left-empty, right-empty}
 use Rattle.jh_sound.proofs.Judged.{not-broken, met, met-known, then-first, then-next, then-known, both-known}
-use Rattle.jh_sound.proofs.Environment.{FieldFits, MethodPartFits, Declares, LocalFits, Agrees}
+use Rattle.jh_sound.proofs.Environment.{FieldFits, Declares, LocalFits, Agrees}
 use Rattle.jh_sound.proofs.Expressions.{TypedBy, MemberIs, ReceiverIs, member-is, receiver-of, own-this, typed}
 
 module _ (p : ProgramTree) (declares : Declares p) (s : Surroundings) (at : Scope) (agrees : Agrees at s) where
@@ -140,9 +135,10 @@ module _ (p : ProgramTree) (declares : Declares p) (s : Surroundings) (at : Scop
       let here : Judged Ty = pair >>= λ t. rule_23 a t.0 t.1 in
       let next : Judged (Unit {0}) = arguments (declared_in p) at rest (map (param_type p) ds) in
       let parts : here.faults ++ next.faults ≡ [] = then-first (both here next) (λ u. fine) h in
-      let asked : (rule_23 a u.type t.0).faults ≡ [] = then-next pair (λ t. rule_23 a t.0 t.1) (u.type, t.0) (left-empty here.faults next.faults parts) (both-known (given (expr_type (declared_in p) at a).known) (given (param_type p d)) u.type t.0 u.known t.1) in
-      (record { type = u.type; has = u.has; fit = subst (λ (x : Ty). fits u.type x ≡ true) (sym (ap (λ (o : Option Ty). option_map_or (λ x. x) o ty.Object) t.1)) (met (fits u.type t.0) 23 (e.place_of a) u.type asked) },
-      args-fit rest ds (λ d' i. known d' (has-later d ds d' i)) (λ a' i. faultless a' (has-later a rest a' i)) (same-less same) (right-empty here.faults next.faults parts))
+      let asked : (rule_23 a u.type t.0).faults ≡ [] = then-next pair (λ t. rule_23 a t.0 t.1) (u.type, t.0) (left-empty here.faults next.faults parts) (both-known (given (expr_type (declared_in p) at a).known) (given (param_type p d)) u.type t.0 u.known t.1) in (
+        record { type = u.type; has = u.has; fit = subst (λ (x : Ty). fits u.type x ≡ true) (sym (ap (λ (o : Option Ty). option_map_or (λ x. x) o ty.Object) t.1)) (met (fits u.type t.0) 23 (e.place_of a) u.type asked) },
+        args-fit rest ds (λ d' i. known d' (has-later d ds d' i)) (λ a' i. faultless a' (has-later a rest a' i)) (same-less same) (right-empty here.faults next.faults parts),
+      )
     where
       same-less : suc (length rest) ≡ suc (length ds) → length rest ≡ length ds
       same-less x = omega (x, arith)

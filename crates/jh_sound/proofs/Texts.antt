@@ -1,9 +1,9 @@
 -- Texts that are one, and names that may be declared.
-use Rattle.std.proofs.Common.{◌≡◌, refl, sym, ap, subst, ◌∙◌, ℕ, Bool, true, false, not, ◌||◌, ◌==◌, List, [], ◌∷◌, codes}
+use Rattle.std.proofs.Common.{◌≡◌, refl, sym, ◌∙◌, ℕ, Bool, true, false, ◌||◌, ◌==◌, List, [], ◌∷◌, codes}
 use Rattle.std.specs.List.{list_any}
 use Rattle.std.specs.Cmp.Lexicographic.{bytes_decides}
 use Rattle.std.proofs.lemmas.Bool.{true≢false}
-use Rattle.jh_rules.specs.Words.{same_text, is_one_of}
+use Rattle.jh_rules.specs.Words.{same_text}
 use Rattle.jh_rules.specs.Shape.{may_be_declared, is_empty, is_forbidden}
 use Rattle.jh_runs.specs.Locals.{has_dot}
 use Rattle.jh_sound.proofs.Lists.{or-false-left, or-false-right, not-true}

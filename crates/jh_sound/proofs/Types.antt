@@ -1,8 +1,7 @@
 -- The types that words name.
-use Rattle.std.proofs.Common.{◌≡◌, refl, sym, ap, subst, ◌∙◌, ℕ, Bool, true, false, not, if◌then◌else◌, List, [], ◌∷◌, Option, Some, None, is_some, codes}
+use Rattle.std.proofs.Common.{◌≡◌, refl, sym, ap, subst, ◌∙◌, ℕ, Bool, true, false, not, if◌then◌else◌, List, [], Option, Some, None, is_some, codes}
 use Rattle.std.specs.Option.{option_map_or}
 use Rattle.std.proofs.lemmas.Bool.{true≢false}
-use Rattle.jh_name.specs.declared.place.Kind.{Kind}
 use Rattle.jh_ast.specs.declared.word.JType.{JType}
 use Rattle.jh_ast.specs.declared.word.JType.TheVariants as j
 use Rattle.jh_ast.specs.Programs.{ProgramTree}
@@ -18,7 +17,7 @@ use Rattle.jh_sound.proofs.Judged.{not-broken}
 
 -- the type of a word that isn't void
 pub type-not-void : (numbers : List ℕ → Option ℕ) (w : JType) → is_void_word w ≡ false → (u : Ty) → type_of numbers w ≡ Some u → u ≡ ty.Void → ⊥
-type-not-void numbers j.Int h u e v = true≢false (ap is_void (sym (some-same ty.Int u e ∙ v)) )
+type-not-void numbers j.Int h u e v = true≢false (ap is_void (sym (some-same ty.Int u e ∙ v)))
 type-not-void numbers j.Boolean h u e v = true≢false (ap is_void (sym (some-same ty.Boolean u e ∙ v)))
 type-not-void numbers j.Void h u e v = true≢false h
 type-not-void numbers (j.Class w) h u e v = class-not-void (numbers (text_of w)) (same_text (text_of w) (codes "Object")) e

@@ -1,10 +1,7 @@
 -- The value of a word in a formula is fine where what it names passes.
-use Rattle.std.proofs.Common.{◌≡◌, refl, sym, ap, subst, ◌∙◌, ℕ, zero, suc, ◌+◌, ◌==◌, nat_lt, Bool, true, false, not, ◌||◌, if◌then◌else◌, List, [], ◌∷◌, ◌++◌, length, Option, Some, None, codes, arith}
+use Rattle.std.proofs.Common.{◌≡◌, refl, subst, ℕ, suc, ◌+◌, nat_lt, Bool, true, false, if◌then◌else◌, List, [], ◌∷◌, length, Option, Some, None, codes, arith}
 use Rattle.std.specs.Option.{option_map_or}
-use Rattle.std.proofs.lemmas.Bool.{true≢false}
 use Rattle.std.proofs.lemmas.Bool.Decides.{nat_tests}
-use Rattle.jh_name.specs.declared.naming.Name.{Name}
-use Rattle.jh_name.specs.declared.place.Kind.TheVariants as k
 use Rattle.jh_name.specs.declared.place.Sort.TheVariants as sort
 use Rattle.jh_ast.specs.declared.word.Word.{Word}
 use Rattle.jh_ast.specs.Programs.{ProgramTree}
@@ -17,7 +14,7 @@ use Rattle.jh_rules.specs.Words.{same_text, is_one_of, text_of}
 use Rattle.jh_rules.specs.Names.{Declared, declared_in}
 use Rattle.jh_state.specs.States.{sort_of}
 use Rattle.jh_vars.specs.States.{State, class_text, state_spelled, state_named}
-use Rattle.jh_vars.specs.Resolved.{Spot, own, free, static_value, member_value, this_at, bound_as, kind_of_local, kind_known, state_name, state_value, state_or_class, outer_value, local_value, name_value, after_dots}
+use Rattle.jh_vars.specs.Resolved.{Spot, own, free, static_value, member_value, this_at, bound_as, kind_of_local, kind_known, state_name, state_value, state_or_class, outer_value, local_value, name_value}
 use Rattle.jh_vars.specs.Opened.{is_of_objects}
 use Rattle.jh_sound.proofs.Fine.{Test, Fine, free-fine}
 use Rattle.jh_sound.proofs.Lists.{some-same, no-none}

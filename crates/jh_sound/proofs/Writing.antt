@@ -1,5 +1,5 @@
 -- What the code of a body writes, its method may write, itself or by what it calls.
-use Rattle.std.proofs.Common.{◌≡◌, refl, sym, ap, subst, ◌∙◌, ℕ, zero, suc, ◌+◌, Bool, true, false, not, ◌||◌, if◌then◌else◌, List, [], ◌∷◌, ◌++◌, map, Option, Some, None, is_some, option_map, slice_get, codes, ◌⊎◌, inl, inr, ⊎_elim}
+use Rattle.std.proofs.Common.{◌≡◌, refl, sym, ap, subst, ◌∙◌, ℕ, zero, suc, ◌+◌, Bool, true, false, ◌||◌, if◌then◌else◌, List, [], ◌∷◌, ◌++◌, map, Option, Some, None, is_some, slice_get, codes, ⊎_elim}
 use Rattle.std.specs.List.{Contains, flat_map}
 use Rattle.std.specs.Option.{option_map_or}
 use Rattle.std.proofs.lemmas.Bool.{true≢false}
@@ -10,29 +10,29 @@ use Rattle.jh_ast.specs.declared.word.Word.{Word}
 use Rattle.jh_ast.specs.declared.word.Param.{Param}
 use Rattle.jh_ast.specs.Exprs.{ExprTree}
 use Rattle.jh_ast.specs.Exprs as e
-use Rattle.jh_ast.specs.Forms.{FormTree, SpecPart, LabelledPart}
+use Rattle.jh_ast.specs.Forms.{FormTree, LabelledPart}
 use Rattle.jh_ast.specs.Stmts.{StmtTree, StmtTrees, RhsTree, CallTree}
 use Rattle.jh_ast.specs.Stmts as st
 use Rattle.jh_ast.specs.Programs.{ProgramTree, ClassPart, MethodPart}
-use Rattle.jh_tree.specs.Tree.{ValueTree, TermTree}
+use Rattle.jh_tree.specs.Tree.{ValueTree}
 use Rattle.jh_rules.specs.declared.fault.Fault.{Fault}
 use Rattle.jh_rules.specs.declared.types.Ty.{Ty}
 use Rattle.jh_rules.specs.declared.types.Ty.TheVariants as ty
 use Rattle.jh_rules.specs.declared.entries.FieldEntry.{FieldEntry}
 use Rattle.jh_rules.specs.declared.entries.LocalEntry.{LocalEntry}
 use Rattle.jh_rules.specs.Breaks.{faults_of}
-use Rattle.jh_rules.specs.Faults.{Judged, fault, right, wrong, ◌>>=◌}
+use Rattle.jh_rules.specs.Faults.{fault, right, wrong, ◌>>=◌}
 use Rattle.jh_rules.specs.Words.{same_text, is_one_of, text_of}
 use Rattle.jh_rules.specs.Kinds.{class_of}
-use Rattle.jh_rules.specs.Names.{Declared, declared_in, number_of, class_from, type_of, class_type}
+use Rattle.jh_rules.specs.Names.{Declared, declared_in, number_of, class_from, type_of}
 use Rattle.jh_rules.specs.Scopes.{Scope, behind, text_behind, in_loop, declare, declare_all, local_of, outermost}
 use Rattle.jh_rules.specs.Rules.{rule_4, rule_5, rule_6_local, rule_17, rule_20, rule_26, rule_24_value}
-use Rattle.jh_rules.specs.Shape.{Parts, ◌and◌, stmt_parts, stmts_parts, rhs_parts, expr_parts, of_param, some_parts, all_parts, labelled_parts, program_parts, are_different}
-use Rattle.jh_rules.specs.Formulas.{form_kind, truth_faults}
+use Rattle.jh_rules.specs.Shape.{◌and◌, stmt_parts, stmts_parts, rhs_parts, expr_parts, of_param, some_parts, all_parts, labelled_parts, program_parts, are_different}
+use Rattle.jh_rules.specs.Formulas.{truth_faults}
 use Rattle.jh_rules.specs.Exprs.{expr_type, call_type, call_place, class_spelled, callee_class}
-use Rattle.jh_rules.specs.Statements.{of_some, asked, inside, declared_faults, param_faults, rhs_type, rhs_place, rhs_faults, is_ghost_target, stmt_faults, all_faults}
+use Rattle.jh_rules.specs.Statements.{of_some, inside, declared_faults, param_faults, rhs_type, rhs_faults, stmt_faults, all_faults}
 use Rattle.jh_vars.specs.Statements.{InScope, standing, inner_statements, all_statements, entry_scope, method_statements}
-use Rattle.jh_vars.specs.States.{State, class_text}
+use Rattle.jh_vars.specs.States.{class_text}
 use Rattle.jh_vars.specs.Resolved.{kind_known, state_name}
 use Rattle.jh_vars.specs.Written.{Written, allocated, objects, plain_objects, state, Callee, MayWrite, directly, called, part_of, all_state, written_name, member_written, class_written, calls_of, rhs_calls, stmt_writes, writes_of, stmt_calls, called_by, own_writes, own_calls, ghost_writes}
 use Rattle.jh_vars.specs.Written as vars
@@ -40,17 +40,17 @@ use Rattle.jh_vars.specs.Opened as opened
 use Rattle.jh_runs.specs.Code.{Text, ObjectCode, Local, Target, Stmt, Stmts}
 use Rattle.jh_runs.specs.Code as c
 use Rattle.jh_runs.specs.Locals.{has_dot}
-use Rattle.jh_runs.specs.Program.{Program, Method}
+use Rattle.jh_runs.specs.Program.{Method}
 use Rattle.jh_runs.specs.Lowered.{receiver_class, expr_code, member_text}
 use Rattle.jh_runs.specs.Lowered as lowered
-use Rattle.jh_runs.specs.LoweredStmts.{GhostTarget, ghost_target, ghost_code, spec_value, local_code, static_target, field_target, own_target, dotted_target, target_code, callee_of, rhs_code, declaration_code, stmt_code, stmts_code}
+use Rattle.jh_runs.specs.LoweredStmts.{ghost_target, ghost_code, spec_value, local_code, static_target, field_target, own_target, dotted_target, target_code, callee_of, rhs_code, declaration_code, stmt_code, stmts_code}
 use Rattle.jh_runs.specs.LoweredProgram.{program_of}
 use Rattle.jh_runs.specs.Typed.{Surroundings, scope_behind}
 use Rattle.jh_guard.specs.Writes.{Writes, target_writes, stmts_write}
 use Rattle.jh_guard.specs.Writes as guard
 use Rattle.jh_sound.specs.Placed.{IsPlaced, NoGhostObject}
 use Rattle.jh_sound.specs.Written.{AreWrites}
-use Rattle.jh_sound.proofs.Lists.{has-none, has-first, has-later, has-cases, flat-has, more-not-empty, left-empty, right-empty, some-same, no-none, or-cases, or-false-left, or-false-right}
+use Rattle.jh_sound.proofs.Lists.{has-first, has-later, flat-has, more-not-empty, left-empty, right-empty, some-same, no-none, or-cases, or-false-left, or-false-right}
 use Rattle.jh_sound.proofs.Judged.{not-broken, then-first}
 use Rattle.jh_sound.proofs.Texts.{same-is, is-same, not-same, differ, declared-no-dot, declared-not-this}
 use Rattle.jh_sound.proofs.Shaped.{Shaped, shaped-left, shaped-right}
@@ -61,7 +61,6 @@ use Rattle.jh_sound.proofs.Named.{dotless, middle-dot}
 use Rattle.jh_sound.proofs.Calls.{CallIs, call-is}
 use Rattle.jh_sound.proofs.Statements.{behind-agrees, loop-scope}
 use Rattle.jh_logic.specs.MethodContracts.{WritesCover}
-use Rattle.jh_guard.specs.Items.{Item}
 use Rattle.jh_sound.proofs.Classes.{MethodFine}
 use Rattle.jh_sound.proofs.Methods.{declared, MethodAt, method-at, method-code, method-clean, with-params, entry-agrees, params-shaped, body-shaped}
 use Rattle.jh_sound.proofs.Ghosts.{Left, a_static, a_member, free-target, read-target, ghost-left, left-value}
@@ -264,6 +263,7 @@ module _ (p : ProgramTree) (placed : IsPlaced p) (clean : faults_of p ≡ []) (s
 
     mutual
       unfolding stmt_faults stmt_parts stmt_code inner_statements
+
       stmt-covers : (a : StmtTree) (at : Scope) (s : Surroundings) → Agrees at s → LocalsPlain at → Shaped (stmt_parts a) → stmt_faults l part a at ≡ [] → Inside (standing at a ∷ inner_statements l a at) → guard.stmt_writes ws (stmt_code p a at) (text w) ≡ true → MayWrite p m w
       stmt-covers (st.empty q) at s agrees plain shape h inner b = absurd (true≢false (sym b))
       stmt-covers (st.block q ss) at s agrees plain shape h inner b = stmts-cover ss at s agrees plain shape h (λ x i. inner x (has-later (standing at (st.block q ss)) (all_statements l ss at) x i)) b
@@ -294,9 +294,9 @@ module _ (p : ProgramTree) (placed : IsPlaced p) (clean : faults_of p ≡ []) (s
           let second : List Fault = all_faults l part rest (text_behind at a) in
           ⊎_elim
           (λ u. stmt-covers a at s agrees plain (shaped-left (stmt_parts a) (stmts_parts rest) (shaped-right (expr_parts x) (stmt_parts a and stmts_parts rest) shape)) (right-empty test first (left-empty (test ++ first) second h))
-              (λ y i. inner y (has-later (standing at (st.branch q x a rest)) (inner_statements l (st.branch q x a rest) at) y (Contains-append_left (standing at a ∷ inner_statements l a at) (all_statements l rest (text_behind at a)) y i))) u)
+          (λ y i. inner y (has-later (standing at (st.branch q x a rest)) (inner_statements l (st.branch q x a rest) at) y (Contains-append_left (standing at a ∷ inner_statements l a at) (all_statements l rest (text_behind at a)) y i))) u)
           (λ u. stmts-cover rest (text_behind at a) s (record { this = agrees.this; no_this = agrees.no_this; known = agrees.known; unknown = agrees.unknown }) plain (shaped-right (stmt_parts a) (stmts_parts rest) (shaped-right (expr_parts x) (stmt_parts a and stmts_parts rest) shape)) (right-empty (test ++ first) second h)
-              (λ y i. inner y (has-later (standing at (st.branch q x a rest)) (inner_statements l (st.branch q x a rest) at) y (Contains-append_right (standing at a ∷ inner_statements l a at) (all_statements l rest (text_behind at a)) y i))) u)
+          (λ y i. inner y (has-later (standing at (st.branch q x a rest)) (inner_statements l (st.branch q x a rest) at) y (Contains-append_right (standing at a ∷ inner_statements l a at) (all_statements l rest (text_behind at a)) y i))) u)
           (or-cases (guard.stmt_writes ws (stmt_code p a at) (text w)) (stmts_write ws (stmts_code p rest (text_behind at a)) (text w)) b)
       stmt-covers (st.loop q claims x a) at s agrees plain shape h inner b =
           let invs : List Fault = flat_map (λ (y : LabelledPart). truth_faults l (inside l at) y.spec) claims in
@@ -322,7 +322,7 @@ module _ (p : ProgramTree) (placed : IsPlaced p) (clean : faults_of p ≡ []) (s
           ⊎_elim
           (λ u. stmt-covers a at s agrees plain (shaped-left (stmt_parts a) (stmts_parts ss) shape) here (λ y i. inner y (Contains-append_left (standing at a ∷ inner_statements l a at) (all_statements l ss (behind l at a)) y i)) u)
           (λ u. stmts-cover ss (behind l at a) (scope_behind (program_of p) s (stmt_code p a at)) (behind-agrees p (declared p placed clean shaped) s at agrees part a (shaped-left (stmt_parts a) (stmts_parts ss) shape) here) (behind-plain at a plain (shaped-left (stmt_parts a) (stmts_parts ss) shape) here) (shaped-right (stmt_parts a) (stmts_parts ss) shape) (right-empty first second h)
-              (λ y i. inner y (Contains-append_right (standing at a ∷ inner_statements l a at) (all_statements l ss (behind l at a)) y i)) u)
+          (λ y i. inner y (Contains-append_right (standing at a ∷ inner_statements l a at) (all_statements l ss (behind l at a)) y i)) u)
           (or-cases (guard.stmt_writes ws (stmt_code p a at) (text w)) (stmts_write ws (stmts_code p ss (behind l at a)) (text w)) b)
 
   -- What the code of a body writes, its method may write.
@@ -335,6 +335,6 @@ module _ (p : ProgramTree) (placed : IsPlaced p) (clean : faults_of p ≡ []) (s
       let body : stmts_write ws (stmts_code p (r.0).body (entry_scope p m.class r.0)) (text w) ≡ true = subst (λ (z : Method). stmts_write ws z.body (text w) ≡ true) (sym r.2) (subst (λ (z : Text). stmts_write ws x.body z ≡ true) (sym y-is.same) b) in
       let clear : MethodFine l m.class r.0 = method-clean p placed clean shaped m.class at.class at.is r.0 at.stands in
       let may : MayWrite p m w = stmts-cover ws writes m r.0 r.1 at.class at.is at.stands w y-is.stands (r.0).body (entry_scope p m.class r.0) (with-params p (declared p placed clean shaped) (if (r.0).fixed then None else Some m.class) (map (local_code p) (r.0).params))
-          (entry-agrees p placed clean shaped m.class at.class at.is r.0 at.stands) (params-plain (outermost m.class (r.0).fixed) (r.0).params (params-shaped p placed clean shaped m.class at.class at.is r.0 at.stands) clear.params (λ z entry g. absurd (no-none entry g)))
-          (body-shaped p placed clean shaped m.class at.class at.is r.0 at.stands) clear.body (λ z j. j) body in
+      (entry-agrees p placed clean shaped m.class at.class at.is r.0 at.stands) (params-plain (outermost m.class (r.0).fixed) (r.0).params (params-shaped p placed clean shaped m.class at.class at.is r.0 at.stands) clear.params (λ z entry g. absurd (no-none entry g)))
+      (body-shaped p placed clean shaped m.class at.class at.is r.0 at.stands) clear.body (λ z j. j) body in
       subst (λ (z : Text). ws.written m z ≡ true) y-is.same ((writes.written m w y-is.stands).1 may)
