@@ -32,3 +32,4 @@ pub mod Speaking
 pub mod Contracts
 pub mod MethodClaims
 mod Gaps
+mod Accepted
