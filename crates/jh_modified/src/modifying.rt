@@ -255,7 +255,7 @@ fn modified_by(
 
 /// The state that `modifies` of each method names, where a variable with a definition stands for all that the
 /// definition reads, through others too: its places in the list of the state names. The time is in proportion to the
-/// program and to all the answers.
+/// program, to all the answers and to what each definition reads, through others too.
 pub fn modified(alloc: Global, typed: &Typed) -> Result<MethodPlaces, NoMemory>
     requires { IsAcyclic (program_tree typed.now) }
     ensures { IfOk result (λ made. (m : w.Callee) (part : MethodPart) → w.part_of (program_tree typed.now) m ≡ Some part → ArePlaces (w.Names (program_tree typed.now) (w.named_by (program_tree typed.now) m.class part)) (w.all_state (program_tree typed.now)) (places_in made m)) }
