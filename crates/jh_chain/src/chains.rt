@@ -1,4 +1,4 @@
-ghost use Rattle.std.specs.Prelude.{◌≡◌, [], ◌∷◌, List, ℕ, None, Some, IfOk, OnOk, slice_get};
+ghost use Rattle.std.specs.Prelude.{◌≡◌, [], ◌∷◌, List, None, Some, IfOk, slice_get};
 ghost use Rattle.jh_chain.specs.Chained.{IsChain, Keeps};
 
 use jh_name::NoMemory;

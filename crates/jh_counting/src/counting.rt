@@ -1,6 +1,6 @@
 #![tactic(auto, using(jh_table::proofs::Listed::growth_steps, jh_command::proofs::CodeSteps::code_steps, jh_command::proofs::CodeSteps::part_steps))]
 
-ghost use Rattle.std.specs.Prelude.{◌≡◌, ◌+◌, ℕ, true, false, IfOk, List, length};
+ghost use Rattle.std.specs.Prelude.{◌≡◌, ◌+◌, ℕ, true, false, IfOk, length};
 ghost use Rattle.jh_name.specs.declared.place.MethodId.{MethodId};
 ghost use Rattle.jh_table.specs.Growth.{Extends};
 ghost use Rattle.jh_command.specs.Code.{truth_at, is_truth_at, command_in, command_fits, list_in, list_fits};

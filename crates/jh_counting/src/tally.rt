@@ -1,6 +1,6 @@
 #![tactic(auto, using(crate::proofs::Shares::share_steps))]
 
-ghost use Rattle.std.specs.Prelude.{◌≡◌, ◌+◌, ◌*◌, ◌<◌, ℕ, true, false, IfOk, IfSome, OnOk, List, [], ◌∷◌, length, slice_get, Some};
+ghost use Rattle.std.specs.Prelude.{◌≡◌, ◌+◌, ◌*◌, ◌<◌, true, false, IfOk, IfSome, OnOk, List, [], ◌∷◌, length, slice_get, Some};
 ghost use Rattle.jh_table.specs.Entries.{Listing};
 ghost use Rattle.jh_counting.specs.declared.tally.Share.{Share};
 ghost use Rattle.jh_count.specs.Goals.{Weights, capped, ones};

@@ -6,3 +6,4 @@ mod FactSteps
 mod GoalSteps
 mod Edging
 mod Numberings
+pub mod Grown

@@ -1,6 +1,6 @@
 ghost use Rattle.std.specs.Prelude.{◌≡◌, List, map, true, IfOk, Some, slice_get};
 ghost use Rattle.jh_name.specs.declared.naming.Name.{Name};
-ghost use Rattle.jh_tree.specs.Tree.{FormulaTree, of_object, of_truth};
+ghost use Rattle.jh_tree.specs.Tree.{FormulaTree, of_object};
 ghost use Rattle.jh_tree.specs.Tree as t;
 ghost use Rattle.jh_table.specs.Entries.{is_truth};
 ghost use Rattle.jh_table.specs.Growth.{Extends};

@@ -1,5 +1,5 @@
-ghost use Rattle.std.specs.Prelude.{◌≡◌, ◌+◌, ◌∷◌, ◌++◌, [], List, ℕ, true, IfOk, IfSome, OnOk, None, Some, slice_get};
-ghost use Rattle.jh_tree.specs.Tree.{FieldTree, FieldTrees, FormulaTree, of_field, of_truth};
+ghost use Rattle.std.specs.Prelude.{◌≡◌, ◌+◌, ◌++◌, List, true, IfOk, IfSome, OnOk, None, Some, slice_get};
+ghost use Rattle.jh_tree.specs.Tree.{FieldTree, FieldTrees, FormulaTree, of_field};
 ghost use Rattle.jh_tree.specs.Tree as t;
 ghost use Rattle.jh_table.specs.Entries.{is_truth};
 ghost use Rattle.jh_table.specs.Growth.{Extends};

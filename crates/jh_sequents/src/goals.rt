@@ -1,10 +1,9 @@
-ghost use Rattle.std.specs.Prelude.{◌≡◌, ◌+◌, ◌∷◌, ◌++◌, [], List, ℕ, true, IfOk, OnOk, None, slice_get};
+ghost use Rattle.std.specs.Prelude.{◌≡◌, ◌+◌, ◌∷◌, ◌++◌, [], List, true, OnOk, None, slice_get};
 ghost use Rattle.jh_name.specs.declared.place.MethodId.{MethodId};
 ghost use Rattle.jh_sequent.specs.Sequents.{SequentTree};
 ghost use Rattle.jh_table.specs.Entries.{is_truth};
 ghost use Rattle.jh_table.specs.Growth.{Extends};
 ghost use Rattle.jh_table.specs.Nodes.{nodes};
-ghost use Rattle.jh_sequents.specs.Standing.{IsFormula, AreHyps};
 ghost use Rattle.jh_sequents.specs.Left.{GoalsLeft, HasLeft, Kept, closed_goal, closed_goals};
 
 use crate::closing::closed;

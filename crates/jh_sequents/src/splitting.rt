@@ -1,6 +1,5 @@
-ghost use Rattle.std.specs.Prelude.{◌≡◌, ◌↔◌, ◌+◌, ◌∷◌, ◌++◌, [], List, ℕ, true, max, IfOk, OnOk, None, slice_get};
+ghost use Rattle.std.specs.Prelude.{◌≡◌, ◌↔◌, [], List, ℕ, true, IfOk, OnOk, None, slice_get};
 ghost use Rattle.jh_name.specs.declared.place.MethodId.{MethodId};
-ghost use Rattle.jh_tree.specs.Tree.{FormulaTree};
 ghost use Rattle.jh_table.specs.Entries.{is_truth, the_truth};
 ghost use Rattle.jh_table.specs.Growth.{Extends};
 ghost use Rattle.jh_table.specs.Nodes.{nodes};
