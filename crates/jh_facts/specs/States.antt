@@ -1,0 +1,18 @@
+-- The state of a program as the code holds it, without memory.
+use Rattle.std.specs.Prelude.{List, map}
+use Rattle.jh_runs.specs.Code.{Text, Local}
+use Rattle.jh_runs.specs.Program as p
+use Rattle.jh_runs.specs.Program.{class_at}
+use Rattle.jh_facts.specs.declared.state.Member.{Member}
+use Rattle.jh_facts.specs.declared.state.Known.{Known}
+
+-- a member, over the texts of the classes
+abbrev pub member_in : List Text → Member → p.Member
+member_in classes x = record { text = x.text; class = class_at classes x.class; kind = x.kind; is_static = x.is_static; type = x.ty }
+
+abbrev pub members_in : List Text → List Member → List p.Member
+members_in classes xs = map (member_in classes) xs
+
+-- a parameter or local
+abbrev pub local_of : Known → Local
+local_of x = record { text = x.text.now; type = x.ty }
