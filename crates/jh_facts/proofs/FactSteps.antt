@@ -1,5 +1,5 @@
 -- Formulas that are added to a list: one after another, and while the table grows.
-use Rattle.std.proofs.Common.{◌≡◌, sym, ap, ◌∙◌, subst, ℕ, zero, suc, ◌+◌, ◌<◌, ◌≤◌, arith, add-one, List, [], ◌∷◌, ◌++◌, map, take, length, get_or, Some, slice_get, append_assoc, append-nil}
+use Rattle.std.proofs.Common.{◌≡◌, sym, ap, ◌∙◌, subst, ℕ, zero, suc, ◌+◌, ◌<◌, ◌≤◌, arith, add-one, List, [], ◌∷◌, ◌++◌, map, take, length, get_or, Some, slice_get, append_assoc, append-nil, Result, Ok, Err, IfOk, OnOk}
 use Rattle.std.proofs.lemmas.Grind.{flat_map-append}
 use Rattle.std.proofs.lemmas.List.{take_all, map-append}
 use Rattle.std.specs.List.{flat_map}
@@ -9,6 +9,14 @@ use Rattle.jh_table.specs.Growth.{Extends}
 use Rattle.jh_table.specs.Nodes.{nodes}
 use Rattle.jh_facts.specs.Facts.{AreFacts, AddsFacts}
 
+pub if-ok : {A E : Type 0} {P Q : A → Type 0} (r : Result A E) → ((x : A) → P x → Q x) → IfOk r P → IfOk r Q
+if-ok (Ok x) f h = f x h
+if-ok (Err e) f h = tt
+
+pub on-ok : {A E : Type 0} {P Q : Type 0} (r : Result A E) → (P → Q) → OnOk r P → OnOk r Q
+on-ok (Ok x) f h = f h
+on-ok (Err e) f h = tt
+
 pub facts-grow : (t u : Listing) (ns : List ℕ) (fs : List FormulaTree) → Extends t u → AreFacts t ns fs → AreFacts u ns fs
 unfolding AreFacts
 facts-grow t u [] [] g h = tt
@@ -16,7 +24,7 @@ facts-grow t u [] (f ∷ fs) g h = h
 facts-grow t u (n ∷ ns) [] g h = h
 facts-grow t u (n ∷ ns) (f ∷ fs) g h = (g.nodes.keeps n (of_truth f) h.0, facts-grow t u ns fs g h.1)
 
-facts-append : (t : Listing) (ns ms : List ℕ) (fs gs : List FormulaTree) → AreFacts t ns fs → AreFacts t ms gs → AreFacts t (ns ++ ms) (fs ++ gs)
+pub facts-append : (t : Listing) (ns ms : List ℕ) (fs gs : List FormulaTree) → AreFacts t ns fs → AreFacts t ms gs → AreFacts t (ns ++ ms) (fs ++ gs)
 unfolding AreFacts
 facts-append t [] ms [] gs h k = k
 facts-append t [] ms (f ∷ fs) gs h k = absurd h

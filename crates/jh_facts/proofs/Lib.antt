@@ -1,1 +1,3 @@
 pub mod FactSteps
+mod ClassSteps
+pub mod FormedSteps

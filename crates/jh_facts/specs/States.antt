@@ -1,5 +1,6 @@
 -- The state of a program as the code holds it, without memory.
-use Rattle.std.specs.Prelude.{List, map}
+use Rattle.std.specs.Prelude.{ℕ, List, map}
+use Rattle.std.specs.Borrow.{Bor}
 use Rattle.jh_runs.specs.Code.{Text, Local}
 use Rattle.jh_runs.specs.Program as p
 use Rattle.jh_runs.specs.Program.{class_at}
@@ -16,3 +17,7 @@ members_in classes xs = map (member_in classes) xs
 -- a parameter or local
 abbrev pub local_of : Known → Local
 local_of x = record { text = x.text.now; type = x.ty }
+
+-- texts that are lent
+abbrev pub texts_in : List (Bor (List ℕ)) → List Text
+texts_in xs = map (λ x. x.now) xs
