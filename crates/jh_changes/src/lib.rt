@@ -1,0 +1,12 @@
+//! What commands do to the state, over the nodes of a table.
+#![tactic(auto)]
+
+mod changing;
+mod frames;
+mod growth;
+mod names;
+
+pub use changing::{push_changed, push_copies};
+pub use frames::push_frames;
+pub use growth::push_growth;
+pub use names::SortedName;
