@@ -1,1 +1,2 @@
 pub mod AddedSteps
+mod ItemSteps

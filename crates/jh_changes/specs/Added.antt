@@ -3,6 +3,8 @@ use Rattle.std.specs.Prelude.{◌≡◌, ℕ, true, List, [], ◌∷◌, ◌++�
 use Rattle.std.specs.List.{flat_map}
 use Rattle.std.specs.Option.{option_map_or}
 use Rattle.jh_tree.specs.Tree as t
+use Rattle.jh_name.specs.declared.place.Sort.TheVariants as sort
+use Rattle.jh_state.specs.States.{member_sort}
 use Rattle.jh_table.specs.Entries.{Listing}
 use Rattle.jh_wp.specs.Command.{CommandTree}
 use Rattle.jh_wp.specs.Command as w
@@ -41,3 +43,10 @@ chosen_at classes members n = option_map_or (λ x. member_in classes x ∷ []) (
 
 abbrev pub chosen : List Text → List Member → List ℕ → List p.Member
 chosen classes members places = flat_map (chosen_at classes members) places
+
+-- a set of objects, and a member
+abbrev pub set_sorted : Text → Sorted
+set_sorted x = record { text = x; sort = sort.Set }
+
+abbrev pub member_sorted : Member → Sorted
+member_sorted x = record { text = x.text; sort = member_sort x.kind x.is_static }
