@@ -9,8 +9,7 @@ use Rattle.jh_tree.specs.Tree as t
 use Rattle.jh_walk.specs.Mapped.{LeafMap, unchanged, mapped_formula}
 use Rattle.jh_rules.specs.Words.{same_text}
 use Rattle.jh_rules.specs.declared.types.Ty.{Ty}
-use Rattle.jh_rules.specs.declared.types.Ty.TheVariants as ty
-use Rattle.jh_rules.specs.Kinds.{kind_of}
+use Rattle.jh_rules.specs.Kinds.{kind_of, is_void}
 use Rattle.jh_state.specs.States.{sort_of}
 use Rattle.jh_vars.specs.Written.{Callee}
 use Rattle.jh_wp.specs.Command.{CommandTree}
@@ -62,10 +61,6 @@ pub record CallTurns : Type 0 where
 abbrev pub target_count : Target → ℕ
 target_count (c.to_field f r p) = 1
 target_count _ = 0
-
-abbrev pub is_void : Ty → Bool
-is_void ty.Void = true
-is_void _ = false
 
 abbrev pub call_turns : Target → Option ObjectCode → ℕ → List Sorted → Ty → ℕ → CallTurns
 call_turns target receiver arg_count written result k =

@@ -5,6 +5,7 @@ use Rattle.jh_tree.specs.declared.mark.MarkKind.TheVariants as kind
 use Rattle.jh_tree.specs.Tree.{FormulaTree}
 use Rattle.jh_tree.specs.Tree as t
 use Rattle.jh_make.specs.Joined.{joined}
+use Rattle.jh_rules.specs.Kinds.{is_void}
 use Rattle.jh_vars.specs.Written.{Callee}
 use Rattle.jh_wp.specs.Command.{CommandTree}
 use Rattle.jh_wp.specs.Command as w
@@ -16,7 +17,6 @@ use Rattle.jh_guard.specs.Items.{items, sorted_item}
 use Rattle.jh_guard.specs.Writes.{Writes}
 use Rattle.jh_guard.specs.Steps.{fresh, sequence, mark_without_name, mark_of, assume_named, assume_claims, copies}
 use Rattle.jh_guard.specs.Frames.{frame_facts}
-use Rattle.jh_guard.specs.Calls.{is_void}
 use Rattle.jh_guard.specs.Statements.{stmts_commands}
 
 -- a command, and the formula that has to be true after it and where it is left

@@ -10,14 +10,14 @@ use Rattle.jh_tree.specs.Sorts.{same_sort}
 use Rattle.jh_tree.proofs.ClosedLemmas.{both-left, both-right}
 use Rattle.jh_tree.specs.Meaning.{Interp, Datum}
 use Rattle.jh_rules.specs.Words.{same_text}
-use Rattle.jh_rules.specs.Kinds.{kind_of}
+use Rattle.jh_rules.specs.Kinds.{kind_of, is_void}
 use Rattle.jh_state.specs.States.{sort_of}
 use Rattle.jh_runs.specs.Code.{Text, Local}
 use Rattle.jh_runs.specs.Program.{Program, Method}
 use Rattle.jh_runs.specs.State.{State, named, this_name, result_name, shown}
 use Rattle.jh_runs.specs.Locals.{with_args}
 use Rattle.jh_guard.specs.Steps.{fresh}
-use Rattle.jh_guard.specs.Calls.{CallTurns, at_call, argument_name, this_text, result_text, is_void}
+use Rattle.jh_guard.specs.Calls.{CallTurns, at_call, argument_name, this_text, result_text}
 use Rattle.jh_logic.specs.MethodContracts.{is_state, is_param, is_plain, names_now, speaks_before, speaks_after, speaks_of_state}
 use Rattle.jh_logic.specs.Histories.{viewed, Gives}
 use Rattle.jh_logic.proofs.Views.{viewed-fresh}

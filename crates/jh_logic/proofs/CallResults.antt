@@ -11,7 +11,7 @@ use Rattle.jh_tree.specs.Meaning.{Interp, Datum, an_object, a_number, a_truth, a
 use Rattle.jh_tree.specs.Assigned.{assigned}
 use Rattle.jh_rules.specs.declared.types.Ty.{Ty}
 use Rattle.jh_rules.specs.declared.types.Ty.TheVariants as ty
-use Rattle.jh_rules.specs.Kinds.{kind_of}
+use Rattle.jh_rules.specs.Kinds.{kind_of, is_void}
 use Rattle.jh_state.specs.States.{sort_of}
 use Rattle.jh_runs.specs.Code.{Text, ObjectCode, Target}
 use Rattle.jh_runs.specs.Code as c
@@ -29,7 +29,7 @@ use Rattle.jh_runs.proofs.Formed.{ObjectLies}
 use Rattle.jh_guard.specs.Items.{free_of}
 use Rattle.jh_guard.specs.Laws.{AllPass}
 use Rattle.jh_guard.specs.Steps.{fresh, put_field}
-use Rattle.jh_guard.specs.Calls.{is_void, target_text, kept_checks, put_result}
+use Rattle.jh_guard.specs.Calls.{target_text, kept_checks, put_result}
 use Rattle.jh_guard.proofs.Checking.{Has}
 use Rattle.jh_logic.specs.Histories.{viewed, Gives, Below, Inner, Holds}
 use Rattle.jh_logic.specs.Reached.{After}

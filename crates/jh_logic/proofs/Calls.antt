@@ -18,7 +18,7 @@ use Rattle.jh_tree.specs.Meaning.{Interp, Datum, an_object, truth}
 use Rattle.jh_tree.specs.Assigned.{assigned}
 use Rattle.jh_rules.specs.declared.types.Ty.{Ty}
 use Rattle.jh_rules.specs.declared.types.Ty.TheVariants as ty
-use Rattle.jh_rules.specs.Kinds.{is_void as rules-void}
+use Rattle.jh_rules.specs.Kinds.{is_void}
 use Rattle.jh_vars.specs.Written.{Callee}
 use Rattle.jh_wp.specs.Command.{CommandTree}
 use Rattle.jh_wp.specs.Command as w
@@ -48,7 +48,7 @@ use Rattle.jh_guard.specs.Writes.{Writes}
 use Rattle.jh_guard.specs.Laws.{AllPass}
 use Rattle.jh_guard.specs.Steps.{fresh, assert_checks, assert_claims, assume_claims, assume_named, changed, after_changed, growth, target_checks}
 use Rattle.jh_guard.specs.Frames.{frame_facts}
-use Rattle.jh_guard.specs.Calls.{CallTurns, at_call, this_text, result_text, target_text, target_count, is_void, receiver_value_checks, called_checks, all_checks, keep_receiver, keep_args, keep_target, assert_requires, assume_ensures, renamed_by, old_alloc, result_value, put_result, written_items, written_sorted, turns_of, after_call, call_commands}
+use Rattle.jh_guard.specs.Calls.{CallTurns, at_call, this_text, result_text, target_text, target_count, receiver_value_checks, called_checks, all_checks, keep_receiver, keep_args, keep_target, assert_requires, assume_ensures, renamed_by, old_alloc, result_value, put_result, written_items, written_sorted, turns_of, after_call, call_commands}
 use Rattle.jh_guard.specs.Statements.{wf_at}
 use Rattle.jh_guard.proofs.Checking.{Has, has-one, pass-left, pass-right}
 use Rattle.jh_logic.specs.MethodContracts.{is_state, is_param, is_plain, names_now, speaks_before, speaks_after, Speaks, ContractFits, ContractsFit, SameValues, Met, Meets, CallsMeet}
@@ -545,18 +545,10 @@ module _ (p : Program) (ws : Writes) (fits : ProgramFits p) (contracts : Contrac
       later : (i j e : ℕ) → k ≤ e + (j + (i + k))
       later i j e = omega arith
 
-guard-void : (result : Ty) → is_void result ≡ rules-void result
-guard-void ty.Int = refl
-guard-void ty.Boolean = refl
-guard-void ty.Void = refl
-guard-void ty.Null = refl
-guard-void ty.Object = refl
-guard-void (ty.Class d) = refl
-
 -- Typed calls are safe.
 module _ (p : Program) (ws : Writes) (fitting : ProgramFits p) (contracts : ContractsFit p) (n : ℕ) (result : Ty) (this : Option ℕ) (R : Interp → Type 0) (respect : Respects R) (call : Callee → ℕ → List Datum → Configuration → Progress) (meets : CallsMeet p ws call) where
   pub calls-safe : SafeCalls p ws fitting.names n result this R respect call
   calls-safe place target receiver of m args scope at fits k h r Q q b H =
       subst (λ (o : Option Method). Holds n k h r.now r.entry (λ z. After R (option_map_or (λ x. call_commands p ws (wf_at p ws this scope) place target receiver of m x args (turns_of p ws (wf_at p ws this scope) target receiver m x args k)) o []) Q z) →
       Sure (λ u. Leads n (option_map_or (λ x. (turns_of p ws t.true_formula target receiver m x args k).next) o k) u.now u.entry Q) (Returned n R) (exec call (c.call place target receiver of m args) r)) (sym fits.is)
-      (λ G. call-at p ws fitting contracts n result this R respect call meets place target receiver of m fits.method args scope at k h r Q fits.is fits.receiver_fits fits.args_fit (λ e. fits.void (sym (guard-void fits.method.result) ∙ e)) b G) H
+      (λ G. call-at p ws fitting contracts n result this R respect call meets place target receiver of m fits.method args scope at k h r Q fits.is fits.receiver_fits fits.args_fit fits.void b G) H

@@ -12,7 +12,7 @@ use Rattle.jh_tree.specs.Tree.{FormulaTree, ValueTree, TermTree}
 use Rattle.jh_tree.specs.Tree as t
 use Rattle.jh_tree.specs.Closed.{is_closed_term, is_closed_int, is_closed_set, is_closed_field, is_closed_value, is_closed_formula}
 use Rattle.jh_rules.specs.declared.types.Ty.{Ty}
-use Rattle.jh_rules.specs.Kinds.{kind_of}
+use Rattle.jh_rules.specs.Kinds.{kind_of, is_void}
 use Rattle.jh_state.specs.States.{sort_of}
 use Rattle.jh_vars.specs.Written.{Callee}
 use Rattle.jh_wp.specs.Command.{CommandTree, CommandTrees, is_closed_command, are_closed_commands}
@@ -30,7 +30,7 @@ use Rattle.jh_guard.specs.Writes.{Writes, scope_after}
 use Rattle.jh_guard.specs.Steps.{steps, sequence, fresh, assert_checks, assert_claims, assume_claims, assume_named, copies, after_copies, havocs, changed, after_changed, growth, target_checks, put_field, put}
 use Rattle.jh_guard.specs.Frames.{frame_facts}
 use Rattle.jh_guard.specs.Loops.{changed_by, written_by, loop_turn}
-use Rattle.jh_guard.specs.Calls.{CallTurns, at_call, is_void, receiver_value_checks, called_checks, all_checks, keep_receiver, keep_args, keep_target, assert_requires, assume_ensures, result_text, target_text, result_value, kept_checks, put_result, old_alloc, written_items, written_sorted, turns_of, call_commands}
+use Rattle.jh_guard.specs.Calls.{CallTurns, at_call, receiver_value_checks, called_checks, all_checks, keep_receiver, keep_args, keep_target, assert_requires, assume_ensures, result_text, target_text, result_value, kept_checks, put_result, old_alloc, written_items, written_sorted, turns_of, call_commands}
 use Rattle.jh_guard.specs.Statements.{wf_at, is_new, new_steps, next_turn, stmt_commands, stmts_commands}
 use Rattle.jh_guard.specs.Methods.{assume_requires, end_commands}
 use Rattle.jh_logic.specs.MethodContracts.{AreClosed}

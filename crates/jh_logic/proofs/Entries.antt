@@ -15,6 +15,7 @@ use Rattle.jh_tree.specs.Meaning.{Interp, InUniverse, Datum, Fields, an_object, 
 use Rattle.jh_tree.specs.Assigned.{assigned}
 use Rattle.jh_rules.specs.declared.types.Ty.{Ty}
 use Rattle.jh_rules.specs.declared.types.Ty.TheVariants as ty
+use Rattle.jh_rules.specs.Kinds.{is_void}
 use Rattle.jh_vars.specs.Written.{Callee}
 use Rattle.jh_vars.specs.Resolved.{own}
 use Rattle.jh_wp.specs.Command.{CommandTree, is_closed_command}
@@ -39,7 +40,6 @@ use Rattle.jh_runs.proofs.TypedMethods.{params-scope}
 use Rattle.jh_guard.specs.Items.{Item, items, item_text, item_sort, sorted_item, free_of}
 use Rattle.jh_guard.specs.Writes.{Writes}
 use Rattle.jh_guard.specs.Steps.{fresh, assume_claims, assume_named, copies}
-use Rattle.jh_guard.specs.Calls.{is_void}
 use Rattle.jh_guard.specs.Statements.{stmts_commands, next_turns}
 use Rattle.jh_guard.specs.Methods.{assume_requires, end_commands, method_command}
 use Rattle.jh_logic.specs.MethodContracts.{ContractsFit, CallsMeet, IsValid}

@@ -11,6 +11,7 @@ use Rattle.jh_tree.specs.Tree as t
 use Rattle.jh_tree.specs.declared.mark.MarkKind.TheVariants as kind
 use Rattle.jh_tree.specs.Meaning.{Interp, Datum, truth, datum}
 use Rattle.jh_rules.specs.declared.types.Ty.{Ty}
+use Rattle.jh_rules.specs.Kinds.{is_void}
 use Rattle.jh_vars.specs.Written.{Callee}
 use Rattle.jh_tree.specs.Assigned.{assigned}
 use Rattle.jh_wp.specs.Command.{CommandTree}
@@ -33,7 +34,7 @@ use Rattle.jh_guard.specs.Steps.{steps, sequence, assert_checks, target_checks, 
 use Rattle.jh_guard.specs.Steps as step
 use Rattle.jh_guard.specs.Items.{Sorted}
 use Rattle.jh_guard.specs.Loops.{changed_by}
-use Rattle.jh_guard.specs.Calls.{turns_of, is_void, written_sorted, target_count}
+use Rattle.jh_guard.specs.Calls.{turns_of, written_sorted, target_count}
 use Rattle.jh_guard.specs.Statements.{next_turn, next_turns, next_after_call, stmt_commands, stmts_commands}
 use Rattle.jh_guard.proofs.Checking.{Has, has-one, pass-left, pass-right}
 use Rattle.jh_logic.specs.Histories.{viewed, Below, Inner, Holds, Respects}

@@ -13,7 +13,7 @@ use Rattle.jh_guard.specs.Methods.{method_command}
 use Rattle.jh_rules.specs.Words.{same_text}
 use Rattle.jh_rules.specs.declared.types.Ty.{Ty}
 use Rattle.jh_rules.specs.declared.types.Ty.TheVariants as ty
-use Rattle.jh_rules.specs.Kinds.{kind_of}
+use Rattle.jh_rules.specs.Kinds.{kind_of, is_void}
 use Rattle.jh_state.specs.States.{sort_of}
 use Rattle.jh_vars.specs.Written.{Callee}
 use Rattle.jh_runs.specs.Code.{Text, Local, Claim}
@@ -26,7 +26,7 @@ use Rattle.jh_runs.specs.Entry.{Entry}
 use Rattle.jh_runs.specs.Sound.{ReturnsWell, IsNoFault}
 use Rattle.jh_runs.specs.Laws.{Grew, ResultInside}
 use Rattle.jh_guard.specs.Items.{Item, item_text, item_sort, items, items_where}
-use Rattle.jh_guard.specs.Calls.{this_text, result_text, is_void}
+use Rattle.jh_guard.specs.Calls.{this_text, result_text}
 use Rattle.jh_guard.specs.Writes.{Writes, stmts_write}
 
 -- a text is that of one of some pieces of state, at its sort

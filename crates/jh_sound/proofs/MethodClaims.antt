@@ -24,7 +24,7 @@ use Rattle.jh_rules.specs.declared.entries.LocalEntry.{LocalEntry}
 use Rattle.jh_rules.specs.Breaks.{faults_of}
 use Rattle.jh_rules.specs.Faults.{needs_none}
 use Rattle.jh_rules.specs.Words.{same_text, text_of}
-use Rattle.jh_rules.specs.Kinds.{kind_of}
+use Rattle.jh_rules.specs.Kinds.{kind_of, is_void}
 use Rattle.jh_rules.specs.Kinds as kinds
 use Rattle.jh_rules.specs.Names.{Declared, declared_in, type_of, kind_of_word}
 use Rattle.jh_rules.specs.Scopes.{Scope, outermost, declare, declare_all}
@@ -46,7 +46,7 @@ use Rattle.jh_runs.specs.Program.{Program, Method}
 use Rattle.jh_runs.specs.LoweredStmts.{spec_value, word_type, local_code, claim_of, labelled_claim}
 use Rattle.jh_runs.specs.LoweredProgram.{program_of, method_code, class_claims}
 use Rattle.jh_guard.specs.Items.{item_text, item_sort, items}
-use Rattle.jh_guard.specs.Calls.{this_text, result_text, is_void}
+use Rattle.jh_guard.specs.Calls.{this_text, result_text}
 use Rattle.jh_logic.specs.MethodContracts.{is_item, is_state, is_param, is_plain, names_now, speaks_before, speaks_after, speaks_of_state, Speaks, AllSpeak, IsValueType, ContractFits, ContractsFit}
 use Rattle.jh_sound.specs.Placed.{IsPlaced, NoGhostObject}
 use Rattle.jh_sound.proofs.Lists.{has-none, has-first, has-later, has-cases, has-at, map-from, any-passes, left-empty, right-empty, both-true, and-left, and-right, no-none, not-true, or-true-left, or-cases}
@@ -81,14 +81,6 @@ plain-sort k.Obj h = refl
 plain-sort k.Int h = refl
 plain-sort k.Bool h = refl
 plain-sort k.Set h = absurd (h refl)
-
-guard-void : (u : Ty) → is_void u ≡ kinds.is_void u
-guard-void ty.Int = refl
-guard-void ty.Boolean = refl
-guard-void ty.Void = refl
-guard-void ty.Null = refl
-guard-void ty.Object = refl
-guard-void (ty.Class n) = refl
 
 void-is : (u : Ty) → is_void u ≡ true → u ≡ ty.Void
 void-is ty.Int e = absurd (true≢false (sym e))
