@@ -3,7 +3,10 @@ use Rattle.std.proofs.Common.{◌≡◌, refl, sym, ap, ◌∙◌, ℕ, zero, su
 use Rattle.std.specs.Prelude.{filter}
 use Rattle.std.specs.List.{flat_map}
 use Rattle.std.specs.Option.{option_map_or}
-use Rattle.std.proofs.lemmas.List.{take_all}
+use Rattle.std.proofs.lemmas.Grind.{flat_map-append}
+use Rattle.std.proofs.lemmas.List.{take_all, map-append}
+use Rattle.std.proofs.lemmas.List.Elements.{filter-append}
+use Rattle.std.proofs.lemmas.Option.{slice_get-get_or}
 use Rattle.jh_name.specs.declared.naming.Name.{Name}
 use Rattle.jh_state.specs.declared.state.StateName.{StateName}
 use Rattle.jh_written.specs.Arising.{passes_at}
@@ -15,22 +18,6 @@ name_at states i = option_map_or (λ (s : StateName). s.name ∷ []) (slice_get 
 
 abbrev pub names_of : List StateName → List ℕ → List Name
 names_of states places = flat_map (name_at states) places
-
-flat-append : {X Y : Type 0} (f : X → List Y) (xs ys : List X) → flat_map f (xs ++ ys) ≡ flat_map f xs ++ flat_map f ys
-flat-append f [] ys = refl
-flat-append f (x ∷ xs) ys = ap (λ l. f x ++ l) (flat-append f xs ys) ∙ sym (append_assoc (f x) (flat_map f xs) (flat_map f ys))
-
-map-append : {X Y : Type 0} (f : X → Y) (xs ys : List X) → map f (xs ++ ys) ≡ map f xs ++ map f ys
-map-append f [] ys = refl
-map-append f (x ∷ xs) ys = ap (λ l. f x ∷ l) (map-append f xs ys)
-
-filter-one : {X : Type 0} (x : X) (xs ys : List X) (b : Bool) → (if b then x ∷ (xs ++ ys) else xs ++ ys) ≡ (if b then x ∷ xs else xs) ++ ys
-filter-one x xs ys true = refl
-filter-one x xs ys false = refl
-
-filter-append : {X : Type 0} (test : X → Bool) (xs ys : List X) → filter test (xs ++ ys) ≡ filter test xs ++ filter test ys
-filter-append test [] ys = refl
-filter-append test (x ∷ xs) ys = ap (λ l. if test x then x ∷ l else l) (filter-append test xs ys) ∙ filter-one x (filter test xs) (filter test ys) (test x)
 
 take-one : {X : Type 0} (xs : List X) (n : ℕ) (x : X) → slice_get xs n ≡ Some x → take (suc n) xs ≡ take n xs ++ x ∷ []
 take-one [] n x e = absurd (cc)
@@ -65,7 +52,7 @@ module _ {X : Type 0} (f : X → Name) (states : List StateName) (list : List X)
       let found = there list n (omega arith) in
       let x = found.0 in
       let one : (b : Bool) → names_of states (if b then n ∷ [] else []) ≡ map f (if b then x ∷ [] else []) = picked n x found.1 in
-      flat-append (name_at states) (places_below (passes_at test list) n) (if passes_at test list n then n ∷ [] else [])
+      flat_map-append (name_at states) (places_below (passes_at test list) n) (if passes_at test list n then n ∷ [] else [])
       ∙ (λ i. chosen n (omega arith) i ++ names_of states (if option_map_or test (found.1 i) false then n ∷ [] else []))
       ∙ ap (λ l. map f (filter test (take n list)) ++ l) (one (test x))
       ∙ sym (map-append f (filter test (take n list)) (filter test (x ∷ [])))
@@ -83,6 +70,4 @@ none-at (x ∷ xs) zero le = absurd (omega arith)
 none-at (x ∷ xs) (suc n) le = none-at xs n (omega arith)
 
 pub some-at : {X : Type 0} (xs : List X) (n : ℕ) (x : X) → n < length xs → x ≡ get_or xs n x → slice_get xs n ≡ Some x
-some-at [] n x lt e = absurd (omega arith)
-some-at (y ∷ xs) zero x lt e = ap (λ z. Some z) (sym e)
-some-at (y ∷ xs) (suc n) x lt e = some-at xs n x (omega arith) e
+some-at xs n x lt e = slice_get-get_or xs n x lt ∙ ap (λ z. Some z) (sym e)
