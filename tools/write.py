@@ -4,8 +4,8 @@
 tools/write.py           writes them
 tools/write.py --check   writes nothing, says which differ, and ends with 1 where one does
 
-Imports that nothing uses are taken out of proofs and definitions, and imports alone make no difference: a file whose
-text is the same but for them stays as it is.
+A file gets a first line that names its script, where no line does. Imports that nothing uses are taken out of proofs
+and definitions, and imports alone make no difference: a file whose text is the same but for them stays as it is.
 """
 import os
 import shutil

@@ -5,7 +5,8 @@ use Rattle.jh_tree.specs.Tree as t
 use Rattle.jh_compare.specs.Unmarked.{unmarked_formula}
 use Rattle.jh_sequent.specs.Sequents.{SequentTree}
 
--- A goal is evident, whatever is known: it is True, or an equation of two equal sides. It has no labels.
+-- A goal is evident, whatever is known: it is True, or an equation of two equal sides. It has no labels. (An equation of truths is an
+-- equivalence; splitting leaves none as a goal.)
 abbrev pub IsEvident : FormulaTree → Type 0
 IsEvident t.true_formula = Unit {0}
 IsEvident (t.eq_object a b) = a ≡ b
