@@ -133,7 +133,7 @@ fn is_ghost_state(state: Option<StateEntry>) -> bool
     }
 }
 
-/// Whether what is written is a ghost variable, or one read of it.
+/// Whether what is written is a ghost variable, or one read of it; `Object` by itself is the set of all objects.
 fn is_ghost_target(lookups: &Lookups, at: &ScopeTable, form: &SpecTree) -> bool
     ensures { result ≡ statements.is_ghost_target (declared_by lookups.now) (scope_by at.now) (form_tree form.now) }
 {
@@ -141,7 +141,7 @@ fn is_ghost_target(lookups: &Lookups, at: &ScopeTable, form: &SpecTree) -> bool
         SpecBody::Name(word) => {
             let text = word.text.text();
             let is_ghost = is_ghost_state(state_spelled(lookups, at.class, text));
-            at.local(text).is_none() && is_ghost
+            at.local(text).is_none() && text != "Object" && is_ghost
         }
         SpecBody::Member(_, word) => {
             is_ghost_state(state_named(lookups, at.class, word.text.text()))

@@ -1,5 +1,5 @@
 -- The faults of statements, methods, classes and programs.
-use Rattle.std.specs.Prelude.{ℕ, ◌+◌, ◌&&◌, not, Bool, true, false, List, [], ◌∷◌, ◌++◌, Option, Some, None, is_some, option_map}
+use Rattle.std.specs.Prelude.{ℕ, ◌+◌, ◌&&◌, not, Bool, true, false, List, [], ◌∷◌, ◌++◌, Option, Some, None, is_some, option_map, codes}
 use Rattle.std.specs.List.{flat_map}
 use Rattle.std.specs.Option.{option_map_or}
 use Rattle.jh_name.specs.declared.place.Place.{Place}
@@ -18,7 +18,7 @@ use Rattle.jh_ast.specs.Programs.{ProgramTree, ClassPart, FieldPart, VarPart, De
 use Rattle.jh_rules.specs.declared.fault.Fault.{Fault}
 use Rattle.jh_rules.specs.declared.types.Ty.{Ty}
 use Rattle.jh_rules.specs.Faults.{Judged, right, ◌>>=◌}
-use Rattle.jh_rules.specs.Words.{text_of}
+use Rattle.jh_rules.specs.Words.{same_text, text_of}
 use Rattle.jh_rules.specs.Kinds.{kind_of}
 use Rattle.jh_rules.specs.declared.entries.StateEntry.{StateEntry}
 use Rattle.jh_rules.specs.Names.{Declared, member_word, members_of, type_of, state_spelled, state_named}
@@ -58,12 +58,12 @@ module _ (l : Declared) where
   abbrev pub inside : Scope → Where
   inside at = record { class = at.class; has_this = not at.fixed; old = true; result = None; local = at.local; bound = [] }
 
-  -- whether the left side of `:=` is a ghost variable, or one read of it
+  -- whether the left side of `:=` is a ghost variable, or one read of it; `Object` by itself is the set of all objects
   abbrev pub is_ghost_state : Option StateEntry → Bool
   is_ghost_state x = option_map_or (λ (y : StateEntry). y.is_ghost) x false
 
   abbrev pub is_ghost_target : Scope → FormTree → Bool
-  is_ghost_target at (f.name q w) = not (is_some (at.local (text_of w))) && is_ghost_state (state_spelled l at.class (text_of w))
+  is_ghost_target at (f.name q w) = not (is_some (at.local (text_of w))) && (not (same_text (text_of w) (codes "Object")) && is_ghost_state (state_spelled l at.class (text_of w)))
   is_ghost_target at (f.member q a w) = is_ghost_state (state_named l at.class (text_of w))
   is_ghost_target at _ = false
 
