@@ -90,6 +90,4 @@ clearing-accepted = record {
     members = λ c i a b u v e. ⊎_elim (λ (s : class ≡ c). member a (subst (λ (z : ClassPart). Contains (members_of z) a) (sym s) u) b (subst (λ (z : ClassPart). Contains (members_of z) b) (sym s) v) e) (λ h. absurd (has-none c h)) (has-cases class [] c i);
   };
   fine = λ rule place i. has-none (fault rule place) (subst (λ (fs : List Fault). Contains fs (fault rule place)) clean i);
-  ghosts = λ c i v u g e. ⊎_elim (λ (s : class ≡ c). ⊎_elim (λ (w : set ≡ v). true≢false (sym (is-same (text_of v.name) (codes "Object") e) ∙ ap (λ (z : VarPart). same_text (text_of z.name) (codes "Object")) (sym w))) (λ h. has-none v h)
-      (has-cases set [] v (subst (λ (z : ClassPart). Contains z.vars v) (sym s) u))) (λ h. has-none c h) (has-cases class [] c i);
 }

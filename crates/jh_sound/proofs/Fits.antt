@@ -5,7 +5,7 @@ use Rattle.jh_rules.specs.Breaks.{faults_of}
 use Rattle.jh_rules.specs.Shape.{program_parts, are_different}
 use Rattle.jh_runs.specs.LoweredProgram.{program_of, ModifiesOf}
 use Rattle.jh_runs.specs.Typed.{ProgramFits}
-use Rattle.jh_sound.specs.Placed.{IsPlaced, NoGhostObject}
+use Rattle.jh_sound.specs.Placed.{IsPlaced}
 use Rattle.jh_sound.specs.Laws.{MeetsPremises, AcceptedMeetsPremises, AcceptedIsSound}
 use Rattle.jh_logic.proofs.Soundness.{sound}
 use Rattle.jh_sound.proofs.Shaped.{Shaped, shaped-program}
@@ -16,15 +16,15 @@ use Rattle.jh_sound.proofs.Ghosts.{ghosts-fit}
 use Rattle.jh_sound.proofs.Writing.{writes-cover}
 use Rattle.jh_sound.proofs.MethodClaims.{contracts-fit}
 
-pub fits : (p : ProgramTree) → IsPlaced p → faults_of p ≡ [] → Shaped (program_parts p) → NoGhostObject p → are_different (program_parts p).numbers ≡ true → ProgramFits (program_of p)
-fits p placed clean shaped none different =
-    program-fits p placed clean shaped (λ spec. (claims-of-states p spec, tt)) (λ n c is m stands. ghosts-fit p placed clean shaped none different n c is m stands)
+pub fits : (p : ProgramTree) → IsPlaced p → faults_of p ≡ [] → Shaped (program_parts p) → are_different (program_parts p).numbers ≡ true → ProgramFits (program_of p)
+fits p placed clean shaped different =
+    program-fits p placed clean shaped (λ spec. (claims-of-states p spec, tt)) (λ n c is m stands. ghosts-fit p placed clean shaped different n c is m stands)
 
 pub meets : AcceptedMeetsPremises
 meets p ws ok writes = record {
-  program = fits p ok.placed (faultless p ok.fine) (shaped-program p ok.shape) ok.ghosts ok.shape.numbers;
-  contracts = contracts-fit p ok.placed (faultless p ok.fine) (shaped-program p ok.shape) ok.ghosts ok.shape.numbers;
-  writes = writes-cover p ok.placed (faultless p ok.fine) (shaped-program p ok.shape) ok.ghosts ok.shape.numbers ws writes;
+  program = fits p ok.placed (faultless p ok.fine) (shaped-program p ok.shape) ok.shape.numbers;
+  contracts = contracts-fit p ok.placed (faultless p ok.fine) (shaped-program p ok.shape) ok.shape.numbers;
+  writes = writes-cover p ok.placed (faultless p ok.fine) (shaped-program p ok.shape) ok.shape.numbers ws writes;
 }
 
 pub is-sound : AcceptedIsSound

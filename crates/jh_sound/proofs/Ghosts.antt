@@ -1,5 +1,5 @@
 -- Ghost assignments in which nothing is wrong assign ghost variables of the program.
-use Rattle.std.proofs.Common.{◌≡◌, refl, sym, ap, subst, ◌∙◌, ℕ, Bool, true, false, not, ◌||◌, if◌then◌else◌, List, [], ◌∷◌, ◌++◌, Option, Some, None, is_some, option_map, slice_get, codes}
+use Rattle.std.proofs.Common.{◌≡◌, refl, sym, ap, subst, ◌∙◌, ℕ, Bool, true, false, not, ◌&&◌, ◌||◌, if◌then◌else◌, List, [], ◌∷◌, ◌++◌, Option, Some, None, is_some, option_map, slice_get, codes}
 use Rattle.std.specs.List.{Contains}
 use Rattle.std.specs.Option.{option_map_or}
 use Rattle.std.proofs.lemmas.Bool.{true≢false}
@@ -45,7 +45,7 @@ use Rattle.jh_runs.specs.Program.{Program, Member}
 use Rattle.jh_runs.specs.LoweredStmts.{a_name, a_read, ghost_target, of_kind, class_before_dot, ghost_code, spec_value, word_type, stmt_code}
 use Rattle.jh_runs.specs.LoweredProgram.{program_of}
 use Rattle.jh_runs.specs.Typed.{Surroundings, IsGhost, GhostFits, StmtFits}
-use Rattle.jh_sound.specs.Placed.{IsPlaced, NoGhostObject}
+use Rattle.jh_sound.specs.Placed.{IsPlaced}
 use Rattle.jh_sound.proofs.Lists.{has-first, left-empty, right-empty, no-none, and-left, and-right, not-true, not-false}
 use Rattle.jh_sound.proofs.Judged.{not-broken, met, then-first}
 use Rattle.jh_sound.proofs.Texts.{differ}
@@ -57,7 +57,7 @@ use Rattle.jh_sound.proofs.Members.{member-of, member-stands}
 use Rattle.jh_sound.proofs.Declared.{static-sort, class-text-is, halves-of}
 use Rattle.jh_sound.proofs.Named.{dotless}
 use Rattle.jh_sound.proofs.States.{IsDeclared, spelled-is, named-is}
-use Rattle.jh_sound.proofs.Pieces.{PieceIs, piece-is, ghost-plain, kind-known, state-not-this, state-not-result, state-not-alloc, ghost-not-object, no-class-object}
+use Rattle.jh_sound.proofs.Pieces.{PieceIs, piece-is, ghost-plain, kind-known, state-not-this, state-not-result, state-not-alloc, no-class-object}
 use Rattle.jh_sound.proofs.FormKinds.{Known, kind-sure}
 use Rattle.jh_sound.proofs.Methods.{declared}
 use Rattle.jh_sound.proofs.Numbers.{value-is, statement-stands}
@@ -88,7 +88,7 @@ read-target k.Int x a = refl
 read-target k.Bool x a = refl
 read-target k.Set x a = refl
 
-module _ (p : ProgramTree) (placed : IsPlaced p) (clean : faults_of p ≡ []) (shaped : Shaped (program_parts p)) (none : NoGhostObject p) where
+module _ (p : ProgramTree) (placed : IsPlaced p) (clean : faults_of p ≡ []) (shaped : Shaped (program_parts p)) where
   abbrev l : Declared
   l = declared_in p
 
@@ -101,7 +101,7 @@ module _ (p : ProgramTree) (placed : IsPlaced p) (clean : faults_of p ≡ []) (s
     a_member : (x : State) → IsDeclared p x → x.entry.is_ghost ≡ true → x.entry.fixed ≡ false → (r : TermTree) → Fine of_states 0 (t.of_object r) → value_at p (opened.inside k.Obj at) a ≡ read (kind_known x) (state_name (class_text p) x) r → ghost_writes p at a ≡ state x.entry.class x.name ∷ [] → Left at a
 
   -- a word that names a ghost variable stands for nothing else
-  module _ (c : ℕ) (s : StateEntry) (ghost : s.is_ghost ≡ true) where
+  module _ (c : ℕ) (s : StateEntry) where
     ghost-word : (x : List ℕ) → names.state_spelled l c x ≡ Some s → (y : List ℕ) → (names.state_spelled l c y ≡ Some s → ⊥) → same_text x y ≡ false
     ghost-word x e y h = differ x y (λ same. h (ap (names.state_spelled l c) (sym same) ∙ e))
 
@@ -117,10 +117,6 @@ module _ (p : ProgramTree) (placed : IsPlaced p) (clean : faults_of p ≡ []) (s
     unfolding halves
     not-alloc e = state-not-alloc p placed clean shaped c s e
 
-    not-object : names.state_spelled l c (codes "Object") ≡ Some s → ⊥
-    unfolding halves
-    not-object e = ghost-not-object p placed clean shaped none c s e ghost
-
     not-both : names.state_spelled l c (codes "Object.alloc") ≡ Some s → ⊥
     unfolding halves
     not-both e = by (l.class_named (codes "Object")) refl e
@@ -129,8 +125,8 @@ module _ (p : ProgramTree) (placed : IsPlaced p) (clean : faults_of p ≡ []) (s
         by None g h = no-none s h
         by (Some d) g h = no-class-object p placed clean shaped d g
 
-    not-one-of : (x : List ℕ) → names.state_spelled l c x ≡ Some s → is_one_of x (codes "alloc" ∷ codes "Object" ∷ codes "Object.alloc" ∷ []) ≡ false
-    not-one-of x e = or3 (same_text x (codes "alloc")) (same_text x (codes "Object")) (same_text x (codes "Object.alloc")) (ghost-word x e (codes "alloc") not-alloc) (ghost-word x e (codes "Object") not-object) (ghost-word x e (codes "Object.alloc") not-both)
+    not-one-of : (x : List ℕ) → names.state_spelled l c x ≡ Some s → same_text x (codes "Object") ≡ false → is_one_of x (codes "alloc" ∷ codes "Object" ∷ codes "Object.alloc" ∷ []) ≡ false
+    not-one-of x e plain = or3 (same_text x (codes "alloc")) (same_text x (codes "Object")) (same_text x (codes "Object.alloc")) (ghost-word x e (codes "alloc") not-alloc) plain (ghost-word x e (codes "Object.alloc") not-both)
       where
         or3 : (a b d : Bool) → a ≡ false → b ≡ false → d ≡ false → (a || (b || (d || false))) ≡ false
         or3 a b d e g h = λ i. e i || (g i || (h i || false))
@@ -143,13 +139,13 @@ module _ (p : ProgramTree) (placed : IsPlaced p) (clean : faults_of p ≡ []) (s
     meaning = meant p (all_definitions p)
 
     -- the value of a word that names a ghost variable
-    word-value : (w : Word) (s : StateEntry) → at.local (text_of w) ≡ None → names.state_spelled l at.class (text_of w) ≡ Some s → s.is_ghost ≡ true → name_value l (class_text p) meaning spot w ≡ state_value l (class_text p) meaning spot (called (text_of w) s)
+    word-value : (w : Word) (s : StateEntry) → at.local (text_of w) ≡ None → names.state_spelled l at.class (text_of w) ≡ Some s → same_text (text_of w) (codes "Object") ≡ false → name_value l (class_text p) meaning spot w ≡ state_value l (class_text p) meaning spot (called (text_of w) s)
     unfolding bound_as
-    word-value w s free-of e ghost =
+    word-value w s free-of e plain =
         ap (λ o. option_map_or (λ (x : LocalEntry). free (kind_of_local x) (own (text_of w) 0)) o (outer_value l (class_text p) meaning spot w)) free-of
-        ∙ (λ i. if ghost-word at.class s ghost (text_of w) e (codes "this") (not-this at.class s ghost) i then t.of_object (this_at spot) else
-        if ghost-word at.class s ghost (text_of w) e (codes "result") (not-result at.class s ghost) i then free k.Obj (own (codes "result") 0) else
-        if not-one-of at.class s ghost (text_of w) e i then t.of_set (t.free_set (own (codes "alloc") 0)) else state_or_class l (class_text p) meaning spot w)
+        ∙ (λ i. if ghost-word at.class s (text_of w) e (codes "this") (not-this at.class s) i then t.of_object (this_at spot) else
+        if ghost-word at.class s (text_of w) e (codes "result") (not-result at.class s) i then free k.Obj (own (codes "result") 0) else
+        if not-one-of at.class s (text_of w) e plain i then t.of_set (t.free_set (own (codes "alloc") 0)) else state_or_class l (class_text p) meaning spot w)
         ∙ ap (λ o. option_map_or (state_value l (class_text p) meaning spot) (option_map (called (text_of w)) o) (t.of_set (t.free_set (own (text_of w) 0)))) e
 
     plain-static : (x : State) → x.entry.is_defined ≡ false → static_value l (class_text p) meaning x ≡ free (kind_known x) (state_name (class_text p) x)
@@ -162,9 +158,9 @@ module _ (p : ProgramTree) (placed : IsPlaced p) (clean : faults_of p ≡ []) (s
     unfolding is_closed_value is_closed_term value_passes term_passes
     this-fine = record { closed = refl; passes = refl }
 
-    word-left : (q : Place) (w : Word) (s : StateEntry) → at.local (text_of w) ≡ None → names.state_spelled l at.class (text_of w) ≡ Some s → s.is_ghost ≡ true → Left at (f.name q w)
+    word-left : (q : Place) (w : Word) (s : StateEntry) → at.local (text_of w) ≡ None → names.state_spelled l at.class (text_of w) ≡ Some s → same_text (text_of w) (codes "Object") ≡ false → s.is_ghost ≡ true → Left at (f.name q w)
     unfolding resolved
-    word-left q w s free-of e ghost = by s.fixed refl
+    word-left q w s free-of e plain ghost = by s.fixed refl
       where
         is : IsDeclared p (called (text_of w) s)
         is = spelled-is p at.class (text_of w) (called (text_of w) s) (ap (λ o. option_map (called (text_of w)) o) e)
@@ -173,8 +169,8 @@ module _ (p : ProgramTree) (placed : IsPlaced p) (clean : faults_of p ≡ []) (s
         writes = ap (λ o. option_map_or (λ (y : State). state y.entry.class y.name ∷ []) (option_map (called (text_of w)) o) []) e
 
         by : (b : Bool) → s.fixed ≡ b → Left at (f.name q w)
-        by true h = a_static (called (text_of w) s) is ghost h (word-value w s free-of e ghost ∙ ap (λ b. if b then static_value l (class_text p) meaning (called (text_of w) s) else member_value l (class_text p) meaning (called (text_of w) s) (this_at spot)) h ∙ plain-static (called (text_of w) s) (ghost-plain p placed clean shaped (called (text_of w) s) is ghost)) writes
-        by false h = a_member (called (text_of w) s) is ghost h (this_at spot) this-fine (word-value w s free-of e ghost ∙ ap (λ b. if b then static_value l (class_text p) meaning (called (text_of w) s) else member_value l (class_text p) meaning (called (text_of w) s) (this_at spot)) h ∙ plain-member (called (text_of w) s) (this_at spot) (ghost-plain p placed clean shaped (called (text_of w) s) is ghost)) writes
+        by true h = a_static (called (text_of w) s) is ghost h (word-value w s free-of e plain ∙ ap (λ b. if b then static_value l (class_text p) meaning (called (text_of w) s) else member_value l (class_text p) meaning (called (text_of w) s) (this_at spot)) h ∙ plain-static (called (text_of w) s) (ghost-plain p placed clean shaped (called (text_of w) s) is ghost)) writes
+        by false h = a_member (called (text_of w) s) is ghost h (this_at spot) this-fine (word-value w s free-of e plain ∙ ap (λ b. if b then static_value l (class_text p) meaning (called (text_of w) s) else member_value l (class_text p) meaning (called (text_of w) s) (this_at spot)) h ∙ plain-member (called (text_of w) s) (this_at spot) (ghost-plain p placed clean shaped (called (text_of w) s) is ghost)) writes
 
     unfixed : (w : Word) (s : StateEntry) → names.state_named l at.class (text_of w) ≡ Some s → (rule_27_field l at.class w).faults ≡ [] → s.fixed ≡ false
     unfixed w s e h = not-true s.fixed (met (not s.fixed) 27 w.place s (ap (λ o. (option_map_or (λ (x : StateEntry). needs (not x.fixed) 27 w.place x) o (wrong 27 w.place)).faults) (sym e) ∙ h))
@@ -196,8 +192,11 @@ module _ (p : ProgramTree) (placed : IsPlaced p) (clean : faults_of p ≡ []) (s
     pub left-is : (a : FormTree) → is_ghost_target l at a ≡ true → (form_kind l a (inside l at)).faults ≡ [] → Left at a
     unfolding form_kind
     left-is (f.name q w) g h =
-        let r = is-ghost (names.state_spelled l at.class (text_of w)) (and-right (not (is_some (at.local (text_of w)))) (is_ghost_state l (names.state_spelled l at.class (text_of w))) g) in
-        word-left q w r.0 (absent (at.local (text_of w)) (not-true (is_some (at.local (text_of w))) (and-left (not (is_some (at.local (text_of w)))) (is_ghost_state l (names.state_spelled l at.class (text_of w))) g))) r.1 r.2
+        let ghost : Bool = is_ghost_state l (names.state_spelled l at.class (text_of w)) in
+        let same : Bool = same_text (text_of w) (codes "Object") in
+        let outer : (not same && ghost) ≡ true = and-right (not (is_some (at.local (text_of w)))) (not same && ghost) g in
+        let r = is-ghost (names.state_spelled l at.class (text_of w)) (and-right (not same) ghost outer) in
+        word-left q w r.0 (absent (at.local (text_of w)) (not-true (is_some (at.local (text_of w))) (and-left (not (is_some (at.local (text_of w)))) (not same && ghost) g))) r.1 (not-true same (and-left (not same) ghost outer)) r.2
       where
         absent : (o : Option LocalEntry) → is_some o ≡ false → o ≡ None
         absent None e = refl

@@ -48,7 +48,7 @@ use Rattle.jh_runs.specs.LoweredProgram.{program_of, method_code, class_claims}
 use Rattle.jh_guard.specs.Items.{item_text, item_sort, items}
 use Rattle.jh_guard.specs.Calls.{this_text, result_text}
 use Rattle.jh_logic.specs.MethodContracts.{is_item, is_state, is_param, is_plain, names_now, speaks_before, speaks_after, speaks_of_state, Speaks, AllSpeak, IsValueType, ContractFits, ContractsFit}
-use Rattle.jh_sound.specs.Placed.{IsPlaced, NoGhostObject}
+use Rattle.jh_sound.specs.Placed.{IsPlaced}
 use Rattle.jh_sound.proofs.Lists.{has-none, has-first, has-later, has-cases, has-at, map-from, any-passes, left-empty, right-empty, both-true, and-left, and-right, no-none, not-true, or-true-left, or-cases}
 use Rattle.jh_sound.proofs.Judged.{then-first}
 use Rattle.jh_sound.proofs.Texts.{same-is, is-same, differ}
@@ -118,7 +118,7 @@ word-not-set j.Boolean e = true≢false (sym (ap kinds.is_set e))
 word-not-set j.Void e = true≢false (sym (ap kinds.is_set e))
 word-not-set (j.Class w) e = true≢false (sym (ap kinds.is_set e))
 
-module _ (p : ProgramTree) (placed : IsPlaced p) (clean : faults_of p ≡ []) (shaped : Shaped (program_parts p)) (none : NoGhostObject p) (different : are_different (program_parts p).numbers ≡ true) where
+module _ (p : ProgramTree) (placed : IsPlaced p) (clean : faults_of p ≡ []) (shaped : Shaped (program_parts p)) (different : are_different (program_parts p).numbers ≡ true) where
   abbrev l : Declared
   l = declared_in p
 
@@ -163,11 +163,11 @@ module _ (p : ProgramTree) (placed : IsPlaced p) (clean : faults_of p ≡ []) (s
   scope-class at [] = refl
   scope-class at (d ∷ ds) = scope-class (declare l true at d) ds
 
-  params-local : (at : Scope) (ds : List Param) → Shaped (all_parts of_param ds) → param_faults l at ds ≡ [] → (d : Param) → Contains ds d → IsLocalText p placed clean shaped none different (text_of d.name)
+  params-local : (at : Scope) (ds : List Param) → Shaped (all_parts of_param ds) → param_faults l at ds ≡ [] → (d : Param) → Contains ds d → IsLocalText p placed clean shaped different (text_of d.name)
   unfolding all_parts param_faults
   params-local at [] shape h d i = absurd (has-none d i)
   params-local at (x ∷ xs) shape h d i = ⊎_elim
-      (λ e. subst (λ (z : Param). IsLocalText p placed clean shaped none different (text_of z.name)) e (local-plain p placed clean shaped none different at x (shaped-left (of_param x) (all_parts of_param xs) shape) (left-empty (declared_faults l at x) (param_faults l (declare l true at x) xs) h)))
+      (λ e. subst (λ (z : Param). IsLocalText p placed clean shaped different (text_of z.name)) e (local-plain p placed clean shaped different at x (shaped-left (of_param x) (all_parts of_param xs) shape) (left-empty (declared_faults l at x) (param_faults l (declare l true at x) xs) h)))
       (λ k. params-local (declare l true at x) xs (shaped-right (of_param x) (all_parts of_param xs) shape) (right-empty (declared_faults l at x) (param_faults l (declare l true at x) xs) h) d k) (has-cases x xs d i)
 
   module _ (n : ℕ) (c : ClassPart) (is : slice_get p.classes n ≡ Some c) (m : MethodPart) (stands : Contains c.methods m) where
@@ -180,21 +180,21 @@ module _ (p : ProgramTree) (placed : IsPlaced p) (clean : faults_of p ≡ []) (s
     fine : MethodFine l n m
     fine = method-clean p placed clean shaped n c is m stands
 
-    plain : LocalsPlain p placed clean shaped none different at
-    plain = params-plain p placed clean shaped none different (outermost n m.fixed) m.params (params-shaped p placed clean shaped n c is m stands) fine.params (λ x entry e. absurd (no-none entry e))
+    plain : LocalsPlain p placed clean shaped different at
+    plain = params-plain p placed clean shaped different (outermost n m.fixed) m.params (params-shaped p placed clean shaped n c is m stands) fine.params (λ x entry e. absurd (no-none entry e))
 
     param-in : (x : Text) (entry : LocalEntry) → at.local x ≡ Some entry → is_param X.params x ≡ true
     param-in x entry e =
         let f = (entry-agrees p placed clean shaped n c is m stands).known x entry e in
         any-passes (λ (y : Local). same_text y.text x) X.params f.local (⊎_elim (λ i. i) (λ i. absurd (has-none f.local i)) (Contains-append_cases X.params [] f.local f.stands)) (is-same f.local.text x f.text)
 
-    param-plain : (x : Text) → is_param X.params x ≡ true → IsLocalText p placed clean shaped none different x
+    param-plain : (x : Text) → is_param X.params x ≡ true → IsLocalText p placed clean shaped different x
     param-plain x h =
         let r = any-has (λ (y : Local). same_text y.text x) X.params h in
         let d = map-from (local_code p) m.params r.0 r.1 in
-        subst (IsLocalText p placed clean shaped none different) (ap (λ (y : Local). y.text) d.2 ∙ same-is (r.0).text x r.2) (params-local (outermost n m.fixed) m.params (params-shaped p placed clean shaped n c is m stands) fine.params d.0 d.1)
+        subst (IsLocalText p placed clean shaped different) (ap (λ (y : Local). y.text) d.2 ∙ same-is (r.0).text x r.2) (params-local (outermost n m.fixed) m.params (params-shaped p placed clean shaped n c is m stands) fine.params d.0 d.1)
 
-    no-param : (x : Text) → (IsLocalText p placed clean shaped none different x → ⊥) → is_param X.params x ≡ false
+    no-param : (x : Text) → (IsLocalText p placed clean shaped different x → ⊥) → is_param X.params x ≡ false
     no-param x h = by (is_param X.params x) refl
       where
         by : (b : Bool) → is_param X.params x ≡ b → b ≡ false
@@ -206,7 +206,7 @@ module _ (p : ProgramTree) (placed : IsPlaced p) (clean : faults_of p ≡ []) (s
     names-state r x a h =
         let s : StateIs x = state-is x a h in
         (λ i. if state-not-this x s i then is_some X.this && same_sort a sort.Obj else if state-not-result x s i then r && (not (is_void X.result) && same_sort a (sort_of (kind_of X.result)))
-        else if no-param x (λ q. local-not-state p placed clean shaped none different x q s.written s.stands s.same) i then is_plain a else is_state P x a) ∙ h
+        else if no-param x (λ q. local-not-state p placed clean shaped different x q s.written s.stands s.same) i then is_plain a else is_state P x a) ∙ h
 
     kind-not-set : (entry : LocalEntry) → kind_of_local entry ≡ k.Set → ⊥
     kind-not-set entry e = by entry.ty e

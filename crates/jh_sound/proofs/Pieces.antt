@@ -16,7 +16,7 @@ use Rattle.jh_rules.specs.Shape.{may_be_declared, ◌and◌, all_parts, some_par
 use Rattle.jh_vars.specs.States.{State}
 use Rattle.jh_vars.specs.Written.{Piece, field_piece, pieces_of}
 use Rattle.jh_vars.specs.Resolved.{kind_known}
-use Rattle.jh_sound.specs.Placed.{IsPlaced, NoGhostObject}
+use Rattle.jh_sound.specs.Placed.{IsPlaced}
 use Rattle.jh_sound.proofs.Lists.{has-first, has-later, at-has, left-empty, right-empty, and-right, not-true, not-false, or-false-left, or-false-right, some-same, no-none}
 use Rattle.jh_sound.proofs.Judged.{not-broken}
 use Rattle.jh_sound.proofs.Texts.{same-is, not-same, declared-not-this}
@@ -184,14 +184,6 @@ module _ (p : ProgramTree) (placed : IsPlaced p) (clean : faults_of p ≡ []) (s
   pub state-not-alloc : (c : ℕ) (s : StateEntry) → l.state_of c (codes "alloc") ≡ Some s → ⊥
   state-not-alloc c s e = let m : MemberOf c (codes "alloc") s = member-of-state c (codes "alloc") s e in
       not-same (text_of (member_word m.member)) (codes "alloc") (or-false-left (same_text (text_of (member_word m.member)) (codes "alloc")) (is_one_of (text_of (member_word m.member)) []) (or-false-right (same_text (text_of (member_word m.member)) (codes "result")) (is_one_of (text_of (member_word m.member)) (codes "alloc" ∷ [])) (member-plain c m.class m.is m.member m.stands))) m.name
-
-  pub ghost-not-object : NoGhostObject p → (c : ℕ) (s : StateEntry) → l.state_of c (codes "Object") ≡ Some s → s.is_ghost ≡ true → ⊥
-  ghost-not-object none c s e ghost = let m : MemberOf c (codes "Object") s = member-of-state c (codes "Object") s e in by m.class m.is m.member m.stands m.name m.entry
-    where
-      by : (d : ClassPart) → slice_get p.classes c ≡ Some d → (m : MemberPart) → Contains (members_of d) m → text_of (member_word m) ≡ codes "Object" → state_from p d c (Some m) ≡ Some s → ⊥
-      by d is (method m) i name f = no-none s f
-      by d is (field y) i name f = true≢false (sym ghost ∙ ap (λ (z : StateEntry). z.is_ghost) (sym (some-same _ s f)))
-      by d is (var v) i name f = none d (at-has p.classes c d is) v (var-in d v i) (ap (λ (z : StateEntry). z.is_ghost) (some-same _ s f) ∙ ghost) name
 
   pub no-class-object : (n : ℕ) → l.class_named (codes "Object") ≡ Some n → ⊥
   no-class-object n e = let c : ClassAt p n (codes "Object") = class-at p (codes "Object") n e in class-not-object p placed clean n c.part c.is c.text

@@ -48,7 +48,7 @@ use Rattle.jh_runs.specs.LoweredProgram.{program_of}
 use Rattle.jh_runs.specs.Typed.{Surroundings, scope_behind}
 use Rattle.jh_guard.specs.Writes.{Writes, target_writes, stmts_write}
 use Rattle.jh_guard.specs.Writes as guard
-use Rattle.jh_sound.specs.Placed.{IsPlaced, NoGhostObject}
+use Rattle.jh_sound.specs.Placed.{IsPlaced}
 use Rattle.jh_sound.specs.Written.{AreWrites}
 use Rattle.jh_sound.proofs.Lists.{has-first, has-later, flat-has, more-not-empty, left-empty, right-empty, some-same, no-none, or-cases, or-false-left, or-false-right}
 use Rattle.jh_sound.proofs.Judged.{not-broken, then-first}
@@ -66,7 +66,7 @@ use Rattle.jh_sound.proofs.Methods.{declared, MethodAt, method-at, method-code, 
 use Rattle.jh_sound.proofs.Ghosts.{Left, a_static, a_member, free-target, read-target, ghost-left, left-value}
 use Rattle.jh_sound.proofs.Covers.{Standing, the_allocated, the_plain, the_objects, the_state, state-same, allocated-same, plain-same, objects-same, item-is, ItemIs, state-stands}
 
-module _ (p : ProgramTree) (placed : IsPlaced p) (clean : faults_of p ≡ []) (shaped : Shaped (program_parts p)) (none : NoGhostObject p) (different : are_different (program_parts p).numbers ≡ true) where
+module _ (p : ProgramTree) (placed : IsPlaced p) (clean : faults_of p ≡ []) (shaped : Shaped (program_parts p)) (different : are_different (program_parts p).numbers ≡ true) where
   abbrev l : Declared
   l = declared_in p
 
@@ -236,7 +236,7 @@ module _ (p : ProgramTree) (placed : IsPlaced p) (clean : faults_of p ≡ []) (s
         (λ u. f (new-writes w stands at plain v h u)) t (or-cases (same_text (codes "alloc") (text w) || same_text (text_of v) (text w)) (target_writes target (text w)) b)
 
     -- a ghost assignment
-    ghost-covers : (at : Scope) (x : InScope) → Contains (method_statements p m.class part) x → (a : FormTree) → Left p placed clean shaped none at a → (q r : Place) (v : ValueTree) → (Contains (ghost_writes p at a) w → MayWrite p m w) →
+    ghost-covers : (at : Scope) (x : InScope) → Contains (method_statements p m.class part) x → (a : FormTree) → Left p placed clean shaped at a → (q r : Place) (v : ValueTree) → (Contains (ghost_writes p at a) w → MayWrite p m w) →
         guard.stmt_writes ws (ghost_code q (ghost_target (opened.value_at p (opened.inside k.Obj at) a)) r v) (text w) ≡ true → MayWrite p m w
     ghost-covers at x i a (a_static y is ghost fixed value listed) q r v f b =
         f (subst (λ xs. Contains xs w) (sym listed) (subst (Contains (state y.entry.class y.name ∷ [])) (state-same p placed clean shaped y.entry.class y.name w stands (same-is (text (state y.entry.class y.name)) (text w)
@@ -310,8 +310,8 @@ module _ (p : ProgramTree) (placed : IsPlaced p) (clean : faults_of p ≡ []) (s
       stmt-covers (st.ghost q a r) at s agrees plain shape h inner b =
           let x : InScope = standing at (st.ghost q a r) in
           let i = inner x (has-first x []) in
-          ghost-covers at x i a.form (ghost-left p placed clean shaped none at s agrees q a.form r.form h) a.place r.place (spec_value p r) (λ g. by-write x i g)
-          (subst (λ v. guard.stmt_writes ws (ghost_code a.place (ghost_target v) r.place (spec_value p r)) (text w) ≡ true) (left-value p placed clean shaped none different m.class class is-class part has at q a r i) b)
+          ghost-covers at x i a.form (ghost-left p placed clean shaped at s agrees q a.form r.form h) a.place r.place (spec_value p r) (λ g. by-write x i g)
+          (subst (λ v. guard.stmt_writes ws (ghost_code a.place (ghost_target v) r.place (spec_value p r)) (text w) ≡ true) (left-value p placed clean shaped different m.class class is-class part has at q a r i) b)
 
       stmts-cover : (ss : StmtTrees) (at : Scope) (s : Surroundings) → Agrees at s → LocalsPlain at → Shaped (stmts_parts ss) → all_faults l part ss at ≡ [] → Inside (all_statements l ss at) → stmts_write ws (stmts_code p ss at) (text w) ≡ true → MayWrite p m w
       stmts-cover st.none at s agrees plain shape h inner b = absurd (true≢false (sym b))

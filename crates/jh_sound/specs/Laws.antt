@@ -9,15 +9,14 @@ use Rattle.jh_runs.specs.Typed.{ProgramFits}
 use Rattle.jh_guard.specs.Writes.{Writes}
 use Rattle.jh_logic.specs.MethodContracts.{ContractsFit, WritesCover}
 use Rattle.jh_logic.specs.Laws.{AreValid}
-use Rattle.jh_sound.specs.Placed.{IsPlaced, NoGhostObject}
+use Rattle.jh_sound.specs.Placed.{IsPlaced}
 use Rattle.jh_sound.specs.Written.{AreWrites}
 
--- A source as it is read from a text, in which no type rule is broken and no ghost variable is named `Object`.
+-- A source as it is read from a text, in which no type rule is broken.
 pub record IsAccepted (p : ProgramTree) : Type 0 where
   pub shape : ShapeOfSource p
   pub placed : IsPlaced p
   pub fine : (rule : ℕ) (place : Place) → Breaks p rule place → ⊥
-  pub ghosts : NoGhostObject p
 
 -- Its lowered program fits, its contracts speak of what they may, and its methods may write what their bodies write.
 pub record MeetsPremises (p : ProgramTree) (ws : Writes) : Type 0 where
