@@ -20,7 +20,7 @@ use Rattle.jh_resolve.proofs.Coercions.{there, inside-grows}
 use Rattle.jh_visit.specs.Chains.{Chain}
 use Rattle.jh_unfold.specs.declared.formulas.Gathered.{Gathered}
 use Rattle.jh_unfold.specs.declared.statements.Unfolding.{Unfolding}
-use Rattle.jh_unfold.specs.Adding.{program_of, place_of, value_of, ◌or_else◌, HoldsIn, Holds, Adds, Unfolds}
+use Rattle.jh_unfold.specs.Adding.{program_of, place_of, ◌or_else◌, HoldsIn, Holds, Adds, Unfolds}
 
 first-of : {X : Type 0} (b : Bool) (v : X) (r s t : Option X) → r ≡ (s or_else t) → (if b then Some v else r) ≡ ((if b then Some v else s) or_else t)
 first-of true v r s t e = refl

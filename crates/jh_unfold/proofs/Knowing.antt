@@ -1,5 +1,5 @@
 -- What variables stand for, while the table grows and once all definitions are opened.
-use Rattle.std.proofs.Common.{◌≡◌, refl, sym, ap, subst, ◌∙◌, ℕ, zero, suc, List, [], slice_get, Option, Some, None}
+use Rattle.std.proofs.Common.{◌≡◌, refl, sym, ap, subst, ◌∙◌, ℕ, zero, suc, List, slice_get, Option, Some, None}
 use Rattle.std.specs.Option.{option_map_or}
 use Rattle.jh_ast.specs.Forms.{FormTree}
 use Rattle.jh_ast.specs.Programs.{ProgramTree, DefPart}
@@ -8,7 +8,6 @@ use Rattle.jh_table.specs.Entries.{Listing}
 use Rattle.jh_table.specs.Growth.{Extends}
 use Rattle.jh_table.specs.Nodes.{nodes}
 use Rattle.jh_rules.specs.Names.{declared_in, def_of}
-use Rattle.jh_rules.specs.Words.{text_of}
 use Rattle.jh_vars.specs.Opened.{meant, all_definitions, value_at, outside, is_of_objects}
 use Rattle.jh_vars.specs.Resolved.{resolved}
 use Rattle.jh_vars.specs.States.{Variable, class_text}
@@ -20,7 +19,7 @@ use Rattle.jh_resolve.specs.Meant.{tree_at, meaning_in, AreHeld}
 use Rattle.jh_resolve.specs.Spots.{spot_of, IsResolved}
 use Rattle.jh_resolve.proofs.Meant.{held-grows, meaning-grows}
 use Rattle.jh_open.specs.declared.opening.Definition.{Definition}
-use Rattle.jh_open.specs.Opening.{AreMeant, IsAmong, defined_by}
+use Rattle.jh_open.specs.Opening.{AreMeant, IsAmong}
 use Rattle.jh_open.proofs.Steps.{spelled-is}
 use Rattle.jh_defined.specs.Answered.{AreOrdered}
 use Rattle.jh_unfold.specs.Adding.{program_of, AreKnown, IsReady}

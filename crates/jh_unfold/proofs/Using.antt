@@ -1,5 +1,5 @@
 -- Whether a name, and a formula of a given form, uses `this`.
-use Rattle.std.proofs.Common.{◌≡◌, refl, sym, ap, subst, ◌∙◌, ℕ, suc, ◌+◌, ◌<◌, ◌≤◌, ◌||◌, not, Bool, true, false, List, [], ◌∷◌, length, drop, get_or, Option, Some, None, option_map, Result, Ok, Err, IfOk, if◌then◌else◌}
+use Rattle.std.proofs.Common.{◌≡◌, refl, sym, ap, ◌∙◌, ℕ, ◌+◌, ◌<◌, ◌≤◌, ◌||◌, not, Bool, true, false, List, length, drop, get_or, Option, Some, None, option_map, Result, Ok, Err, IfOk, if◌then◌else◌}
 use Rattle.std.specs.Option.{option_map_or}
 use Rattle.std.proofs.lemmas.List.{drop_all}
 use Rattle.jh_name.specs.declared.memory.NoMemory.{NoMemory}
@@ -8,7 +8,7 @@ use Rattle.jh_ast.specs.Bare.{form_tree, form_trees}
 use Rattle.jh_ast.specs.Programs.{ProgramTree}
 use Rattle.jh_rules.specs.declared.entries.StateEntry.{StateEntry}
 use Rattle.jh_exprs.proofs.Lists.{drop-at}
-use Rattle.jh_vars.specs.States.{State, called}
+use Rattle.jh_vars.specs.States.{called}
 use Rattle.jh_vars.specs.Opened.{is_of_object, uses_this, one_uses_this}
 
 -- a piece of state that a word spells is of an object where what is declared is

@@ -1,7 +1,6 @@
 -- The formulas of a program and their nodes, as they are added to a table.
-use Rattle.std.specs.Prelude.{◌≡◌, ◌<◌, nat_eq, ℕ, false, List, [], ◌∷◌, ◌++◌, Option, Some, None, length, slice_get}
+use Rattle.std.specs.Prelude.{◌≡◌, ◌<◌, ℕ, false, List, [], ◌∷◌, ◌++◌, Option, Some, length, slice_get}
 use Rattle.std.specs.List.{flat_map}
-use Rattle.std.specs.Map.{lookup}
 use Rattle.jh_ast.specs.Forms.{LabelledPart}
 use Rattle.jh_ast.specs.Programs.{ProgramTree, ClassPart, VarPart, DefPart}
 use Rattle.jh_tree.specs.Tree.{ValueTree}
@@ -15,6 +14,7 @@ use Rattle.jh_numbers.specs.declared.numbers.Numbers.{Numbers}
 use Rattle.jh_resolve.specs.declared.context.Context.{Context}
 use Rattle.jh_resolve.specs.Meant.{meaning_in, AreHeld}
 use Rattle.jh_open.specs.Opening.{source_of}
+pub use Rattle.jh_unfold.specs.Noted.{place_of, ◌or_else◌}
 use Rattle.jh_unfold.specs.declared.formulas.Gathered.{Gathered}
 use Rattle.jh_unfold.specs.declared.statements.Unfolding.{Unfolding}
 
@@ -32,19 +32,9 @@ pub record IsReady (l : Listing) (x : Context) : Type 0 where
   pub declared : declared_by x.lookups.now ≡ declared_in (program_of x)
   pub known : AreKnown (program_of x) (nodes l) x.meanings.now
 
--- the node of the formula of a number
-abbrev pub place_of : List (ℕ × ℕ) → ℕ → Option ℕ
-place_of q n = lookup (nat_eq n) q
-
 -- the value of the formula of a number
 abbrev pub value_of : List ValueTree → List (ℕ × ℕ) → ℕ → Option ValueTree
 value_of ts q n = place_of q n then slice_get ts
-
--- what is there, or else another
-infixl 10 ◌or_else◌
-abbrev pub ◌or_else◌ : {X : Type 0} → Option X → Option X → Option X
-None or_else y = y
-(Some x) or_else y = Some x
 
 -- these are the values of the nodes of a table at places, by the numbers of the formulas
 pub record HoldsIn (p : ProgramTree) (l : Listing) (q : List (ℕ × ℕ)) (ys : List (ℕ × ValueTree)) : Type 0 where

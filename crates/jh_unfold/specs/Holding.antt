@@ -2,7 +2,6 @@
 use Rattle.std.specs.Prelude.{◌≡◌, ◌<◌, ℕ, List, Some, length}
 use Rattle.jh_ast.specs.declared.program.Program.{Program}
 use Rattle.jh_ast.specs.declared.word.Word.{Word}
-use Rattle.jh_ast.specs.Bare.{program_tree}
 use Rattle.jh_ast.specs.Programs.{ProgramTree}
 use Rattle.jh_table.specs.Entries.{Listing}
 use Rattle.jh_table.specs.Nodes.{nodes}

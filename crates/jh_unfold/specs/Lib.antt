@@ -1,2 +1,3 @@
 pub mod Adding
 pub mod Holding
+pub mod Noted

@@ -13,4 +13,4 @@ mod this;
 mod unfolding;
 
 pub use faults::{VarsError, VarsRefused};
-pub use unfolding::{Unfolded, unfold};
+pub use unfolding::{Parts, Unfolded, unfold};

@@ -10,6 +10,7 @@ ghost use Rattle.jh_exprs.specs.Lookings.{declared_by};
 ghost use Rattle.jh_open.specs.Opening.{source_of};
 ghost use Rattle.jh_vars.specs.Opened.{opened};
 ghost use Rattle.jh_vars.specs.Reading.{IsAcyclic};
+ghost use Rattle.jh_unfold.specs.Noted.{node_at};
 ghost use Rattle.jh_unfold.specs.Holding.{AreOpened, IsCause, IsNamed};
 
 use crate::faults::{VarsError, VarsRefused};
@@ -54,6 +55,14 @@ impl Model for Unfolded {
     ghost invariant = { λ u. AreOpened (program_tree u.typed) u.table u.places };
 }
 
+/// The parts of an unfolded program: the program, the table, and the node of each formula at the place of its number.
+#[derive(Drop)]
+pub struct Parts {
+    pub typed: Typed,
+    pub table: Table,
+    pub formulas: Vec<Option<usize>>,
+}
+
 impl Unfolded {
     /// The program.
     pub fn typed(&self) -> &Typed
@@ -75,6 +84,25 @@ impl Unfolded {
         ensures inside { IfSome result (λ node. node < length (nodes self.now.listing)) }
     {
         self.places.place(number)
+    }
+
+    /// The program, its table, and the node of each formula at the place of its number.
+    pub fn into_parts(self, alloc: Global) -> Result<Parts, NoMemory>
+        ensures typed { IfOk result (λ made. made.typed ≡ self.program) }
+        ensures value { IfOk result (λ made. (n : ℕ) → (node_at made.formulas.items n then slice_get (nodes made.table)) ≡ opened (program_tree self.program) n) }
+        ensures inside { IfOk result (λ made. (n k : ℕ) → node_at made.formulas.items n ≡ Some k → k < length (nodes made.table)) }
+    {
+        let formulas = self.places.list(alloc)?;
+        let Unfolded {
+            typed,
+            table,
+            places: _places,
+        } = self;
+        Ok(Parts {
+            typed,
+            table,
+            formulas,
+        })
     }
 
     /// The value of a formula of the program. It is in proportion to the tree, in which shared parts stand as often
