@@ -1,6 +1,7 @@
 -- What arises of what methods name and definitions read is what methods name, through definitions too.
 use Rattle.std.proofs.Common.{◌≡◌, refl, sym, ap, subst, ◌∙◌, ◌⊎◌, inl, inr, ◌↔◌, ℕ, zero, suc, ◌+◌, ◌<◌, ◌++◌, ◌||◌, Bool, true, false, if◌then◌else◌, List, [], ◌∷◌, map, length, slice_get, Option, Some, None, arith}
 use Rattle.std.specs.Option.{option_map_or}
+use Rattle.std.proofs.lemmas.List.{length-map}
 use Rattle.std.proofs.lemmas.Option.{slice_get_within}
 use Rattle.jh_ast.specs.Programs.{ProgramTree, MethodPart, DefPart}
 use Rattle.jh_numbers.specs.declared.numbers.Numbers.{Numbers}
@@ -79,19 +80,26 @@ module _ (p : ProgramTree) (numbers : Numbers) (ms : List Callee) (start : ℕ) 
   at-number : (v : Variable) (n : ℕ) → number_in numbers v.class v.name ≡ Some n → (k : ℕ) × (n ≡ start + k) × (slice_get vs k ≡ Some v)
   at-number v n e = let t = counted v.class v.name n e in (t.0, t.2, in-map defined_by ds t.1 t.0 t.3 ∙ ap Some t.4)
 
-  pub sources-inside : (link : Link) → IsIn links link → link.from < start + length ds
-  sources-inside link h = by (in-either (gathered_from (link_named p numbers) 0 ms) (gathered_from (link_read p numbers) start vs) link h)
-    where
-      inside : (y : State) → number_in numbers y.entry.class y.name ≡ Some link.from → link.from < start + length ds
-      inside y e =
-          let t = counted y.entry.class y.name link.from e in
-          let place : link.from ≡ start + t.0 = t.2 in
-          let lt : t.0 < length ds = slice_get_within ds t.0 t.1 t.3 in
-          omega arith
+  -- methods and definitions have numbers of things
+  method-inside : (k : ℕ) (m : Callee) (n : ℕ) → slice_get ms k ≡ Some m → n ≡ 0 + k → n < start + length ds
+  method-inside k m n at e = let lt : k < length ms = slice_get_within ms k m at in omega (lt, e, long, arith)
 
-      by : IsIn (gathered_from (link_named p numbers) 0 ms) link ⊎ IsIn (gathered_from (link_read p numbers) start vs) link → link.from < start + length ds
-      by (inl k) = let g = gathered-of (link_named p numbers) 0 ms link k in let s = links-of numbers false (0 + g.0) (named_in p g.1) link g.3 in inside s.0 s.3
-      by (inr k) = let g = gathered-of (link_read p numbers) start vs link k in let s = links-of numbers true (start + g.0) (definition_reads p g.1) link g.3 in inside s.0 s.3
+  variable-inside : (k : ℕ) (v : Variable) (n : ℕ) → slice_get vs k ≡ Some v → n ≡ start + k → n < start + length ds
+  variable-inside k v n at e = let lt : k < length vs = slice_get_within vs k v at in let same : length vs ≡ length ds = length-map ds defined_by in omega (lt, e, same, arith)
+
+  pub targets-inside : (link : Link) → IsIn links link → link.to < start + length ds
+  targets-inside link h = by (in-either (gathered_from (link_named p numbers) 0 ms) (gathered_from (link_read p numbers) start vs) link h)
+    where
+      by : IsIn (gathered_from (link_named p numbers) 0 ms) link ⊎ IsIn (gathered_from (link_read p numbers) start vs) link → link.to < start + length ds
+      by (inl k) = let g = gathered-of (link_named p numbers) 0 ms link k in let s = links-of numbers false (0 + g.0) (named_in p g.1) link g.3 in method-inside g.0 g.1 link.to g.2 s.4
+      by (inr k) = let g = gathered-of (link_read p numbers) start vs link k in let s = links-of numbers true (start + g.0) (definition_reads p g.1) link g.3 in variable-inside g.0 g.1 link.to g.2 s.4
+
+  pub given-inside : (g : Given) → IsIn given g → g.of < start + length ds
+  given-inside x h = by (in-either (gathered_from (given_named p) 0 ms) (gathered_from (given_read p) start vs) x h)
+    where
+      by : IsIn (gathered_from (given_named p) 0 ms) x ⊎ IsIn (gathered_from (given_read p) start vs) x → x.of < start + length ds
+      by (inl k) = let g = gathered-of (given_named p) 0 ms x k in let s = given-of p (0 + g.0) (named_in p g.1) x g.3 in method-inside g.0 g.1 x.of g.2 s.3
+      by (inr k) = let g = gathered-of (given_read p) start vs x k in let s = given-of p (start + g.0) (definition_reads p g.1) x g.3 in variable-inside g.0 g.1 x.of g.2 s.3
 
   reads-none : (v : Variable) (y : State) → def_of p v.class v.name ≡ None → Reads p v y → ⊥
   reads-none v y e (r.directly _ _ h) = nothing-in y (subst (λ (xs : List State). IsIn xs y) (ap (λ o. option_map_or (λ (d : DefPart). reads (declared_in p) d.spec.form v.class []) o []) e) (contains-in (definition_reads p v) y h))
@@ -234,7 +242,7 @@ module _ (p : ProgramTree) (numbers : Numbers) (ms : List Callee) (start : ℕ) 
       same x = (λ h. back x (arises-named n (key_of p x) h m at), λ h. names-arise m n at x h)
 
   -- each method's row has the places of what it names
-  pub all-named : (methods : Numbers) (ls : List Listed) → ms ≡ callees ls → AreNumbered methods ls → AreAll p methods → (rows : List (List ℕ)) (list : List Written) → ((n : ℕ) → n < start + length ds → ArePlaces (Arises given links n) (map (key_of p) list) (passed_to rows n)) → (m : Callee) (part : MethodPart) → part_of p m ≡ Some part → ArePlaces (Names p (named_by p m.class part)) list (option_map_or (λ k. passed_to rows k) (number_in methods m.class m.name) [])
+  pub all-named : (methods : Numbers) (ls : List Listed) → ms ≡ callees ls → AreNumbered methods ls → AreAll p methods → (rows : List (List ℕ)) (list : List Written) → ((n : ℕ) → n < start → ArePlaces (Arises given links n) (map (key_of p) list) (passed_to rows n)) → (m : Callee) (part : MethodPart) → part_of p m ≡ Some part → ArePlaces (Names p (named_by p m.class part)) list (option_map_or (λ k. passed_to rows k) (number_in methods m.class m.name) [])
   all-named methods ls is numbered every rows list are m part found = by (number_in methods m.class m.name) refl
     where
       at-place : (n : ℕ) → number_in methods m.class m.name ≡ Some n → slice_get ms n ≡ Some m

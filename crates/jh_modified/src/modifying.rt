@@ -26,7 +26,7 @@ use jh_open::Definition;
 use jh_reads::{Reading, add_reads};
 use jh_tables::lookups_of;
 use jh_type::Typed;
-use jh_written::{Flow, Listed, MethodPlaces, Methods, all_places, key_list, methods_of};
+use jh_written::{Flow, Listed, MethodPlaces, Methods, first_places, key_list, methods_of};
 use std::alloc::Global;
 
 /// A sum, which fits where there is memory for so many things.
@@ -226,7 +226,7 @@ fn modified_over(
     )?;
     let flow = flow_of(alloc, program, lookups, list, &counted, definitions)?;
     let things = sum(list.len(), definitions.len())?;
-    let rows = all_places(alloc, flow, things, key_list(alloc, program)?)?;
+    let rows = first_places(alloc, flow, things, list.len(), key_list(alloc, program)?)?;
     let Methods {
         list: _list,
         numbers,
@@ -254,8 +254,8 @@ fn modified_by(
 }
 
 /// The state that `modifies` of each method names, where a variable with a definition stands for all that the
-/// definition reads, through others too: its places in the list of the state names. The time is in proportion to the
-/// program, to all the answers and to what each definition reads, through others too.
+/// definition reads, through others too: its places in the list of the state names. Each method is walked from, so the
+/// time is in proportion to the program and, for each method, to the definitions that it reaches and what they read.
 pub fn modified(alloc: Global, typed: &Typed) -> Result<MethodPlaces, NoMemory>
     requires { IsAcyclic (program_tree typed.now) }
     ensures { IfOk result (λ made. (m : w.Callee) (part : MethodPart) → w.part_of (program_tree typed.now) m ≡ Some part → ArePlaces (w.Names (program_tree typed.now) (w.named_by (program_tree typed.now) m.class part)) (w.all_state (program_tree typed.now)) (places_in made m)) }

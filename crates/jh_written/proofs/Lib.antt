@@ -5,6 +5,7 @@ pub mod Gathering
 pub mod Keying
 pub mod Numbers
 pub mod Pairs
+pub mod Reached
 pub mod Rowing
 pub mod Spreading
 pub mod Writers

@@ -104,7 +104,7 @@ pub spread-inside : (facts : List Fact) (edges : List (List ℕ)) (n : ℕ) → 
 spread-inside facts edges n inside f (given _ h) = inside f h
 spread-inside facts edges n inside _ (passed m f h s) = spread-inside facts edges n inside f s
 
-module _ (keys : List Key) (distinct : IsDistinct key.ghosts.eq keys) (facts : List Fact) (gs : List Given) (told : AreTold keys facts gs) (edges : List (List ℕ)) (links : List Link) (linked : (from to : ℕ) → IsIn (passed_to edges from) to ↔ IsIn links (record { from = from; to = to })) where
+module _ (keys : List Key) (facts : List Fact) (gs : List Given) (told : AreTold keys facts gs) (edges : List (List ℕ)) (links : List Link) (linked : (from to : ℕ) → IsIn (passed_to edges from) to ↔ IsIn links (record { from = from; to = to })) where
   arises-of : (f : Fact) → Spreads facts edges f → (x : Key) × (slice_get keys f.what ≡ Some x) × Arises gs links f.of x
   arises-of f (given _ h) = let w = told-of keys facts gs f told h in ((w.0).what, w.2, a.itself f.of (w.0).what (subst (λ (n : ℕ). IsIn gs (record { of = n; what = (w.0).what })) (sym w.3) w.1))
   arises-of _ (passed m f h s) = let w = arises-of f s in (w.0, w.1, a.passed f.of m w.0 ((linked f.of m).0 h) w.2)
@@ -116,52 +116,61 @@ module _ (keys : List Key) (distinct : IsDistinct key.ghosts.eq keys) (facts : L
   spreads-of n x (a.passed m _ _ h s) = let w = spreads-of m x s in (w.0, w.1, passed n (record { of = m; what = w.0 }) ((linked m n).1 h) w.2)
 
   module _ (spread : List Fact) (exact : (f : Fact) → IsIn spread f ↔ Spreads facts edges f) (n : ℕ) where
-    -- whether a thing has a key
-    abbrev is_of : Key → Fact → Bool
-    is_of x f = nat_eq n f.of && option_map_or (key.ghosts.eq x) (slice_get keys f.what) false
+    pub spread-arises : (k : ℕ) (x : Key) → slice_get keys k ≡ Some x → IsIn spread (record { of = n; what = k }) → Arises gs links n x
+    spread-arises k x at h =
+        let s = arises-of (record { of = n; what = k }) ((exact (record { of = n; what = k })).0 h) in
+        subst (λ (y : Key). Arises gs links n y) (some-is s.0 x (sym s.1 ∙ at)) s.2
 
-    abbrev has : Key → Bool
-    has x = list_any (is_of x) spread
+    pub arises-spread : (x : Key) → Arises gs links n x → (k : ℕ) × (slice_get keys k ≡ Some x) × IsIn spread (record { of = n; what = k })
+    arises-spread x h = let w = spreads-of n x h in (w.0, w.1, (exact (record { of = n; what = w.0 })).1 w.2)
 
-    key-found : (x : Key) (o : Option Key) → option_map_or (key.ghosts.eq x) o false ≡ true → o ≡ Some x
-    key-found x None h = absurd (true≢false (sym h))
-    key-found x (Some y) h = ap Some (sym (key-true x y h))
+-- facts that are exact for a thing, over the numbers of keys
+module _ (keys : List Key) (distinct : IsDistinct key.ghosts.eq keys) (spread : List Fact) (n : ℕ) (holds : Key → Type 0)
+    (sound : (k : ℕ) (x : Key) → slice_get keys k ≡ Some x → IsIn spread (record { of = n; what = k }) → holds x)
+    (complete : (x : Key) → holds x → (k : ℕ) × (slice_get keys k ≡ Some x) × IsIn spread (record { of = n; what = k })) where
+  -- whether a thing has a key
+  abbrev is_of : Key → Fact → Bool
+  is_of x f = nat_eq n f.of && option_map_or (key.ghosts.eq x) (slice_get keys f.what) false
 
-    has-fact : (x : Key) → has x ≡ true → (k : ℕ) × (slice_get keys k ≡ Some x) × IsIn spread (record { of = n; what = k })
-    has-fact x h =
-        let w = any-is (is_of x) spread h in
-        let s = both (nat_eq n (w.0).of) (option_map_or (key.ghosts.eq x) (slice_get keys (w.0).what) false) w.2 in
-        let same : n ≡ (w.0).of = same-test n (w.0).of (nat_eq n (w.0).of) refl s.0 in
-        ((w.0).what, key-found x (slice_get keys (w.0).what) s.1, subst (λ (m : ℕ). IsIn spread (record { of = m; what = (w.0).what })) (sym same) w.1)
+  abbrev has : Key → Bool
+  has x = list_any (is_of x) spread
 
-    fact-has : (x : Key) (k : ℕ) → slice_get keys k ≡ Some x → IsIn spread (record { of = n; what = k }) → has x ≡ true
-    fact-has x k at h = is-any (is_of x) spread (record { of = n; what = k }) h.0 h.1 (λ i. nat-same n i && (ap (λ o. option_map_or (key.ghosts.eq x) o false) at ∙ key-same x) i)
+  key-found : (x : Key) (o : Option Key) → option_map_or (key.ghosts.eq x) o false ≡ true → o ≡ Some x
+  key-found x None h = absurd (true≢false (sym h))
+  key-found x (Some y) h = ap Some (sym (key-true x y h))
 
-    has-arises : (x : Key) → has x ≡ true → Arises gs links n x
-    has-arises x h =
-        let w = has-fact x h in
-        let s = arises-of (record { of = n; what = w.0 }) ((exact (record { of = n; what = w.0 })).0 w.2) in
-        subst (λ (y : Key). Arises gs links n y) (some-is s.0 x (sym s.1 ∙ w.1)) s.2
+  has-fact : (x : Key) → has x ≡ true → (k : ℕ) × (slice_get keys k ≡ Some x) × IsIn spread (record { of = n; what = k })
+  has-fact x h =
+      let w = any-is (is_of x) spread h in
+      let s = both (nat_eq n (w.0).of) (option_map_or (key.ghosts.eq x) (slice_get keys (w.0).what) false) w.2 in
+      let same : n ≡ (w.0).of = same-test n (w.0).of (nat_eq n (w.0).of) refl s.0 in
+      ((w.0).what, key-found x (slice_get keys (w.0).what) s.1, subst (λ (m : ℕ). IsIn spread (record { of = m; what = (w.0).what })) (sym same) w.1)
 
-    arises-has : (x : Key) → Arises gs links n x → has x ≡ true
-    arises-has x h = let w = spreads-of n x h in fact-has x w.0 w.1 ((exact (record { of = n; what = w.0 })).1 w.2)
+  fact-has : (x : Key) (k : ℕ) → slice_get keys k ≡ Some x → IsIn spread (record { of = n; what = k }) → has x ≡ true
+  fact-has x k at h = is-any (is_of x) spread (record { of = n; what = k }) h.0 h.1 (λ i. nat-same n i && (ap (λ o. option_map_or (key.ghosts.eq x) o false) at ∙ key-same x) i)
 
-    pub places-are : (numbers : List ℕ) (list : List Key) (row : List ℕ) → AreNumbers keys numbers list → IsChosen spread numbers n row → ArePlaces (Arises gs links n) list row
-    places-are numbers list row are chosen = record {
-      test = has;
-      exact = λ x. (has-arises x, arises-has x);
-      is = chosen.is ∙ ap (places_below chosen.test) (numbers-long keys numbers list are) ∙ places-same chosen.test (passes_at has list) (length list) same;
-    }
-      where
-        same : (j : ℕ) → j < length list → chosen.test j ≡ passes_at has list j
-        same j lt = by (get-at list j lt)
-          where
-            by : ((x : Key) × (slice_get list j ≡ Some x)) → chosen.test j ≡ passes_at has list j
-            by w =
-                let m = number-at keys numbers list j w.0 are w.1 in
-                same-bool (chosen.test j) (has w.0)
-                (λ t. fact-has w.0 m.0 m.2 ((chosen.exact j m.0 m.1).0 t))
-                (λ t.
-                let f = has-fact w.0 t in
-                (chosen.exact j m.0 m.1).1 (subst (λ (k : ℕ). IsIn spread (record { of = n; what = k })) (once keys distinct f.0 m.0 w.0 f.1 m.2) f.2))
-                ∙ sym (ap (λ o. option_map_or has o false) w.1)
+  has-holds : (x : Key) → has x ≡ true → holds x
+  has-holds x h = let w = has-fact x h in sound w.0 x w.1 w.2
+
+  holds-has : (x : Key) → holds x → has x ≡ true
+  holds-has x h = let w = complete x h in fact-has x w.0 w.1 w.2
+
+  pub places-are : (numbers : List ℕ) (list : List Key) (row : List ℕ) → AreNumbers keys numbers list → IsChosen spread numbers n row → ArePlaces holds list row
+  places-are numbers list row are chosen = record {
+    test = has;
+    exact = λ x. (has-holds x, holds-has x);
+    is = chosen.is ∙ ap (places_below chosen.test) (numbers-long keys numbers list are) ∙ places-same chosen.test (passes_at has list) (length list) same;
+  }
+    where
+      same : (j : ℕ) → j < length list → chosen.test j ≡ passes_at has list j
+      same j lt = by (get-at list j lt)
+        where
+          by : ((x : Key) × (slice_get list j ≡ Some x)) → chosen.test j ≡ passes_at has list j
+          by w =
+              let m = number-at keys numbers list j w.0 are w.1 in
+              same-bool (chosen.test j) (has w.0)
+              (λ t. fact-has w.0 m.0 m.2 ((chosen.exact j m.0 m.1).0 t))
+              (λ t.
+              let f = has-fact w.0 t in
+              (chosen.exact j m.0 m.1).1 (subst (λ (k : ℕ). IsIn spread (record { of = n; what = k })) (once keys distinct f.0 m.0 w.0 f.1 m.2) f.2))
+              ∙ sym (ap (λ o. option_map_or has o false) w.1)

@@ -8,6 +8,7 @@ mod keys;
 mod methods;
 mod numbering;
 mod places;
+mod reaching;
 mod rows;
 mod writing;
 
@@ -16,4 +17,5 @@ pub use flow::{Flow, Given, Key, Link};
 pub use keys::{key_list, member_key};
 pub use methods::{Listed, Methods, methods_of};
 pub use places::MethodPlaces;
+pub use reaching::first_places;
 pub use writing::written;

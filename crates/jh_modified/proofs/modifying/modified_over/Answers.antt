@@ -11,7 +11,7 @@ use Rattle.jh_written.specs.Arising.{Arises, ArePlaces}
 use Rattle.jh_written.specs.Methods.{AreMethods, callee_of, callees, gathered_from}
 use Rattle.jh_modified.specs.Modifying.{given_named, given_read, link_named, link_read, variables_of}
 use Rattle.jh_modified.proofs.Counting.{defined-number}
-use Rattle.jh_modified.proofs.Namers.{sources-inside, all-named}
+use Rattle.jh_modified.proofs.Namers.{targets-inside, given-inside, all-named}
 use Rattle.jh_modified.proofs.Parts.{classes-long}
 use Rattle.jh_modified.proofs.modifying.modified_over.Goals as goal
 
@@ -26,16 +26,28 @@ pub flow_of-requires-clause-methods : goal.flow_of-requires-clause-methods
 flow_of-requires-clause-methods c = subst (λ (ls : List Listed). AreMethods (program_tree c.args.program.now) ls) (sym c.as_slice-list.ensures.value) c.in_ok-methods.ensures.sound
 
 -- src/modifying.rt
-pub all_places-requires : goal.all_places-requires
-all_places-requires c =
+pub first_places-requires-clause-links : goal.first_places-requires-clause-links
+first_places-requires-clause-links c =
     let p = program_tree c.args.program.now in
     let list = c.as_slice-list.result.now in
     let ds = c.args.definitions.now in
     let numbers = c.in_ok-counted.counted in
     λ link h.
-    subst (λ (n : ℕ). link.from < n) (sym c.in_ok-things.ensures)
-    (sources-inside p numbers (callees list) (length list) (sym (length-map list callee_of)) ds c.in_ok-counted.ensures.counted (defined-number p numbers ds c.requires.ordered.all c.in_ok-counted.ensures.all) link
+    subst (λ (n : ℕ). link.to < n) (sym c.in_ok-things.ensures)
+    (targets-inside p numbers (callees list) (length list) (sym (length-map list callee_of)) ds c.in_ok-counted.ensures.counted (defined-number p numbers ds c.requires.ordered.all c.in_ok-counted.ensures.all) link
     (subst (λ (ks : List Link). IsIn ks link) c.in_ok-flow.ensures.links h))
+
+-- src/modifying.rt
+pub first_places-requires-clause-given : goal.first_places-requires-clause-given
+first_places-requires-clause-given c =
+    let p = program_tree c.args.program.now in
+    let list = c.as_slice-list.result.now in
+    let ds = c.args.definitions.now in
+    let numbers = c.in_ok-counted.counted in
+    λ given h.
+    subst (λ (n : ℕ). given.of < n) (sym c.in_ok-things.ensures)
+    (given-inside p numbers (callees list) (length list) (sym (length-map list callee_of)) ds c.in_ok-counted.ensures.counted (defined-number p numbers ds c.requires.ordered.all c.in_ok-counted.ensures.all) given
+    (subst (λ (gs : List Given). IsIn gs given) c.in_ok-flow.ensures.given h))
 
 -- src/modifying.rt
 pub returns : goal.returns
@@ -54,4 +66,4 @@ returns c =
     subst (λ (xs : List Key). ArePlaces (Arises given links n) xs (passed_to rows n)) c.in_ok-key_list.ensures
     (subst (λ (gs : List Given). ArePlaces (Arises gs links n) c.in_ok-key_list.field-0.items (passed_to rows n)) c.in_ok-flow.ensures.given
     (subst (λ (ls : List Link). ArePlaces (Arises flow.given.items ls n) c.in_ok-key_list.field-0.items (passed_to rows n)) c.in_ok-flow.ensures.links
-    (c.in_ok-rows.ensures.places n (subst (λ (k : ℕ). n < k) (sym c.in_ok-things.ensures) lt)))))
+    (c.in_ok-rows.ensures.places n lt))))

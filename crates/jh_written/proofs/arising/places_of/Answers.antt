@@ -7,7 +7,7 @@ use Rattle.jh_written.specs.declared.flow.Key.{Key}
 use Rattle.jh_written.specs.declared.flow.Link.{Link}
 use Rattle.jh_written.specs.Arising.{Arises, ArePlaces, AreTold, AreNumbers}
 use Rattle.jh_written.specs.Chosen.{IsChosen}
-use Rattle.jh_written.proofs.Spreading.{places-are, spread-inside}
+use Rattle.jh_written.proofs.Spreading.{places-are, spread-arises, arises-spread, spread-inside}
 use Rattle.jh_written.proofs.arising.places_of.Goals as goal
 
 -- src/arising.rt
@@ -28,7 +28,9 @@ returns-clause-places c =
     (λ made. (gs : List Given) (links : List Link) (list : List Key) (n : ℕ) → AreTold keys c.args.numbered.now.facts.items gs → AreNumbers keys c.args.numbered.now.list.items list → ((from to : ℕ) → IsIn (passed_to edges from) to ↔ IsIn links (record { from = from; to = to })) → n < c.args.things →
     ArePlaces (Arises gs links n) list (passed_to made.items n))
     (λ made chosen gs links list n told are linked lt.
-    places-are keys c.len.ensures.unique c.args.numbered.now.facts.items gs told edges links linked spread
-    (subst (λ (fs : List Fact). (f : Fact) → IsIn spread f ↔ Spreads fs edges f) c.as_slice.ensures.value c.in_ok-spread.ensures.exact) n c.args.numbered.now.list.items list (passed_to made.items n) are
+    let exact = subst (λ (fs : List Fact). (f : Fact) → IsIn spread f ↔ Spreads fs edges f) c.as_slice.ensures.value c.in_ok-spread.ensures.exact in
+    places-are keys c.len.ensures.unique spread n (Arises gs links n)
+    (spread-arises keys c.args.numbered.now.facts.items gs told edges links linked spread exact n)
+    (arises-spread keys c.args.numbered.now.facts.items gs told edges links linked spread exact n) c.args.numbered.now.list.items list (passed_to made.items n) are
     (subst (λ (ns : List ℕ). IsChosen spread ns n (passed_to made.items n)) c.as_slice-2.ensures.value (chosen n lt)))
     c.choose.ensures.chosen
