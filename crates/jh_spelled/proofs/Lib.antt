@@ -1,0 +1,9 @@
+mod Tokens
+mod Goodness
+mod Expressions
+mod Formulas
+mod Specifications
+mod Statements
+mod ByKind
+mod Members
+mod Places

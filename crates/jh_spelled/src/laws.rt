@@ -1,0 +1,18 @@
+ghost use Rattle.jh_spelled.specs.Laws.{SpelledHasShape, SpelledIsAccepted, SpelledIsPlaced};
+
+/// A program that tokens spell has the shape of a source, where the tokens are as the lexer makes them. It is a law, and
+/// does nothing.
+pub fn spelled_has_shape()
+    ensures { SpelledHasShape }
+{}
+
+/// The names of its classes, and those of the members of each class, stand at places of their own. It is a law, and does
+/// nothing.
+pub fn spelled_is_placed()
+    ensures { SpelledIsPlaced }
+{}
+
+/// It is accepted where it breaks no type rule. It is a law, and does nothing.
+pub fn spelled_is_accepted()
+    ensures { SpelledIsAccepted }
+{}
