@@ -1,0 +1,40 @@
+-- The code of lists of statements, one after the other.
+use Rattle.std.proofs.Common.{◌≡◌, refl, sym, ap, ◌∙◌, ℕ, ◌+◌, ◌<◌, ◌≤◌, List, [], ◌∷◌, ◌++◌, length, drop, get_or}
+use Rattle.std.proofs.lemmas.List.{drop_all}
+use Rattle.jh_ast.specs.declared.stmt.Stmt.{Stmt}
+use Rattle.jh_ast.specs.Bare.{stmt_tree, stmt_trees}
+use Rattle.jh_ast.specs.Programs.{ProgramTree}
+use Rattle.jh_rules.specs.Names.{declared_in}
+use Rattle.jh_rules.specs.Scopes.{Scope, behind}
+use Rattle.jh_exprs.proofs.Lists.{drop-at}
+use Rattle.jh_runs.specs.Code as c
+use Rattle.jh_runs.specs.LoweredStmts.{stmt_code, stmts_code}
+use Rattle.jh_lowered.specs.declared.stmts.Code.{Code}
+use Rattle.jh_lowered.specs.Statements.{code_in, codes_in}
+
+module _ (p : ProgramTree) where
+  -- code that was made, and statements behind it
+  abbrev pub before : List Code → c.Stmts → c.Stmts
+  before [] rest = rest
+  before (a ∷ made) rest = c.more (code_in p a) (before made rest)
+
+  before-push : (made : List Code) (a : Code) (rest : c.Stmts) → before (made ++ a ∷ []) rest ≡ before made (c.more (code_in p a) rest)
+  before-push [] a rest = refl
+  before-push (x ∷ made) a rest = ap (c.more (code_in p x)) (before-push made a rest)
+
+  before-none : (made : List Code) → before made c.none ≡ codes_in p made
+  before-none [] = refl
+  before-none (x ∷ made) = ap (c.more (code_in p x)) (before-none made)
+
+  pub codes-next : (at to : Scope) (ss : List Stmt) (i : ℕ) (a : Stmt) (made more : List Code) (x : Code) → i < length ss → a ≡ get_or ss i a → to ≡ behind (declared_in p) at (stmt_tree a) → code_in p x ≡ stmt_code p (stmt_tree a) at → more ≡ made ++ x ∷ [] →
+      before more (stmts_code p (stmt_trees (drop (i + 1) ss)) to) ≡ before made (stmts_code p (stmt_trees (drop i ss)) at)
+  unfolding stmts_code
+  codes-next at to ss i a made more x lt is h code e =
+      ap (λ m. before m (stmts_code p (stmt_trees (drop (i + 1) ss)) to)) e
+      ∙ before-push made x (stmts_code p (stmt_trees (drop (i + 1) ss)) to)
+      ∙ (λ j. before made (c.more (code j) (stmts_code p (stmt_trees (drop (i + 1) ss)) (h j))))
+      ∙ ap (λ ys. before made (stmts_code p (stmt_trees ys) at)) (sym (drop-at ss i a lt is))
+
+  pub codes-end : (at : Scope) (ss : List Stmt) (i : ℕ) (made : List Code) → length ss ≤ i → before made (stmts_code p (stmt_trees (drop i ss)) at) ≡ codes_in p made
+  unfolding stmts_code
+  codes-end at ss i made le = ap (λ ys. before made (stmts_code p (stmt_trees ys) at)) (drop_all i ss le) ∙ before-none made

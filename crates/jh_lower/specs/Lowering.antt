@@ -1,0 +1,22 @@
+-- What the lowering of a program goes by.
+use Rattle.std.specs.Prelude.{◌≡◌, ℕ, List, [], slice_get}
+use Rattle.std.specs.Option.{option_map_or}
+use Rattle.jh_ast.specs.Bare.{program_tree}
+use Rattle.jh_ast.specs.declared.program.Class.{Class}
+use Rattle.jh_ast.specs.Programs.{ProgramTree}
+use Rattle.jh_rules.specs.Words.{text_of}
+use Rattle.jh_rules.specs.Names.{declared_in}
+use Rattle.jh_exprs.specs.Lookings.{declared_by}
+use Rattle.jh_lower.specs.declared.context.Context.{Context}
+
+-- the program of a context
+abbrev pub source_of : Context → ProgramTree
+source_of c = program_tree c.program.now
+
+-- the context looks up what its program declares
+abbrev pub IsDeclared : Context → Type 0
+IsDeclared c = declared_by c.lookups.now ≡ declared_in (source_of c)
+
+-- the text of the class of a number
+abbrev pub spelled : List Class → ℕ → List ℕ
+spelled cs n = option_map_or (λ (c : Class). text_of c.name) (slice_get cs n) []

@@ -1,0 +1,212 @@
+#![tactic(auto, using(jh_ast::proofs::ExprSteps::expr_steps), unfolding(jh_runs::specs::Lowered::expr_code, jh_lowered::specs::Codes::any_code, jh_lowered::specs::Codes::object_code, jh_lowered::specs::Codes::number_code, jh_lowered::specs::Codes::truth_code))]
+
+ghost use Rattle.std.specs.Prelude.{◌≡◌, IfOk, option_map, neg_ℤ};
+ghost use Rattle.jh_ast.specs.Bare.{expr_tree};
+ghost use Rattle.jh_exprs.specs.Lookings.{scope_by};
+ghost use Rattle.jh_vars.specs.Resolved.{kind_of_local};
+ghost use Rattle.jh_runs.specs.Lowered as lowered;
+ghost use Rattle.jh_lowered.specs.Codes.{object_code, any_code};
+ghost use Rattle.jh_lower.specs.Lowering.{IsDeclared, source_of};
+
+use crate::context::Context;
+use crate::making::{as_object, name_code, read_code};
+use crate::numbers::negative;
+use crate::operators::{binary, negation};
+use jh_ast::{Expr, ExprBody, Word};
+use jh_exprs::{ScopeTable, class_spelled, expr_type};
+use jh_lowered::{AnyCode, NumberCode, ObjectCode, TruthCode};
+use jh_name::{Kind, NoMemory, Place, name};
+use jh_rules::{FieldEntry, LocalEntry, class_of, kind_of};
+use std::alloc::Global;
+
+/// The number of a literal that isn't negated.
+fn plain_literal(expr: &Expr) -> Option<i64>
+    ensures { result ≡ lowered.plain_literal (expr_tree expr.now) }
+{
+    match &expr.body {
+        ExprBody::Number(number) => Some(*number),
+        _ => None,
+    }
+}
+
+/// The number of a literal, negated. The answer is want of memory where that is no i64, which no source can bring about.
+fn negated_literal(expr: &Expr) -> Result<Option<i64>, NoMemory>
+    ensures { IfOk result (λ number. number ≡ option_map neg_ℤ (lowered.plain_literal (expr_tree expr.now))) }
+{
+    match plain_literal(expr) {
+        None => Ok(None),
+        Some(number) => match number.checked_neg() {
+            None => Err(NoMemory),
+            Some(negated) => Ok(Some(negated)),
+        },
+    }
+}
+
+/// The number of a literal, plain or negated.
+fn literal(expr: &Expr) -> Result<Option<i64>, NoMemory>
+    ensures { IfOk result (λ number. number ≡ lowered.literal (expr_tree expr.now)) }
+{
+    match &expr.body {
+        ExprBody::Number(number) => Ok(Some(*number)),
+        ExprBody::Minus(inner) => negated_literal(inner),
+        _ => Ok(None),
+    }
+}
+
+/// The kind of a parameter or local.
+fn kind_of_local(local: LocalEntry) -> Kind
+    ensures { result ≡ kind_of_local local }
+{
+    match local.ty {
+        None => Kind::Obj,
+        Some(ty) => kind_of(ty),
+    }
+}
+
+/// The class of what stands before a dot.
+pub fn receiver_class(context: &Context, at: &ScopeTable, expr: &Expr) -> Option<usize>
+    requires { IsDeclared context.now }
+    ensures { result ≡ lowered.receiver_class (source_of context.now) (scope_by at.now) (expr_tree expr.now) }
+{
+    match expr_type(context.lookups, at, expr).known {
+        None => None,
+        Some(ty) => class_of(ty),
+    }
+}
+
+/// A static of a class.
+fn static_code(
+    alloc: Global,
+    context: &Context,
+    class: Option<usize>,
+    word: &Word,
+) -> Result<AnyCode, NoMemory>
+    requires { IsDeclared context.now }
+    ensures { IfOk result (λ made. any_code made ≡ lowered.static_code (source_of context.now) class word.now) }
+{
+    match class {
+        None => Ok(AnyCode::Object(ObjectCode::Null)),
+        Some(class) => {
+            let own = word.text.text();
+            let name = context.member_name(alloc, class, own)?;
+            Ok(name_code(context.member_kind(class, own), name))
+        }
+    }
+}
+
+/// A field of a class, read of a receiver.
+fn field_code(
+    alloc: Global,
+    context: &Context,
+    class: Option<usize>,
+    word: &Word,
+    receiver: ObjectCode,
+    place: Place,
+) -> Result<AnyCode, NoMemory>
+    requires { IsDeclared context.now }
+    ensures { IfOk result (λ made. any_code made ≡ lowered.field_code (source_of context.now) class word.now (object_code receiver) place) }
+{
+    match class {
+        None => Ok(AnyCode::Object(ObjectCode::Null)),
+        Some(class) => {
+            let own = word.text.text();
+            let name = context.member_name(alloc, class, own)?;
+            read_code(
+                alloc,
+                context.member_kind(class, own),
+                name,
+                receiver,
+                place,
+            )
+        }
+    }
+}
+
+/// A member of the own class: a static, or a field of `this`.
+fn own_code(
+    alloc: Global,
+    context: &Context,
+    at: &ScopeTable,
+    word: &Word,
+    entry: FieldEntry,
+) -> Result<AnyCode, NoMemory>
+    requires { IsDeclared context.now }
+    ensures { IfOk result (λ made. any_code made ≡ lowered.own_code (source_of context.now) (scope_by at.now) word.now entry) }
+{
+    if entry.fixed {
+        static_code(alloc, context, Some(at.class), word)
+    } else {
+        field_code(
+            alloc,
+            context,
+            Some(at.class),
+            word,
+            ObjectCode::This,
+            word.place,
+        )
+    }
+}
+
+/// What a word names: a parameter or local in scope, or else a member of the own class.
+fn word_code(
+    alloc: Global,
+    context: &Context,
+    at: &ScopeTable,
+    word: &Word,
+) -> Result<AnyCode, NoMemory>
+    requires { IsDeclared context.now }
+    ensures { IfOk result (λ made. any_code made ≡ lowered.word_code (source_of context.now) (scope_by at.now) word.now) }
+{
+    let text = word.text.text();
+    match at.local(text) {
+        Some(local) => Ok(name_code(kind_of_local(local), name(alloc, text, 0)?)),
+        None => match context.lookups.field_of(at.class, text) {
+            None => Ok(AnyCode::Object(ObjectCode::Null)),
+            Some(entry) => own_code(alloc, context, at, word, entry),
+        },
+    }
+}
+
+/// The code of an expression, each part of the type that is asked of it.
+#[cycle(expr_code)]
+pub fn expr_code(
+    alloc: Global,
+    context: &Context,
+    at: &ScopeTable,
+    expr: &Expr,
+) -> Result<AnyCode, NoMemory>
+    requires { IsDeclared context.now }
+    ensures { IfOk result (λ made. any_code made ≡ lowered.expr_code (source_of context.now) (expr_tree expr.now) (scope_by at.now)) }
+{
+    match &expr.body {
+        ExprBody::Null => Ok(AnyCode::Object(ObjectCode::Null)),
+        ExprBody::True => Ok(AnyCode::Truth(TruthCode::Literal(true))),
+        ExprBody::False => Ok(AnyCode::Truth(TruthCode::Literal(false))),
+        ExprBody::Number(number) => Ok(AnyCode::Number(NumberCode::Const(*number))),
+        ExprBody::This => Ok(AnyCode::Object(ObjectCode::This)),
+        ExprBody::Name(word) => word_code(alloc, context, at, word),
+        ExprBody::Member(inner, word) => match class_spelled(context.lookups, at, inner) {
+            Some(class) => static_code(alloc, context, class, word),
+            None => {
+                let receiver = as_object(expr_code(alloc, context, at, inner)?);
+                let class = receiver_class(context, at, inner);
+                field_code(alloc, context, class, word, receiver, inner.place)
+            }
+        },
+        ExprBody::Not(inner) => {
+            let inside = expr_code(alloc, context, at, inner)?;
+            negation(alloc, inside)
+        }
+        ExprBody::Minus(inner) => {
+            let inside = expr_code(alloc, context, at, inner)?;
+            negative(alloc, expr.place, inside)
+        }
+        ExprBody::Binary(op, left, right) => {
+            let first = literal(left)?;
+            let second = literal(right)?;
+            let left = expr_code(alloc, context, at, left)?;
+            let right = expr_code(alloc, context, at, right)?;
+            binary(alloc, expr.place, *op, (first, second), left, right)
+        }
+    }
+}
