@@ -1,0 +1,7 @@
+pub mod Enterings
+pub mod Filterings
+pub mod Firsts
+pub mod Ghosted
+pub mod Notings
+pub mod Orders
+pub mod Writings
