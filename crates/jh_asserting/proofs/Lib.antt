@@ -1,0 +1,2 @@
+pub mod StepSteps
+pub mod ToldSteps

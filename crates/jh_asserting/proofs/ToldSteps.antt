@@ -1,0 +1,54 @@
+-- The formulas of a source by their numbers, and while the table grows.
+use Rattle.std.proofs.Common.{◌≡◌, refl, sym, ap, ◌∙◌, ℕ, ◌<◌, true, List, length, get_or, slice_get, Option, Some, None}
+use Rattle.std.proofs.lemmas.Option.{slice_get-get_or, slice_get_within}
+use Rattle.std.specs.Option.{option_map_or}
+use Rattle.jh_ast.specs.Programs.{ProgramTree}
+use Rattle.jh_tree.specs.Tree.{ValueTree, of_object, of_number, of_truth, of_set, of_field}
+use Rattle.jh_tree.specs.Tree as t
+use Rattle.jh_table.specs.Entries.{Listing, is_truth, the_truth}
+use Rattle.jh_table.specs.Growth.{Extends}
+use Rattle.jh_table.specs.Nodes.{nodes}
+use Rattle.jh_vars.specs.Resolved.{as_truth}
+use Rattle.jh_vars.specs.Opened.{opened}
+use Rattle.jh_lowered.specs.Statements.{value_of}
+use Rattle.jh_asserting.specs.Told.{node_of, told_at, AreFormulas}
+
+-- a value as a formula, True where it is none
+truth-of : (o : Option ValueTree) → the_truth o ≡ as_truth (option_map_or (λ v. v) o (of_truth t.true_formula))
+unfolding the_truth
+truth-of None = refl
+truth-of (Some (of_object a)) = refl
+truth-of (Some (of_number a)) = refl
+truth-of (Some (of_truth a)) = refl
+truth-of (Some (of_set a)) = refl
+truth-of (Some (of_field a)) = refl
+
+-- the formula of a number
+pub formula-told : (p : ProgramTree) (l : Listing) (ns : List (Option ℕ)) (n : ℕ) → AreFormulas p l ns → the_truth (told_at l (node_of ns n)) ≡ as_truth (value_of p n)
+formula-told p l ns n h = ap the_truth (h.is n) ∙ truth-of (opened p n)
+
+module _ (l u : Listing) (g : Extends l u) where
+  kept : (k : ℕ) → k < length (nodes l) → slice_get (nodes u) k ≡ slice_get (nodes l) k
+  kept k lt =
+      let there : slice_get (nodes l) k ≡ Some (get_or (nodes l) k (of_object t.null)) = slice_get-get_or (nodes l) k (of_object t.null) lt in
+      g.nodes.keeps k (get_or (nodes l) k (of_object t.null)) there ∙ sym there
+
+  told-stays : (o : Option ℕ) → ((k : ℕ) → o ≡ Some k → k < length (nodes l)) → told_at u o ≡ told_at l o
+  told-stays None h = refl
+  told-stays (Some k) h = kept k (h k refl)
+
+  pub formulas-grow : (p : ProgramTree) (ns : List (Option ℕ)) → AreFormulas p l ns → AreFormulas p u ns
+  formulas-grow p ns h = record {
+    inside = λ n k e.
+        let lt = h.inside n k e in
+        slice_get_within (nodes u) k (get_or (nodes l) k (of_object t.null)) (g.nodes.keeps k (get_or (nodes l) k (of_object t.null)) (slice_get-get_or (nodes l) k (of_object t.null) lt));
+    is = λ n. told-stays (node_of ns n) (λ k e. h.inside n k e) ∙ h.is n;
+  }
+
+-- a node that is no formula counts as True
+pub no-truth : (o : Option ValueTree) → is_truth o ≡ true → o ≡ Some (of_truth (the_truth o))
+unfolding is_truth the_truth
+no-truth (Some (of_truth a)) h = refl
+no-truth _ h = absurd (cc)
+
+pub ruleset told_steps = (formula-told)

@@ -1,0 +1,57 @@
+#![tactic(auto, using(crate::proofs::ToldSteps::told_steps, jh_table::proofs::Listed::growth_steps))]
+
+ghost use Rattle.std.specs.Prelude.{◌≡◌, IfOk, Some, slice_get};
+ghost use Rattle.jh_ast.specs.Programs.{ProgramTree};
+ghost use Rattle.jh_tree.specs.Tree.{of_truth};
+ghost use Rattle.jh_table.specs.Entries.{the_truth};
+ghost use Rattle.jh_table.specs.Growth.{Extends};
+ghost use Rattle.jh_table.specs.Nodes.{nodes};
+ghost use Rattle.jh_vars.specs.Resolved.{as_truth};
+ghost use Rattle.jh_lowered.specs.Statements.{value_of};
+ghost use Rattle.jh_asserting.specs.Told.{node_of, told_at, AreFormulas};
+
+use jh_make::truth;
+use jh_name::{NoMemory, Sort};
+use jh_table::Table;
+
+/// The node of the formula of a number, where there is one.
+fn node_at(formulas: &[Option<usize>], number: u32) -> Option<usize>
+    ensures { result ≡ node_of formulas.now number }
+{
+    match formulas.get(number as usize) {
+        None => None,
+        Some(node) => *node,
+    }
+}
+
+/// The node of a formula, or that of True where it is none.
+fn truth_at(table: &mut Table, node: Option<usize>) -> Result<usize, NoMemory>
+    ensures node { IfOk result (λ made. slice_get (nodes table.new) made ≡ Some (of_truth (the_truth (told_at table.old node)))) }
+    ensures grows { Extends table.old table.new }
+{
+    match node {
+        None => truth(table),
+        Some(node) => {
+            if node >= table.len() {
+                return truth(table);
+            }
+            match table.sort(node) {
+                Sort::Bool => Ok(node),
+                _ => truth(table),
+            }
+        }
+    }
+}
+
+/// The node of the formula of a number, of which there is one or it is True.
+pub fn formula_node(
+    table: &mut Table,
+    formulas: &[Option<usize>],
+    number: u32,
+) -> Result<usize, NoMemory>
+    ensures node { IfOk result (λ made. slice_get (nodes table.new) made ≡ Some (of_truth (the_truth (told_at table.old (node_of formulas.now number))))) }
+    ensures formula { IfOk result (λ made. (p : ProgramTree) → AreFormulas p table.old formulas.now → slice_get (nodes table.new) made ≡ Some (of_truth (as_truth (value_of p number)))) }
+    ensures grows { Extends table.old table.new }
+{
+    truth_at(table, node_at(formulas, number))
+}

@@ -1,0 +1,116 @@
+#![tactic(auto, using(crate::proofs::StepSteps::step_steps, jh_changes::proofs::AddedSteps::added_steps, jh_table::proofs::Listed::growth_steps), unfolding(jh_lowered::specs::Statements::target_in, jh_terms::specs::Checks::IsReceiver))]
+
+ghost use Rattle.std.specs.Prelude.{◌≡◌, ◌++◌, ◌∷◌, [], true, IfOk, OnOk, Some, is_some, slice_get};
+ghost use Rattle.jh_tree.specs.Tree.{TermTree, ValueTree, of_object, of_field};
+ghost use Rattle.jh_tree.specs.Tree as t;
+ghost use Rattle.jh_table.specs.Entries.{is_object};
+ghost use Rattle.jh_table.specs.Growth.{Extends};
+ghost use Rattle.jh_table.specs.Nodes.{nodes};
+ghost use Rattle.jh_wp.specs.Command as w;
+ghost use Rattle.jh_runs.specs.State.{named};
+ghost use Rattle.jh_guard.specs.Terms as terms;
+ghost use Rattle.jh_guard.specs.Steps as steps;
+ghost use Rattle.jh_lowered.specs.Codes.{object_code};
+ghost use Rattle.jh_lowered.specs.Statements.{target_in};
+ghost use Rattle.jh_terms.specs.Checks.{IsReceiver};
+ghost use Rattle.jh_changes.specs.Added.{AddsCommands};
+
+use crate::checks::assert_checks;
+use jh_command::Command;
+use jh_lowered::{ObjectCode, Target};
+use jh_make::{free_field, update};
+use jh_name::{NoMemory, Place, name};
+use jh_table::Table;
+use jh_terms::{CheckNode, check_receiver};
+
+/// Adds that the name of a text gets a value.
+pub fn assign_name(
+    table: &Table,
+    commands: &mut Vec<Command>,
+    text: &str,
+    value: usize,
+) -> Result<(), NoMemory>
+    ensures { OnOk result ((v : ValueTree) → slice_get (nodes table.now) value ≡ Some v → AddsCommands table.now commands.old.items commands.new.items (w.assign (named text.now) v ∷ [])) }
+{
+    let plain = name(table.alloc(), text, 0)?;
+    commands.push(Command::Assign(plain, value))?;
+    Ok(())
+}
+
+/// The node of the field of a text with another value at one object.
+fn updated_field(
+    table: &mut Table,
+    field: &str,
+    object: usize,
+    value: usize,
+) -> Result<usize, NoMemory>
+    requires object { is_object (slice_get (nodes table.old) object) ≡ true }
+    requires value { is_some (slice_get (nodes table.old) value) ≡ true }
+    ensures node { IfOk result (λ made. (a : TermTree) (v : ValueTree) → slice_get (nodes table.old) object ≡ Some (of_object a) → slice_get (nodes table.old) value ≡ Some v → slice_get (nodes table.new) made ≡ Some (of_field (t.update (t.free_field (named field.now)) a v))) }
+    ensures grows { Extends table.old table.new }
+{
+    let plain = name(table.alloc(), field, 0)?;
+    let old = free_field(table, &plain)?;
+    update(table, old, object, value)
+}
+
+/// Adds that the field of a text takes another value at an object.
+pub fn put_field(
+    table: &mut Table,
+    commands: &mut Vec<Command>,
+    field: &str,
+    object: usize,
+    value: usize,
+) -> Result<(), NoMemory>
+    requires object { is_object (slice_get (nodes table.old) object) ≡ true }
+    requires value { is_some (slice_get (nodes table.old) value) ≡ true }
+    ensures commands { OnOk result ((a : TermTree) (v : ValueTree) → slice_get (nodes table.old) object ≡ Some (of_object a) → slice_get (nodes table.old) value ≡ Some v → AddsCommands table.new commands.old.items commands.new.items (steps.put_field field.now a v ∷ [])) }
+    ensures grows { Extends table.old table.new }
+{
+    let updated = updated_field(table, field, object, value)?;
+    assign_name(table, commands, field, updated)
+}
+
+/// Adds that the receiver of a field isn't null, unless it is `this`.
+fn assert_receiver(
+    table: &mut Table,
+    commands: &mut Vec<Command>,
+    receiver: &ObjectCode,
+    node: usize,
+    place: Place,
+) -> Result<(), NoMemory>
+    requires { slice_get (nodes table.old) node ≡ Some (of_object (terms.object_term (object_code receiver.now))) }
+    ensures commands { OnOk result (AddsCommands table.new commands.old.items commands.new.items (steps.assert_checks (terms.receiver_checks (object_code receiver.now) place))) }
+    ensures grows { Extends table.old table.new }
+{
+    let mut checks: Vec<CheckNode> = Vec::new(table.alloc());
+    check_receiver(table, &mut checks, receiver, node, place)?;
+    assert_checks(table, commands, checks.as_slice())
+}
+
+/// Adds that a value goes to a target, whose receiver's node is given where it is a field.
+pub fn put(
+    table: &mut Table,
+    commands: &mut Vec<Command>,
+    target: &Target,
+    receiver: Option<usize>,
+    value: usize,
+) -> Result<(), NoMemory>
+    requires receiver { IsReceiver table.old receiver (target_in target.now) }
+    requires value { is_some (slice_get (nodes table.old) value) ≡ true }
+    ensures commands { OnOk result ((v : ValueTree) → slice_get (nodes table.old) value ≡ Some v → AddsCommands table.new commands.old.items commands.new.items (steps.put (target_in target.now) v)) }
+    ensures grows { Extends table.old table.new }
+{
+    match target {
+        Target::Nowhere => Ok(()),
+        Target::New(local) => assign_name(table, commands, local.name.text(), value),
+        Target::Name(name) => assign_name(table, commands, name.text(), value),
+        Target::Field(field, object, place) => match receiver {
+            None => Ok(()),
+            Some(node) => {
+                assert_receiver(table, commands, object, node, *place)?;
+                put_field(table, commands, field.text(), node, value)
+            }
+        },
+    }
+}
