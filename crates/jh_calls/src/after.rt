@@ -1,0 +1,225 @@
+#![tactic(auto, using(jh_changes::proofs::AddedSteps::added_steps, jh_table::proofs::Listed::growth_steps))]
+
+ghost use Rattle.std.specs.Prelude.{◌≡◌, ◌<◌, ◌++◌, ◌∷◌, [], ℕ, Bool, true, List, map, filter, length, option_map, codes, OnOk, Some, slice_get};
+ghost use Rattle.jh_ast.specs.Programs.{ProgramTree};
+ghost use Rattle.jh_tree.specs.Tree.{FormulaTree, of_truth};
+ghost use Rattle.jh_tree.specs.Tree as t;
+ghost use Rattle.jh_table.specs.Entries.{is_truth};
+ghost use Rattle.jh_table.specs.Growth.{Extends};
+ghost use Rattle.jh_table.specs.Nodes.{nodes};
+ghost use Rattle.jh_wp.specs.Command as w;
+ghost use Rattle.jh_runs.specs.Code.{Text};
+ghost use Rattle.jh_runs.specs.Program.{Program};
+ghost use Rattle.jh_runs.specs.Entry.{owed};
+ghost use Rattle.jh_runs.specs.WellFormed.{lies_in};
+ghost use Rattle.jh_guard.specs.Items.{Item, sorted_item, is_of_objects};
+ghost use Rattle.jh_guard.specs.Writes.{Writes};
+ghost use Rattle.jh_guard.specs.Frames as frames;
+ghost use Rattle.jh_guard.specs.Steps as steps;
+ghost use Rattle.jh_guard.specs.Calls as guard;
+ghost use Rattle.jh_lowered.specs.Statements.{target_in, local_in, claim_in, method_in};
+ghost use Rattle.jh_schemas.specs.Meant.{name_in};
+ghost use Rattle.jh_facts.specs.Facts.{AreFacts};
+ghost use Rattle.jh_changes.specs.Added.{AddsCommands, sorted_in, chosen};
+ghost use Rattle.jh_asserting.specs.Told.{AreFormulas};
+ghost use Rattle.jh_naming.specs.Calling.{AreTexts, name_at};
+ghost use Rattle.jh_calls.specs.Called.{IsCalled, callee_of};
+ghost use Rattle.jh_calls.specs.TurnsOf.{turns_in};
+
+use crate::called::{Called, Surroundings};
+use crate::contracts::{calling_of, renamed_claim};
+use crate::results::put_result;
+use crate::turns::Turns;
+use jh_asserting::{assume_claims, assume_fact, assume_named};
+use jh_changes::{SortedName, push_changed, push_frames, push_growth};
+use jh_command::Command;
+use jh_facts::push_lies;
+use jh_lowered::{CallCode, Claim};
+use jh_name::{NoMemory, Place, Text};
+use jh_naming::{Calling, is_among};
+use jh_rules::Ty;
+use jh_schemas::Named;
+use jh_table::Table;
+
+/// Adds what is known of the state after a call by itself: what the method may write takes any value, the state is well
+/// formed, and the sets of objects only grew.
+fn push_state(
+    table: &mut Table,
+    commands: &mut Vec<Command>,
+    called: &Called<'_>,
+    place: Place,
+    well_formed: usize,
+    turn: u32,
+) -> Result<(), NoMemory>
+    requires { is_truth (slice_get (nodes table.old) well_formed) ≡ true }
+    ensures commands { OnOk result ((wf : FormulaTree) (xs : List Item) → slice_get (nodes table.old) well_formed ≡ Some (of_truth wf) → sorted_in called.now.sets.now ≡ map sorted_item (filter is_of_objects xs) → AddsCommands table.new commands.old.items commands.new.items (steps.changed (sorted_in called.now.written.now) turn ++ (steps.assume_named (codes "wf") place wf ∷ steps.growth turn xs))) }
+    ensures grows { Extends table.old table.new }
+{
+    push_changed(table, commands, called.written, turn)?;
+    assume_named(table, commands, "wf", place, well_formed)?;
+    push_growth(table, commands, called.sets, turn)
+}
+
+/// The fact at a place.
+fn fact_at(facts: &[usize], place: usize) -> usize
+    requires { place < length facts.now }
+    ensures { slice_get facts.now place ≡ Some result }
+{
+    facts[place]
+}
+
+/// Adds that formulas are facts from there on, one after another.
+fn assume_facts(
+    table: &Table,
+    commands: &mut Vec<Command>,
+    facts: &[usize],
+) -> Result<(), NoMemory>
+    ensures { OnOk result ((fs : List FormulaTree) → AreFacts table.now facts.now fs → AddsCommands table.now commands.old.items commands.new.items (map (λ f. w.assume f) fs)) }
+{
+    for place in 0..facts.len() {
+        assume_fact(table, commands, fact_at(facts, place))?;
+    }
+    Ok(())
+}
+
+/// The set of all objects that there were at a call.
+fn old_alloc<'a>(written: &[SortedName<'_>], turn: u32) -> Named<'a>
+    ensures { (test : Text → Bool) → AreTexts test written.now → t.free_set (name_in result) ≡ guard.old_alloc test turn }
+{
+    let turn = if is_among(written, "alloc") { turn } else { 0 };
+    Named {
+        text: "alloc",
+        turn,
+    }
+}
+
+/// Adds the frame facts of the members that the method that is called may write and that its `modifies` doesn't name.
+fn push_framed(
+    table: &mut Table,
+    commands: &mut Vec<Command>,
+    around: &Surroundings<'_>,
+    called: &Called<'_>,
+    turn: u32,
+) -> Result<(), NoMemory>
+    ensures commands { OnOk result ((classes : List (List ℕ)) (test : Text → Bool) → AreTexts test called.now.written.now → AddsCommands table.new commands.old.items commands.new.items (map (λ f. w.assume f) (map (frames.frame_fact (guard.old_alloc test turn) turn) (chosen classes around.now.members.now called.now.framed.now)))) }
+    ensures grows { Extends table.old table.new }
+{
+    let mut facts: Vec<usize> = Vec::new(table.alloc());
+    let old = old_alloc(called.written, turn);
+    push_frames(table, &mut facts, old, around.members, called.framed, turn)?;
+    assume_facts(table, commands, facts.as_slice())
+}
+
+/// Adds that `ensures` is a fact, with the names that it has at a call.
+fn push_claimed(
+    table: &mut Table,
+    commands: &mut Vec<Command>,
+    formulas: &[Option<usize>],
+    claim: &Claim,
+    calling: Calling<'_>,
+) -> Result<(), NoMemory>
+    ensures commands { OnOk result ((p : ProgramTree) (f : FormulaTree → FormulaTree) → AreFormulas p table.old formulas.now → ((a : FormulaTree) → guard.renamed_by (name_at calling.entry) a ≡ f a) → AddsCommands table.new commands.old.items commands.new.items (steps.assume_named (codes "post") claim.now.place (f (claim_in p claim.now).formula) ∷ [])) }
+    ensures grows { Extends table.old table.new }
+{
+    let fact = renamed_claim(table, formulas, claim, calling)?;
+    assume_named(table, commands, "post", claim.place, fact)
+}
+
+/// Adds that `ensures` of the method that is called is a fact, where it has one.
+fn push_ensures(
+    table: &mut Table,
+    commands: &mut Vec<Command>,
+    formulas: &[Option<usize>],
+    called: &Called<'_>,
+    turns: &Turns,
+) -> Result<(), NoMemory>
+    ensures commands { OnOk result ((p : ProgramTree) (test : Text → Bool) → AreFormulas p table.old formulas.now → AreTexts test called.now.written.now → AddsCommands table.new commands.old.items commands.new.items (guard.assume_ensures (guard.at_call (turns_in turns.now) (map local_in called.now.method.now.params) test) (option_map (claim_in p) called.now.method.now.post))) }
+    ensures grows { Extends table.old table.new }
+{
+    match &called.method.post {
+        None => Ok(()),
+        Some(claim) => {
+            let calling = calling_of(called, turns);
+            push_claimed(table, commands, formulas, claim, calling)
+        }
+    }
+}
+
+/// Adds that the invariants are true after a call of a public method.
+fn push_owed(
+    table: &mut Table,
+    commands: &mut Vec<Command>,
+    around: &Surroundings<'_>,
+    called: &Called<'_>,
+) -> Result<(), NoMemory>
+    ensures commands { OnOk result ((p : ProgramTree) (g : Program) → AreFormulas p table.old around.now.formulas.now → g.invariants ≡ map (claim_in p) around.now.invariants.now → AddsCommands table.new commands.old.items commands.new.items (steps.assume_claims (owed g (method_in p called.now.method.now)))) }
+    ensures grows { Extends table.old table.new }
+{
+    if !called.method.is_public {
+        return Ok(());
+    }
+    assume_claims(table, commands, around.formulas, around.invariants)
+}
+
+/// Adds that the result of a call lies in its type.
+fn push_typed(
+    table: &mut Table,
+    commands: &mut Vec<Command>,
+    classes: &[Text],
+    ty: Ty,
+    turn: u32,
+) -> Result<(), NoMemory>
+    ensures commands { OnOk result (AddsCommands table.new commands.old.items commands.new.items (map (λ f. w.assume f) (lies_in classes.now ty (t.free_object (steps.fresh guard.result_text turn))))) }
+    ensures grows { Extends table.old table.new }
+{
+    let mut facts: Vec<usize> = Vec::new(table.alloc());
+    let named = Named {
+        text: "result",
+        turn,
+    };
+    push_lies(table, &mut facts, classes, ty, named)?;
+    assume_facts(table, commands, facts.as_slice())
+}
+
+/// Adds what is known after a call by the contract of the method, and that its result goes to its target.
+pub(crate) fn push_after(
+    table: &mut Table,
+    commands: &mut Vec<Command>,
+    around: &Surroundings<'_>,
+    call: &CallCode,
+    called: &Called<'_>,
+    turns: &Turns,
+    well_formed: usize,
+) -> Result<(), NoMemory>
+    requires { is_truth (slice_get (nodes table.old) well_formed) ≡ true }
+    ensures commands { OnOk result ((p : ProgramTree) (g : Program) (ws : Writes) (wf : FormulaTree) → IsCalled p g ws (callee_of call.now) table.old around.now called.now → slice_get (nodes table.old) well_formed ≡ Some (of_truth wf) → AddsCommands table.new commands.old.items commands.new.items (guard.after_call g ws wf call.now.place (target_in call.now.target) (callee_of call.now) (method_in p called.now.method.now) (turns_in turns.now))) }
+    ensures grows { Extends table.old table.new }
+{
+    let method = called.method;
+    push_state(
+        table,
+        commands,
+        called,
+        call.place,
+        well_formed,
+        turns.copies,
+    )?;
+    push_framed(table, commands, around, called, turns.copies)?;
+    push_ensures(table, commands, around.formulas, called, turns)?;
+    push_owed(table, commands, around, called)?;
+    push_typed(
+        table,
+        commands,
+        around.classes,
+        method.result,
+        turns.result,
+    )?;
+    put_result(
+        table,
+        commands,
+        &call.target,
+        turns.target,
+        method.result,
+        turns.result,
+    )
+}

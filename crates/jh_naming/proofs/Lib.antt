@@ -1,0 +1,2 @@
+pub mod AtCalls
+mod Callings

@@ -1,0 +1,17 @@
+use Rattle.std.proofs.Common.{◌≡◌, sym, ap, ◌∙◌, Some, slice_get}
+use Rattle.std.proofs.lemmas.Result.{IfOk-weaker}
+use Rattle.jh_name.specs.declared.naming.Name.{Name}
+use Rattle.jh_table.specs.Entries.{the_name}
+use Rattle.jh_naming.specs.Calling.{name_at, turn_at}
+use Rattle.jh_naming.proofs.Callings.{name-is}
+use Rattle.jh_naming.proofs.renaming.called_name.Goals as goal
+
+pub returns-clause-name : goal.returns-clause-name
+returns-clause-name c =
+    let o = slice_get c.args.table.now.pools.names c.args.number in
+    IfOk-weaker
+    c.name-2.result
+    (λ made. slice_get c.name-2.new.self.pools.names made ≡ Some c.in_ok-called.called)
+    (λ made. slice_get c.name-2.new.self.pools.names made ≡ Some (name_at c.args.calling.now (the_name o)))
+    (λ made e. e ∙ ap Some (c.in_ok-called.ensures ∙ (λ i. record { text = c.text.ensures i; turn = c.in_ok-turn.ensures i }) ∙ ap (name_at c.args.calling.now) (sym (name-is o _ c.name_at.ensures))))
+    c.name-2.ensures.number
