@@ -48,16 +48,15 @@ module _ (ps : List Local) (r a u : ℕ) (x : Text) where
 written-is : (test : Text → Bool) (xs : List SortedName) (k : ℕ) (x : Text) → AreTexts test xs → (if test x then fresh x k else named x) ≡ fresh x (if is_among xs x then k else 0)
 written-is test xs k x are = ap (λ b. if b then fresh x k else named x) (are x) ∙ sym (if-same (fresh x) (is_among xs x) k 0)
 
-
 pub name-is : (turns : CallTurns) (c : Calling) (test : Text → Bool) → HasTurns turns c → AreTexts test c.written.now → (z : Name) → at_call turns (map local_in c.params.now) test z ≡ name_at c z
 name-is turns c test has are z =
     (λ i. if z.turn == 0
-      then (if same_text z.text this_text then fresh this_text (has.receiver i) else if same_text z.text result_text then fresh result_text (has.result i) else argument_name (map local_in c.params.now) (has.args i) z.text)
-      else if test z.text then fresh z.text (has.copies i) else named z.text)
+    then (if same_text z.text this_text then fresh this_text (has.receiver i) else if same_text z.text result_text then fresh result_text (has.result i) else argument_name (map local_in c.params.now) (has.args i) z.text)
+    else if test z.text then fresh z.text (has.copies i) else named z.text)
     ∙ (λ i. if z.turn == 0 then plain-is (map local_in c.params.now) c.receiver c.args c.result z.text i else written-is test c.written.now c.copies z.text are i)
     ∙ sym (if-same (fresh z.text) (z.turn == 0)
-      (if same_text z.text this_text then c.receiver else if same_text z.text result_text then c.result else argument_turn (map local_in c.params.now) c.args z.text)
-      (if is_among c.written.now z.text then c.copies else 0))
+    (if same_text z.text this_text then c.receiver else if same_text z.text result_text then c.result else argument_turn (map local_in c.params.now) c.args z.text)
+    (if is_among c.written.now z.text then c.copies else 0))
 
 -- a formula with the names of the definition is the one with those of the code
 pub renamed-is : (turns : CallTurns) (c : Calling) (test : Text → Bool) → HasTurns turns c → AreTexts test c.written.now → (a : FormulaTree) →

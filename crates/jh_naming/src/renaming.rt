@@ -84,11 +84,7 @@ fn with_name(shape: Shape, number: usize) -> Shape
 }
 
 /// The number of the name that stands at a call for the name of a number.
-fn called_name(
-    table: &mut Table,
-    number: usize,
-    calling: &Calling<'_>,
-) -> Result<usize, NoMemory>
+fn called_name(table: &mut Table, number: usize, calling: &Calling<'_>) -> Result<usize, NoMemory>
     requires { number < length table.old.pools.names }
     ensures name { IfOk result (λ made. slice_get table.new.pools.names made ≡ Some (call.name_at calling.now (the_name (slice_get table.old.pools.names number)))) }
     ensures grows { Extends table.old table.new }
@@ -100,11 +96,7 @@ fn called_name(
 
 /// The node of a formula of a contract at a call: each name is exchanged for the one that stands for it there, at every
 /// sort, all at once; names in labels stay. The answer is want of memory where the formula nests deeper than a walk goes.
-pub fn at_call(
-    table: &mut Table,
-    formula: usize,
-    calling: Calling<'_>,
-) -> Result<usize, NoMemory>
+pub fn at_call(table: &mut Table, formula: usize, calling: Calling<'_>) -> Result<usize, NoMemory>
     requires { is_truth (slice_get (nodes table.old) formula) ≡ true }
     ensures tree { IfOk result (λ made. slice_get (nodes table.new) made ≡ Some (of_truth (renamed_by (call.name_at calling.entry) (the_truth (slice_get (nodes table.old) formula))))) }
     ensures grows { Extends table.old table.new }
