@@ -1,10 +1,10 @@
 -- What the steps cite: asserted formulas, and checks one after another.
 use Rattle.std.proofs.Common.{◌≡◌, refl, sym, ap, ◌∙◌, subst, ℕ, zero, suc, ◌+◌, ◌<◌, ◌≤◌, arith, add-one, true, ◌&&◌, List, [], ◌∷◌, ◌++◌, map, take, length, Some, slice_get, is_some, Result, Ok, Err, IfOk, OnOk}
 use Rattle.std.proofs.lemmas.List.{map-append, take_all}
-use Rattle.jh_tree.specs.Tree.{FormulaTree, ValueTree, of_truth}
+use Rattle.jh_tree.specs.Tree.{TermTree, FieldTree, FormulaTree, ValueTree, of_object, of_truth, of_field}
 use Rattle.jh_tree.proofs.ClosedLemmas.{both-left, both-right}
-use Rattle.jh_table.proofs.Children.{it-is-truth}
-use Rattle.jh_table.specs.Entries.{Listing, is_truth, the_truth}
+use Rattle.jh_table.proofs.Children.{it-is-object, it-is-truth}
+use Rattle.jh_table.specs.Entries.{Listing, is_object, is_truth, is_field, the_object, the_truth, the_field, the_value}
 use Rattle.jh_table.specs.Growth.{Extends}
 use Rattle.jh_table.specs.Nodes.{nodes}
 use Rattle.jh_wp.specs.Command.{CommandTree}
@@ -109,5 +109,39 @@ pub fact-stays : (t u : Listing) (ns : List CheckNode) (n : CheckNode) (i : ℕ)
 fact-stays t u ns n i h e g =
     let there = fact-of t ns n i h e in
     truth-there u n.fact (the_truth (slice_get (nodes t) n.fact)) (g.nodes.keeps n.fact (of_truth (the_truth (slice_get (nodes t) n.fact))) (it-is-truth (slice_get (nodes t) n.fact) there))
+
+-- a check that is one of a list of one
+pub check-place : (t : Listing) (n : CheckNode) (c : Check) → AreChecks t (n ∷ []) (c ∷ []) → n.place ≡ c.place
+unfolding AreChecks
+check-place t n c h = h.0
+
+pub check-fact : (t : Listing) (n : CheckNode) (c : Check) → AreChecks t (n ∷ []) (c ∷ []) → slice_get (nodes t) n.fact ≡ Some (of_truth c.fact)
+unfolding AreChecks
+check-fact t n c h = h.1
+
+-- a field, an object and a value that are listed
+pub field-there : (t : Listing) (n : ℕ) (a : FieldTree) → slice_get (nodes t) n ≡ Some (of_field a) → is_field (slice_get (nodes t) n) ≡ true
+unfolding is_field
+field-there t n a h = ap is_field h
+
+pub object-there : (t : Listing) (n : ℕ) (a : TermTree) → slice_get (nodes t) n ≡ Some (of_object a) → is_object (slice_get (nodes t) n) ≡ true
+unfolding is_object
+object-there t n a h = ap is_object h
+
+pub object-stays : (t u : Listing) (n : ℕ) → Extends t u → is_object (slice_get (nodes t) n) ≡ true → is_object (slice_get (nodes u) n) ≡ true
+object-stays t u n g h =
+    object-there u n (the_object (slice_get (nodes t) n)) (g.nodes.keeps n (of_object (the_object (slice_get (nodes t) n))) (it-is-object (slice_get (nodes t) n) h))
+
+pub field-is : (t : Listing) (n : ℕ) (a : FieldTree) → slice_get (nodes t) n ≡ Some (of_field a) → the_field (slice_get (nodes t) n) ≡ a
+unfolding the_field
+field-is t n a h = ap the_field h
+
+pub object-is : (t : Listing) (n : ℕ) (a : TermTree) → slice_get (nodes t) n ≡ Some (of_object a) → the_object (slice_get (nodes t) n) ≡ a
+unfolding the_object
+object-is t n a h = ap the_object h
+
+pub value-is : (t : Listing) (n : ℕ) (v : ValueTree) → slice_get (nodes t) n ≡ Some v → the_value (slice_get (nodes t) n) ≡ v
+unfolding the_value
+value-is t n v h = ap the_value h
 
 pub ruleset step_steps = (adds-assert, truth-there, truth-is, value-there)

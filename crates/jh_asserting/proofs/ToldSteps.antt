@@ -1,11 +1,15 @@
 -- The formulas of a source by their numbers, and while the table grows.
-use Rattle.std.proofs.Common.{◌≡◌, refl, sym, ap, ◌∙◌, ℕ, ◌<◌, true, List, length, get_or, slice_get, Option, Some, None}
-use Rattle.std.proofs.lemmas.Option.{slice_get-get_or, slice_get_within}
+use Rattle.std.proofs.Common.{◌≡◌, refl, sym, ap, ◌∙◌, ℕ, ◌<◌, ◌≤◌, true, false, List, length, get_or, slice_get, Option, Some, None}
+use Rattle.std.proofs.lemmas.Option.{slice_get-get_or, slice_get_past, slice_get_within}
+use Rattle.std.proofs.lemmas.Bool.{true≢false}
 use Rattle.std.specs.Option.{option_map_or}
 use Rattle.jh_ast.specs.Programs.{ProgramTree}
 use Rattle.jh_tree.specs.Tree.{ValueTree, of_object, of_number, of_truth, of_set, of_field}
 use Rattle.jh_tree.specs.Tree as t
-use Rattle.jh_table.specs.Entries.{Listing, is_truth, the_truth}
+use Rattle.jh_name.specs.declared.place.Sort.{Sort}
+use Rattle.jh_name.specs.declared.place.Sort.TheVariants as sort
+use Rattle.jh_tree.specs.Sorts.{tree_sort}
+use Rattle.jh_table.specs.Entries.{Listing, is_truth, the_truth, the_value}
 use Rattle.jh_table.specs.Growth.{Extends}
 use Rattle.jh_table.specs.Nodes.{nodes}
 use Rattle.jh_vars.specs.Resolved.{as_truth}
@@ -45,10 +49,49 @@ module _ (l u : Listing) (g : Extends l u) where
     is = λ n. told-stays (node_of ns n) (λ k e. h.inside n k e) ∙ h.is n;
   }
 
--- a node that is no formula counts as True
-pub no-truth : (o : Option ValueTree) → is_truth o ≡ true → o ≡ Some (of_truth (the_truth o))
+-- a node that is a formula, and one that is none
+pub is-formula : (o : Option ValueTree) → is_truth o ≡ true → o ≡ Some (of_truth (the_truth o))
 unfolding is_truth the_truth
-no-truth (Some (of_truth a)) h = refl
-no-truth _ h = absurd (cc)
+is-formula (Some (of_truth a)) h = refl
+is-formula _ h = absurd (true≢false (sym h))
+
+pub no-formula : (o : Option ValueTree) → is_truth o ≡ false → the_truth o ≡ t.true_formula
+unfolding is_truth the_truth
+no-formula None h = refl
+no-formula (Some (of_object a)) h = refl
+no-formula (Some (of_number a)) h = refl
+no-formula (Some (of_truth a)) h = absurd (true≢false h)
+no-formula (Some (of_set a)) h = refl
+no-formula (Some (of_field a)) h = refl
+
+pub nothing-told : the_truth None ≡ t.true_formula
+unfolding the_truth
+nothing-told = refl
+
+pub nothing-there : (ts : List ValueTree) (n : ℕ) → length ts ≤ n → is_truth (slice_get ts n) ≡ false
+unfolding is_truth
+nothing-there ts n le = ap is_truth (slice_get_past ts n le)
+
+-- the sort of a node says whether it is a formula
+sort-says : (o : Option ValueTree) → tree_sort (the_value o) ≡ sort.Bool → is_truth o ≡ true
+unfolding is_truth the_value
+sort-says None e = absurd (cc)
+sort-says (Some (of_object a)) e = absurd (cc)
+sort-says (Some (of_number a)) e = absurd (cc)
+sort-says (Some (of_truth a)) e = refl
+sort-says (Some (of_set a)) e = absurd (cc)
+sort-says (Some (of_field a)) e = absurd (cc)
+
+pub sort-true : (o : Option ValueTree) (s : Sort) → s ≡ tree_sort (the_value o) → s ≡ sort.Bool → is_truth o ≡ true
+sort-true o s e h = sort-says o (sym e ∙ h)
+
+pub sort-false : (o : Option ValueTree) (s : Sort) → s ≡ tree_sort (the_value o) → (s ≡ sort.Bool → ⊥) → is_truth o ≡ false
+unfolding is_truth the_value
+sort-false None s e h = refl
+sort-false (Some (of_object a)) s e h = refl
+sort-false (Some (of_number a)) s e h = refl
+sort-false (Some (of_truth a)) s e h = absurd (h e)
+sort-false (Some (of_set a)) s e h = refl
+sort-false (Some (of_field a)) s e h = refl
 
 pub ruleset told_steps = (formula-told)

@@ -46,11 +46,7 @@ fn fact_mark(alloc: Global, text: &str, place: Place) -> Result<Mark, NoMemory>
 }
 
 /// Adds that a formula is a fact from there on.
-pub fn assume_fact(
-    table: &Table,
-    commands: &mut Vec<Command>,
-    fact: usize,
-) -> Result<(), NoMemory>
+pub fn assume_fact(table: &Table, commands: &mut Vec<Command>, fact: usize) -> Result<(), NoMemory>
     ensures { OnOk result ((f : FormulaTree) → slice_get (nodes table.now) fact ≡ Some (of_truth f) → AddsCommands table.now commands.old.items commands.new.items (w.assume f ∷ [])) }
 {
     let _nodes = table.len();

@@ -3,7 +3,7 @@
 ghost use Rattle.std.specs.Prelude.{◌≡◌, IfOk, Some, slice_get};
 ghost use Rattle.jh_ast.specs.Programs.{ProgramTree};
 ghost use Rattle.jh_tree.specs.Tree.{of_truth};
-ghost use Rattle.jh_table.specs.Entries.{the_truth};
+ghost use Rattle.jh_table.specs.Entries.{is_truth, the_truth};
 ghost use Rattle.jh_table.specs.Growth.{Extends};
 ghost use Rattle.jh_table.specs.Nodes.{nodes};
 ghost use Rattle.jh_vars.specs.Resolved.{as_truth};
@@ -24,22 +24,38 @@ fn node_at(formulas: &[Option<usize>], number: u32) -> Option<usize>
     }
 }
 
+/// Whether a node is that of a formula.
+fn is_formula(table: &Table, node: usize) -> bool
+    ensures { result ≡ is_truth (slice_get (nodes table.now) node) }
+{
+    if node >= table.len() {
+        return false;
+    }
+    match table.sort(node) {
+        Sort::Bool => true,
+        _ => false,
+    }
+}
+
 /// The node of a formula, or that of True where it is none.
+fn truth_of(table: &mut Table, node: usize) -> Result<usize, NoMemory>
+    ensures node { IfOk result (λ made. slice_get (nodes table.new) made ≡ Some (of_truth (the_truth (slice_get (nodes table.old) node)))) }
+    ensures grows { Extends table.old table.new }
+{
+    if is_formula(table, node) {
+        return Ok(node);
+    }
+    truth(table)
+}
+
+/// The node of a formula where there is one, or that of True.
 fn truth_at(table: &mut Table, node: Option<usize>) -> Result<usize, NoMemory>
     ensures node { IfOk result (λ made. slice_get (nodes table.new) made ≡ Some (of_truth (the_truth (told_at table.old node)))) }
     ensures grows { Extends table.old table.new }
 {
     match node {
         None => truth(table),
-        Some(node) => {
-            if node >= table.len() {
-                return truth(table);
-            }
-            match table.sort(node) {
-                Sort::Bool => Ok(node),
-                _ => truth(table),
-            }
-        }
+        Some(node) => truth_of(table, node),
     }
 }
 

@@ -19,7 +19,7 @@ use crate::checks::assert_checks;
 use jh_command::Command;
 use jh_lowered::{ObjectCode, Target};
 use jh_make::{free_field, update};
-use jh_name::{NoMemory, Place, name};
+use jh_name::{Name, NoMemory, Place, name};
 use jh_table::Table;
 use jh_terms::{CheckNode, check_receiver};
 
@@ -88,6 +88,25 @@ fn assert_receiver(
     assert_checks(table, commands, checks.as_slice())
 }
 
+/// Adds that the field of a text gets a value at a receiver, which isn't null unless it is `this`.
+fn put_at(
+    table: &mut Table,
+    commands: &mut Vec<Command>,
+    field: &Name,
+    receiver: &ObjectCode,
+    node: usize,
+    place: Place,
+    value: usize,
+) -> Result<(), NoMemory>
+    requires node { slice_get (nodes table.old) node ≡ Some (of_object (terms.object_term (object_code receiver.now))) }
+    requires value { is_some (slice_get (nodes table.old) value) ≡ true }
+    ensures commands { OnOk result ((v : ValueTree) → slice_get (nodes table.old) value ≡ Some v → AddsCommands table.new commands.old.items commands.new.items (steps.assert_checks (terms.receiver_checks (object_code receiver.now) place) ++ steps.put_field field.now.text (terms.object_term (object_code receiver.now)) v ∷ [])) }
+    ensures grows { Extends table.old table.new }
+{
+    assert_receiver(table, commands, receiver, node, place)?;
+    put_field(table, commands, field.text(), node, value)
+}
+
 /// Adds that a value goes to a target, whose receiver's node is given where it is a field.
 pub fn put(
     table: &mut Table,
@@ -107,10 +126,7 @@ pub fn put(
         Target::Name(name) => assign_name(table, commands, name.text(), value),
         Target::Field(field, object, place) => match receiver {
             None => Ok(()),
-            Some(node) => {
-                assert_receiver(table, commands, object, node, *place)?;
-                put_field(table, commands, field.text(), node, value)
-            }
+            Some(node) => put_at(table, commands, field, object, node, *place, value),
         },
     }
 }

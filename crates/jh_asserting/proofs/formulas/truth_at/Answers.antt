@@ -1,0 +1,11 @@
+use Rattle.std.proofs.Common.{◌∙◌, ap, sym, refl, None, Some}
+use Rattle.jh_tree.specs.Tree.{of_truth}
+use Rattle.jh_table.specs.Entries.{the_truth}
+use Rattle.jh_asserting.specs.Told.{told_at}
+use Rattle.jh_asserting.proofs.StepSteps.{if-ok}
+use Rattle.jh_asserting.proofs.ToldSteps.{nothing-told}
+use Rattle.jh_asserting.proofs.formulas.truth_at.Goals as goal
+
+pub returns-in-None-clause-node : goal.returns-in-None-clause-node
+returns-in-None-clause-node c =
+    if-ok c.truth.result (λ made node. node ∙ ap (λ a. Some (of_truth a)) (sym nothing-told) ∙ ap (λ o. Some (of_truth (the_truth (told_at c.args.table.now o)))) (sym c.in-None.is)) c.truth.ensures.node

@@ -1,0 +1,11 @@
+use Rattle.std.proofs.Common.{sym, ap, subst, [], ◌∷◌}
+use Rattle.jh_name.specs.declared.naming.Name.{Name}
+use Rattle.jh_wp.specs.Command as w
+use Rattle.jh_changes.specs.Added.{AddsCommands}
+use Rattle.jh_changes.proofs.AddedSteps.{adds-assign}
+use Rattle.jh_asserting.proofs.puts.assign_name.Goals as goal
+
+pub returns : goal.returns
+returns c = λ v h.
+    subst (λ (x : Name). AddsCommands c.args.table.now c.args.commands.now.items c.push.new.self.items (w.assign x v ∷ [])) c.in_ok-plain.ensures
+    (adds-assign c.args.table.now c.args.commands.now.items c.push.new.self.items c.in_ok-plain.plain c.args.value v c.in_ok-push.ensures.items h)
