@@ -69,11 +69,7 @@ fn fact_at(facts: &[usize], place: usize) -> usize
 }
 
 /// Adds that formulas are facts from there on, one after another.
-fn assume_facts(
-    table: &Table,
-    commands: &mut Vec<Command>,
-    facts: &[usize],
-) -> Result<(), NoMemory>
+fn assume_facts(table: &Table, commands: &mut Vec<Command>, facts: &[usize]) -> Result<(), NoMemory>
     ensures { OnOk result ((fs : List FormulaTree) → AreFacts table.now facts.now fs → AddsCommands table.now commands.old.items commands.new.items (map (λ f. w.assume f) fs)) }
 {
     for place in 0..facts.len() {
@@ -207,13 +203,7 @@ pub(crate) fn push_after(
     push_framed(table, commands, around, called, turns.copies)?;
     push_ensures(table, commands, around.formulas, called, turns)?;
     push_owed(table, commands, around, called)?;
-    push_typed(
-        table,
-        commands,
-        around.classes,
-        method.result,
-        turns.result,
-    )?;
+    push_typed(table, commands, around.classes, method.result, turns.result)?;
     put_result(
         table,
         commands,

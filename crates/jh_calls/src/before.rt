@@ -151,13 +151,6 @@ pub(crate) fn push_before(
     ensures grows { Extends table.old table.new }
 {
     push_kept(table, commands, call, called, turns)?;
-    push_requires(
-        table,
-        commands,
-        around.formulas,
-        called,
-        turns,
-        call.place,
-    )?;
+    push_requires(table, commands, around.formulas, called, turns, call.place)?;
     push_owed(table, commands, around, called)
 }

@@ -66,6 +66,14 @@ fn node_at(args: &[usize], place: usize) -> usize
     args[place]
 }
 
+/// The parameter at a place.
+fn param_at(params: &[Local], place: usize) -> &Local
+    requires { place < length params.now }
+    ensures { slice_get params.now place ≡ Some result.now }
+{
+    &params[place]
+}
+
 /// Adds that arguments go into fresh names, of the texts of the parameters, each with a turn of its own.
 pub(crate) fn keep_args(
     table: &Table,
@@ -78,19 +86,12 @@ pub(crate) fn keep_args(
 {
     let mut next = turn;
     for place in 0..args.len() {
-        match params.get(place) {
-            None => return Ok(()),
-            Some(param) => {
-                keep(
-                    table,
-                    commands,
-                    param.name.text(),
-                    next,
-                    node_at(args, place),
-                )?;
-                next = next_turn(next)?;
-            }
+        if place >= params.len() {
+            return Ok(());
         }
+        let text = param_at(params, place).name.text();
+        keep(table, commands, text, next, node_at(args, place))?;
+        next = next_turn(next)?;
     }
     Ok(())
 }

@@ -128,7 +128,9 @@ fn put_value(
         Target::Nowhere => Ok(()),
         Target::New(local) => assign_name(table, commands, local.name.text(), value),
         Target::Name(name) => assign_name(table, commands, name.text(), value),
-        Target::Field(field, receiver, place) => { put_kept(table, commands, field, receiver, *place, turn, value) }
+        Target::Field(field, receiver, place) => {
+            put_kept(table, commands, field, receiver, *place, turn, value)
+        }
     }
 }
 

@@ -1,0 +1,4 @@
+mod AfterSteps
+mod ContractSteps
+mod KeepSteps
+mod TermSteps
