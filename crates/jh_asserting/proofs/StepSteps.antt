@@ -1,5 +1,5 @@
 -- What the steps cite: asserted formulas, and checks one after another.
-use Rattle.std.proofs.Common.{◌≡◌, refl, sym, ap, ◌∙◌, subst, ℕ, zero, suc, ◌+◌, ◌<◌, ◌≤◌, arith, add-one, true, ◌&&◌, List, [], ◌∷◌, ◌++◌, map, take, length, Some, slice_get, is_some, Result, Ok, Err, IfOk, OnOk}
+use Rattle.std.proofs.Common.{◌≡◌, refl, sym, ap, ◌∙◌, subst, ℕ, zero, suc, ◌+◌, ◌≤◌, arith, add-one, true, ◌&&◌, List, [], ◌∷◌, ◌++◌, take, length, Some, slice_get, is_some, Result, Ok, Err, IfOk, OnOk}
 use Rattle.std.proofs.lemmas.List.{map-append, take_all}
 use Rattle.jh_tree.specs.Tree.{TermTree, FieldTree, FormulaTree, ValueTree, of_object, of_truth, of_field}
 use Rattle.jh_tree.proofs.ClosedLemmas.{both-left, both-right}

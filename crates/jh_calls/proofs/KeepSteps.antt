@@ -1,5 +1,5 @@
 -- Arguments go into fresh names, one after another.
-use Rattle.std.proofs.Common.{◌≡◌, refl, sym, ap, ◌∙◌, subst, ℕ, zero, suc, ◌+◌, ◌<◌, ◌≤◌, arith, add-one, List, [], ◌∷◌, map, drop, length, Option, Some, None, slice_get}
+use Rattle.std.proofs.Common.{◌≡◌, refl, sym, ap, ◌∙◌, subst, ℕ, zero, suc, ◌+◌, ◌≤◌, arith, add-one, List, [], ◌∷◌, map, drop, length, Some, slice_get}
 use Rattle.std.proofs.lemmas.List.{drop_all}
 use Rattle.jh_tree.specs.Tree.{ValueTree}
 use Rattle.jh_table.specs.Entries.{Listing}

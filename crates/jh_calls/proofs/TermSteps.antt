@@ -1,5 +1,5 @@
 -- The nodes of arguments and their checks, one after another.
-use Rattle.std.proofs.Common.{◌≡◌, refl, sym, ap, ◌∙◌, subst, ℕ, zero, suc, ◌+◌, ◌≤◌, arith, add-one, List, [], ◌∷◌, ◌++◌, map, take, length, Option, Some, None, slice_get, append_assoc, append-nil, Result, Ok, Err, IfOk, OnOk}
+use Rattle.std.proofs.Common.{◌≡◌, sym, ap, ◌∙◌, subst, ℕ, zero, suc, ◌+◌, ◌≤◌, add-one, List, [], ◌∷◌, ◌++◌, map, take, length, Option, Some, None, slice_get, append_assoc, append-nil, Result, Ok, Err, IfOk, OnOk}
 use Rattle.std.proofs.lemmas.List.{map-append, take_all}
 use Rattle.jh_tree.specs.Tree.{ValueTree, of_object}
 use Rattle.jh_table.specs.Entries.{Listing}

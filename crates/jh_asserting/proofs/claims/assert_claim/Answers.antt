@@ -1,4 +1,4 @@
-use Rattle.std.proofs.Common.{ap, subst, [], ◌∷◌}
+use Rattle.std.proofs.Common.{subst, [], ◌∷◌}
 use Rattle.jh_tree.specs.declared.mark.Mark.{Mark}
 use Rattle.jh_tree.specs.Tree as tree
 use Rattle.jh_wp.specs.Command as w

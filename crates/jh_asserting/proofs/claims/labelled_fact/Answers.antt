@@ -1,4 +1,4 @@
-use Rattle.std.proofs.Common.{◌≡◌, ◌∙◌, sym, ap, [], Some}
+use Rattle.std.proofs.Common.{◌∙◌, sym, ap, [], Some}
 use Rattle.std.specs.Option.{option_map_or}
 use Rattle.jh_tree.specs.declared.mark.MarkKind.TheVariants as kind
 use Rattle.jh_tree.specs.Tree.{of_truth}

@@ -1,4 +1,4 @@
-use Rattle.std.proofs.Common.{◌≡◌, ◌∙◌, ap, Some}
+use Rattle.std.proofs.Common.{◌∙◌, Some}
 use Rattle.jh_tree.specs.Tree.{of_truth}
 use Rattle.jh_tree.specs.Tree as tree
 use Rattle.jh_asserting.proofs.StepSteps.{if-ok, truth-is}

@@ -1,4 +1,4 @@
-use Rattle.std.proofs.Common.{◌∙◌, ap, sym, refl, None, Some}
+use Rattle.std.proofs.Common.{◌∙◌, ap, sym, Some}
 use Rattle.jh_tree.specs.Tree.{of_truth}
 use Rattle.jh_table.specs.Entries.{the_truth}
 use Rattle.jh_asserting.specs.Told.{told_at}

@@ -1,4 +1,4 @@
-use Rattle.std.proofs.Common.{sym, ap, subst, [], ◌∷◌}
+use Rattle.std.proofs.Common.{subst, [], ◌∷◌}
 use Rattle.jh_name.specs.declared.naming.Name.{Name}
 use Rattle.jh_wp.specs.Command as w
 use Rattle.jh_changes.specs.Added.{AddsCommands}

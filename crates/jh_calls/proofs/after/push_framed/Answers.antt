@@ -1,4 +1,4 @@
-use Rattle.std.proofs.Common.{ℕ, List, map, ap, ◌∙◌, sym, subst}
+use Rattle.std.proofs.Common.{ℕ, List, map, sym, subst}
 use Rattle.jh_tree.specs.Tree.{SetTree, free_set}
 use Rattle.jh_guard.specs.Frames.{frame_fact}
 use Rattle.jh_guard.specs.Calls.{old_alloc}

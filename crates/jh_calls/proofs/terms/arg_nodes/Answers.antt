@@ -1,14 +1,12 @@
-use Rattle.std.proofs.Common.{arith, ap, map, subst, List}
-use Rattle.jh_tree.specs.Tree.{ValueTree}
-use Rattle.jh_table.proofs.Listed.{extends-refl, extends-trans}
+use Rattle.std.proofs.Common.{arith, map, subst, List}
+use Rattle.jh_table.proofs.Listed.{extends-trans}
 use Rattle.jh_runs.specs.Code as code
 use Rattle.jh_guard.specs.Terms.{value_term}
 use Rattle.jh_guard.specs.Calls.{all_checks}
 use Rattle.jh_terms.specs.Checks.{AddsChecks}
-use Rattle.jh_terms.proofs.CheckSteps.{adds-none}
 use Rattle.jh_facts.proofs.FactSteps.{at-place}
 use Rattle.jh_calls.specs.Called.{AreValues}
-use Rattle.jh_calls.proofs.TermSteps.{no-values, nodes-next, arg-checks-next, all-codes}
+use Rattle.jh_calls.proofs.TermSteps.{nodes-next, arg-checks-next, all-codes}
 use Rattle.jh_calls.proofs.terms.arg_nodes.Goals as goal
 
 pub loop-place-preserved : goal.loop-place-preserved

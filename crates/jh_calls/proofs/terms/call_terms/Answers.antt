@@ -1,4 +1,4 @@
-use Rattle.std.proofs.Common.{List, map, option_map, subst}
+use Rattle.std.proofs.Common.{List, map, subst}
 use Rattle.jh_table.proofs.Listed.{extends-trans}
 use Rattle.jh_guard.specs.Terms.{value_term}
 use Rattle.jh_guard.specs.Calls.{all_checks}
