@@ -1,0 +1,2 @@
+pub mod OutlineSteps
+mod ItemSteps
