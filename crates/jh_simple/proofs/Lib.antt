@@ -1,0 +1,4 @@
+mod CheckedSteps
+mod LeftSteps
+mod ValueSteps
+mod Dots

@@ -1,0 +1,16 @@
+//! The commands of statements that hold no others and call nothing, over the nodes of a table.
+#![tactic(auto)]
+
+mod assigning;
+mod creating;
+mod ghosts;
+mod lefts;
+mod setting;
+mod testing;
+mod values;
+
+pub use assigning::{push_assign, push_return};
+pub use creating::push_new;
+pub use ghosts::Left;
+pub use setting::push_ghost;
+pub use testing::push_test;
