@@ -6,7 +6,7 @@ use Rattle.jh_digits.specs.Nodes.{widths, node_count, node_limit}
 use Rattle.jh_digits.specs.Cells.{coordinates, radix, cell_count, stride}
 use Rattle.jh_digits.proofs.Coordinates.{radix_need, radix_row}
 
-needs_stride : (s : System) (i : ℕ) → i ≤ length s.needs → stride (radix s) i ≡ 2 ^ i
+pub needs_stride : (s : System) (i : ℕ) → i ≤ length s.needs → stride (radix s) i ≡ 2 ^ i
 needs_stride s zero h = refl
 needs_stride s (suc i) h = rw (needs_stride s i (omega arith), radix_need s i (omega arith), pow-suc 2 i) refl
 

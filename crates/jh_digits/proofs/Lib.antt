@@ -10,7 +10,6 @@ pub mod Cells
 pub mod Paths
 pub mod Marks
 pub mod Found
-pub mod Leading
-pub mod Completing
-pub mod Passing
-pub mod Sweeps
+pub mod Flags
+pub mod Closing
+pub mod Refusals

@@ -1,5 +1,5 @@
--- A table stays one when a mark is added.
-use Rattle.std.proofs.Common.{◌≡◌, ◌≢◌, ℕ, zero, suc, ◌+◌, ◌*◌, ◌-◌, ◌≤◌, ◌<◌, ◌⊎◌, List, length, get_or, set, refl, sym, ap, ◌∙◌, inl, inr, ⊎_elim, arith}
+-- A table stays one when a node is reached, and when its steps were followed.
+use Rattle.std.proofs.Common.{◌≡◌, ◌≢◌, ℕ, suc, ◌+◌, ◌*◌, ◌-◌, ◌≤◌, ◌<◌, List, length, get_or, set, refl, sym, ap, ◌∙◌, ⊎_elim, arith}
 use Rattle.std.proofs.lemmas.Bool.{cases_eq}
 use Rattle.std.proofs.lemmas.List.{get_or-set_same, get_or-set_other, length-set}
 use Rattle.std.proofs.lemmas.List.Sums.{sum_by-set}
@@ -7,7 +7,7 @@ use Rattle.std.proofs.lemmas.Nat.{mul-add-lt, same_from_place}
 use Rattle.jh_digits.specs.declared.system.System.{System}
 use Rattle.jh_digits.specs.Cells.{cell_count}
 use Rattle.jh_digits.specs.Closed.{start_of, end_of}
-use Rattle.jh_digits.specs.Table.{node_of, mark_of, taken_of, halved_of, CanTake, CanHalve, marks_left, LeadsSkip, LeadsTake, LeadsHalve, Leads, Trail, IsTable, Grows}
+use Rattle.jh_digits.specs.Table.{node_of, mark_of, taken_of, halved_of, CanTake, CanHalve, marks_left, IsFollowed, IsTable, Adds}
 use Rattle.jh_digits.proofs.Cells.{cell_below}
 use Rattle.jh_digits.proofs.Coordinates.{start_range, end_range}
 
@@ -30,156 +30,110 @@ pub end_below : (s : System) → end_of s < cell_count s
 unfolding end_of
 end_below s = cell_below s _ (end_range s)
 
-mark_set_same : (s : System) (t : List ℕ) (j c v : ℕ) → node_of s j c < length t → mark_of s (set t (node_of s j c) v) j c ≡ v
-unfolding mark_of
-mark_set_same s t j c v h = get_or-set_same t (node_of s j c) v 0 h
-
-mark_set_other : (s : System) (t : List ℕ) (i j c v : ℕ) → node_of s j c ≢ i → mark_of s (set t i v) j c ≡ mark_of s t j c
-unfolding mark_of
-mark_set_other s t i j c v h = get_or-set_other t i (node_of s j c) v 0 h
-
-left_set : (s : System) (t : List ℕ) (j c v : ℕ) → node_of s j c < length t → marks_left (set t (node_of s j c) v) + (3 - mark_of s t j c) ≡ marks_left t + (3 - v)
-unfolding marks_left mark_of
-left_set s t j c v h = sum_by-set (λ mark. 3 - mark) t (node_of s j c) v 0 h
-
--- marks of nodes with a known way to the end
+-- reached nodes stay reached
 abbrev pub Kept : System → List ℕ → List ℕ → Type 0
-Kept s t t' = (j c : ℕ) → j ≤ s.columns → c < cell_count s → 2 ≤ mark_of s t j c → mark_of s t' j c ≡ mark_of s t j c
+Kept s t t' = (j c : ℕ) → j ≤ s.columns → c < cell_count s → mark_of s t j c ≢ 0 → mark_of s t' j c ≢ 0
 
-leads_kept : (s : System) (t t' : List ℕ) → Kept s t t' → (k j c : ℕ) → j ≤ s.columns → c < cell_count s → Leads s t k j c → Leads s t' k j c
-unfolding Leads
-leads_kept s t t' kept zero j c h i l = l
-leads_kept s t t' kept (suc k) j c h i l =
-    ⊎_elim
-    (λ (a : LeadsSkip s t (Leads s t k) j c). inl (record { mark = kept j c h i (omega (arith, a.mark)) ∙ a.mark; column = a.column; next = leads_kept s t t' kept k (suc j) c a.column i a.next }))
-    (λ (b : LeadsTake s t (Leads s t k) j c ⊎ LeadsHalve s t (Leads s t k) j c). inr (⊎_elim
-    (λ (a : LeadsTake s t (Leads s t k) j c). inl (record { mark = kept j c h i (omega (arith, a.mark)) ∙ a.mark; column = a.column; can = a.can; next = leads_kept s t t' kept k (suc j) (taken_of s j c) a.column (taken_below s j c a.can) a.next }))
-    (λ (a : LeadsHalve s t (Leads s t k) j c). inr (record { mark = kept j c h i (omega (arith, a.mark)) ∙ a.mark; column = a.column; can = a.can; next = leads_kept s t t' kept k 0 (halved_of s c) (omega arith) (halved_below s c a.can) a.next }))
-    b))
-    l
+pub followed_kept : (s : System) (t t' : List ℕ) → Kept s t t' → (j c : ℕ) → c < cell_count s → IsFollowed s t j c → IsFollowed s t' j c
+followed_kept s t t' kept j c i f = record {
+  skip = λ h. kept (suc j) c h i (f.skip h);
+  take = λ h can. kept (suc j) (taken_of s j c) h (taken_below s j c can) (f.take h can);
+  halve = λ h can. kept 0 (halved_of s c) (omega arith) (halved_below s c can) (f.halve h can);
+}
 
-leads_at : (s : System) (t : List ℕ) (k j c j' c' : ℕ) → j' ≡ j → c' ≡ c → Leads s t k j c → Leads s t k j' c'
-leads_at s t k j c j' c' e f l = rw (e, f) l
+pub kept_by_same : (s : System) (t t' : List ℕ) → ((j c : ℕ) → j ≤ s.columns → c < cell_count s → mark_of s t j c ≢ 0 → mark_of s t' j c ≡ mark_of s t j c) → Kept s t t'
+kept_by_same s t t' same j c h i m e = m (sym (same j c h i m) ∙ e)
 
--- a mark below 2 is raised to v; where v is 2 or 3, the node's way to the end is known
-module _ (s : System) (t : List ℕ) (j c v : ℕ) (table : IsTable s t) (h : j ≤ s.columns) (i : c < cell_count s) (low : mark_of s t j c < 2) (more : mark_of s t j c < v) (few : v ≤ 3) where
+pub adds_none : (s : System) (t : List ℕ) → IsTable s t → Adds s t t
+adds_none s t table = record { table = table; same = λ j c h i m. refl; fewer = omega arith }
+
+pub adds_both : (s : System) (t u w : List ℕ) → Adds s t u → Adds s u w → Adds s t w
+adds_both s t u w f g = record {
+  table = g.table;
+  same = λ j c h i m. g.same j c h i (kept_by_same s t u f.same j c h i m) ∙ f.same j c h i m;
+  fewer = omega (arith, f.fewer, g.fewer);
+}
+
+pub adds_reached : (s : System) (t u : List ℕ) → Adds s t u → Kept s t u
+adds_reached s t u f = kept_by_same s t u f.same
+
+module _ (s : System) (t : List ℕ) (j c v : ℕ) (table : IsTable s t) (h : j ≤ s.columns) (i : c < cell_count s) where
   inside : node_of s j c < length t
   inside = rw table.count (node_within s j c h i)
 
-  pub fewer : marks_left (set t (node_of s j c) v) + 1 ≤ marks_left t
-  fewer = omega (arith, left_set s t j c v inside)
+  left_set : marks_left (set t (node_of s j c) v) + (255 - mark_of s t j c) ≡ marks_left t + (255 - v)
+  unfolding marks_left mark_of
+  left_set = sum_by-set (λ mark. 255 - mark) t (node_of s j c) v 0 inside
 
-  mark_at : (j' c' : ℕ) → node_of s j' c' ≡ node_of s j c → mark_of s t j' c' ≡ mark_of s t j c
+  old_here : (j' c' : ℕ) → node_of s j' c' ≡ node_of s j c → mark_of s t j' c' ≡ mark_of s t j c
   unfolding mark_of
-  mark_at j' c' e = ap (λ n. get_or t n 0) e
+  old_here j' c' e = ap (λ n. get_or t n 0) e
 
-  pub kept : Kept s t (set t (node_of s j c) v)
-  kept j' c' h' i' m = mark_set_other s t (node_of s j c) j' c' v (λ e. absurd (omega (arith, mark_at j' c' e)))
-
-  pub mark_here : (j' c' : ℕ) → node_of s j' c' ≡ node_of s j c → mark_of s (set t (node_of s j c) v) j' c' ≡ v
+  here : (j' c' : ℕ) → node_of s j' c' ≡ node_of s j c → mark_of s (set t (node_of s j c) v) j' c' ≡ v
   unfolding mark_of
-  mark_here j' c' e = ap (λ n. get_or (set t (node_of s j c) v) n 0) e ∙ get_or-set_same t (node_of s j c) v 0 inside
+  here j' c' e = ap (λ n. get_or (set t (node_of s j c) v) n 0) e ∙ get_or-set_same t (node_of s j c) v 0 inside
 
-  start_kept : mark_of s (set t (node_of s j c) v) 0 (start_of s) ≢ 0
-  start_kept e =
-      ⊎_elim
-      (λ (f : node_of s 0 (start_of s) ≡ node_of s j c). absurd (omega (arith, mark_here 0 (start_of s) f)))
-      (λ (f : node_of s 0 (start_of s) ≡ node_of s j c → ⊥). table.start (sym (mark_set_other s t (node_of s j c) 0 (start_of s) v f) ∙ e))
-      (cases_eq (node_of s 0 (start_of s)) (node_of s j c))
+  there : (j' c' : ℕ) → node_of s j' c' ≢ node_of s j c → mark_of s (set t (node_of s j c) v) j' c' ≡ mark_of s t j' c'
+  unfolding mark_of
+  there j' c' e = get_or-set_other t (node_of s j c) (node_of s j' c') v 0 e
 
-  abbrev pub Way : Type 0
-  Way = 2 ≤ v → (k : ℕ) × (k + marks_left (set t (node_of s j c) v) ≤ 3 * length t) × Leads s (set t (node_of s j c) v) k j c
+  counted : length (set t (node_of s j c) v) ≡ (s.columns + 1) * cell_count s
+  counted = length-set t (node_of s j c) v ∙ table.count
 
-  trail_here : Way → (j' c' : ℕ) → j' ≤ s.columns → c' < cell_count s → node_of s j' c' ≡ node_of s j c → 2 ≤ mark_of s (set t (node_of s j c) v) j' c' → Trail s (set t (node_of s j c) v) j' c'
-  trail_here way j' c' h' i' e m =
-      let same = same_from_place j' c' j c (cell_count s) i' i e in
-      let two : 2 ≤ v = omega (arith, mark_here j' c' e) in
-      let w = way two in
-      record {
-        steps = w.0;
-        few = omega (arith, w.1, length-set t (node_of s j c) v);
-        leads = leads_at s (set t (node_of s j c) v) w.0 j c j' c' same.0 same.1 w.2;
-      }
+  pub reached_here : v ≢ 0 → mark_of s (set t (node_of s j c) v) j c ≢ 0
+  reached_here nonzero e = nonzero (sym (here j c refl) ∙ e)
 
-  trail_there : (j' c' : ℕ) → j' ≤ s.columns → c' < cell_count s → (node_of s j' c' ≡ node_of s j c → ⊥) → 2 ≤ mark_of s (set t (node_of s j c) v) j' c' → Trail s (set t (node_of s j c) v) j' c'
-  trail_there j' c' h' i' e m =
-      let old = table.trails j' c' h' i' (omega (arith, mark_set_other s t (node_of s j c) j' c' v e)) in
-      record {
-        steps = old.steps;
-        few = omega (arith, old.few, fewer, length-set t (node_of s j c) v);
-        leads = leads_kept s t (set t (node_of s j c) v) kept old.steps j' c' h' i' old.leads;
-      }
+  -- a node that was not reached
+  module _ (none : mark_of s t j c ≡ 0) (low : v < 128) where
+    same : (j' c' : ℕ) → j' ≤ s.columns → c' < cell_count s → mark_of s t j' c' ≢ 0 → mark_of s (set t (node_of s j c) v) j' c' ≡ mark_of s t j' c'
+    same j' c' h' i' m = there j' c' (λ e. m (old_here j' c' e ∙ none))
 
-  pub raised : Way → Grows s t (set t (node_of s j c) v) 1
-  raised way = record {
-    table = record {
-      count = length-set t (node_of s j c) v ∙ table.count;
-      end = kept 0 (end_of s) (omega arith) (end_below s) (omega (arith, table.end)) ∙ table.end;
-      start = start_kept;
-      trails = λ j' c' h' i' m. ⊎_elim (λ (e : node_of s j' c' ≡ node_of s j c). trail_here way j' c' h' i' e m) (λ (e : node_of s j' c' ≡ node_of s j c → ⊥). trail_there j' c' h' i' e m) (cases_eq (node_of s j' c') (node_of s j c));
-    };
-    fewer = fewer;
-  }
+    followed_after : (j' c' : ℕ) → j' ≤ s.columns → c' < cell_count s → 128 ≤ mark_of s (set t (node_of s j c) v) j' c' → IsFollowed s (set t (node_of s j c) v) j' c'
+    followed_after j' c' h' i' m =
+        ⊎_elim
+        (λ (e : node_of s j' c' ≡ node_of s j c). absurd (omega (arith, here j' c' e)))
+        (λ (e : node_of s j' c' ≡ node_of s j c → ⊥). followed_kept s t (set t (node_of s j c) v) (kept_by_same s t (set t (node_of s j c) v) same) j' c' i' (table.followed j' c' h' i' (omega (arith, there j' c' e))))
+        (cases_eq (node_of s j' c') (node_of s j c))
 
--- ---- the ways in which a node is marked
+    pub reach_adds : Adds s t (set t (node_of s j c) v)
+    reach_adds = record {
+      table = record {
+        count = counted;
+        start = kept_by_same s t (set t (node_of s j c) v) same 0 (start_of s) (omega arith) (start_below s) table.start;
+        followed = followed_after;
+      };
+      same = same;
+      fewer = omega (arith, left_set, none);
+    }
 
--- a node that was not reached before
-pub reached_grows : (s : System) (t : List ℕ) (j c : ℕ) → IsTable s t → j ≤ s.columns → c < cell_count s → mark_of s t j c ≡ 0 → Grows s t (set t (node_of s j c) 1) 1
-reached_grows s t j c table h i m = raised s t j c 1 table h i (omega arith) (omega arith) (omega arith) (λ two. absurd (omega arith))
+  -- a node that was reached, and whose steps were followed
+  module _ (m : ℕ) (mark : mark_of s t j c ≡ m) (low : m < 128) (more : v ≡ m + 128) (done : IsFollowed s t j c) where
+    grown : Kept s t (set t (node_of s j c) v)
+    grown j' c' h' i' k z =
+        ⊎_elim
+        (λ (e : node_of s j' c' ≡ node_of s j c). absurd (omega (arith, here j' c' e)))
+        (λ (e : node_of s j' c' ≡ node_of s j c → ⊥). k (sym (there j' c' e) ∙ z))
+        (cases_eq (node_of s j' c') (node_of s j c))
 
--- a reached node from which a digit 0 leads on
-pub skip_grows : (s : System) (t : List ℕ) (j c : ℕ) → IsTable s t → c < cell_count s → mark_of s t j c ≡ 1 → j < s.columns → 2 ≤ mark_of s t (suc j) c → Grows s t (set t (node_of s j c) 2) 1
-unfolding Leads
-skip_grows s t j c table i m h two =
-    let g : j ≤ s.columns = omega arith in
-    let low : mark_of s t j c < 2 = omega arith in
-    let few : 2 ≤ 3 = omega arith in
-    let r = table.trails (suc j) c h i two in
-    raised s t j c 2 table g i low low few (λ _. (
-      suc r.steps,
-      omega (arith, r.few, fewer s t j c 2 table g i low low few),
-      inl (record {
-        mark = mark_here s t j c 2 table g i low low few j c refl;
-        column = h;
-        next = leads_kept s t (set t (node_of s j c) 2) (kept s t j c 2 table g i low low few) r.steps (suc j) c h i r.leads;
-      }),
-    ))
+    followed_at : (j' c' : ℕ) → j' ≡ j → c' ≡ c → IsFollowed s t j' c'
+    followed_at j' c' e f = rw (e, f) done
 
--- a reached node from which a digit 1 leads on
-pub take_grows : (s : System) (t : List ℕ) (j c : ℕ) → IsTable s t → c < cell_count s → mark_of s t j c ≡ 1 → j < s.columns → CanTake s j c → 2 ≤ mark_of s t (suc j) (taken_of s j c) → Grows s t (set t (node_of s j c) 3) 1
-unfolding Leads
-take_grows s t j c table i m h can two =
-    let g : j ≤ s.columns = omega arith in
-    let low : mark_of s t j c < 2 = omega arith in
-    let more : mark_of s t j c < 3 = omega arith in
-    let few : 3 ≤ 3 = omega arith in
-    let r = table.trails (suc j) (taken_of s j c) h (taken_below s j c can) two in
-    raised s t j c 3 table g i low more few (λ _. (
-      suc r.steps,
-      omega (arith, r.few, fewer s t j c 3 table g i low more few),
-      inr (inl (record {
-        mark = mark_here s t j c 3 table g i low more few j c refl;
-        column = h;
-        can = can;
-        next = leads_kept s t (set t (node_of s j c) 3) (kept s t j c 3 table g i low more few) r.steps (suc j) (taken_of s j c) h (taken_below s j c can) r.leads;
-      })),
-    ))
+    done_here : (j' c' : ℕ) → c' < cell_count s → node_of s j' c' ≡ node_of s j c → IsFollowed s t j' c'
+    done_here j' c' i' e = let both = same_from_place j' c' j c (cell_count s) i' i e in followed_at j' c' both.0 both.1
 
--- a reached node after the last column from which halving leads on
-pub halve_grows : (s : System) (t : List ℕ) (j c : ℕ) → IsTable s t → c < cell_count s → mark_of s t j c ≡ 1 → j ≡ s.columns → CanHalve s c → 2 ≤ mark_of s t 0 (halved_of s c) → Grows s t (set t (node_of s j c) 2) 1
-unfolding Leads
-halve_grows s t j c table i m h can two =
-    let g : j ≤ s.columns = omega arith in
-    let low : mark_of s t j c < 2 = omega arith in
-    let few : 2 ≤ 3 = omega arith in
-    let r = table.trails 0 (halved_of s c) (omega arith) (halved_below s c can) two in
-    raised s t j c 2 table g i low low few (λ _. (
-      suc r.steps,
-      omega (arith, r.few, fewer s t j c 2 table g i low low few),
-      inr (inr (record {
-        mark = mark_here s t j c 2 table g i low low few j c refl;
-        column = h;
-        can = can;
-        next = leads_kept s t (set t (node_of s j c) 2) (kept s t j c 2 table g i low low few) r.steps 0 (halved_of s c) (omega arith) (halved_below s c can) r.leads;
-      })),
-    ))
+    done_after : (j' c' : ℕ) → j' ≤ s.columns → c' < cell_count s → 128 ≤ mark_of s (set t (node_of s j c) v) j' c' → IsFollowed s (set t (node_of s j c) v) j' c'
+    done_after j' c' h' i' k =
+        ⊎_elim
+        (λ (e : node_of s j' c' ≡ node_of s j c). followed_kept s t (set t (node_of s j c) v) grown j' c' i' (done_here j' c' i' e))
+        (λ (e : node_of s j' c' ≡ node_of s j c → ⊥). followed_kept s t (set t (node_of s j c) v) grown j' c' i' (table.followed j' c' h' i' (omega (arith, there j' c' e))))
+        (cases_eq (node_of s j' c') (node_of s j c))
+
+    pub finish_table : IsTable s (set t (node_of s j c) v)
+    finish_table = record {
+      count = counted;
+      start = grown 0 (start_of s) (omega arith) (start_below s) table.start;
+      followed = done_after;
+    }
+
+    pub finish_fewer : marks_left (set t (node_of s j c) v) < marks_left t
+    finish_fewer = omega (arith, left_set, mark)

@@ -3,8 +3,12 @@ use Rattle.std.specs.Prelude.{◌≡◌, ℕ, ◌<◌, ◌≤◌, min}
 use Rattle.jh_digits.specs.declared.system.System.{System}
 use Rattle.jh_digits.specs.declared.system.Solved.{Solved}
 use Rattle.jh_digits.specs.declared.system.Solved.TheVariants.{Solution, NoSolution, TooLarge}
-use Rattle.jh_digits.specs.Solution.{IsSolution, HasColumns, spelled}
+use Rattle.jh_digits.specs.Solution.{entry_of, right_of, weighted, IsSolution, HasColumns, spelled}
 use Rattle.jh_digits.specs.Nodes.{node_count, node_limit, count_max}
+
+-- no natural numbers make a row equal to its right side
+abbrev pub IsUnequal : System → ℕ → Type 0
+IsUnequal s i = (v : ℕ → ℕ) → ¬ (weighted (entry_of s i) v s.columns ≡ right_of s i)
 
 -- the digits of a solution have a digit for each column, and spell numbers that solve the system
 abbrev pub IfSolution : System → Solved → Type 0

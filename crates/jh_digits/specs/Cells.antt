@@ -2,7 +2,7 @@
 -- met so far. It is a number in mixed radix: first a coordinate below 2 for each need, 1 where the
 -- need is met; then one for each row, the remainder raised by the row's depth so that it is not
 -- below 0.
-use Rattle.std.specs.Prelude.{◌≡◌, ◌==◌, ℕ, zero, suc, ◌+◌, ◌*◌, ◌-◌, ◌/◌, ◌%◌, ◌<◌, ◌≤◌, nat_lt, nat_le, max, ℤ, List, Bool, if◌then◌else◌, length, slice_index}
+use Rattle.std.specs.Prelude.{◌≡◌, ◌==◌, ℕ, zero, suc, ◌+◌, ◌*◌, ◌-◌, ◌/◌, ◌%◌, ◌^◌, ◌<◌, ◌≤◌, nat_lt, nat_le, max, ℤ, List, Bool, if◌then◌else◌, length, slice_index}
 use Rattle.std.specs.List.{list_any}
 use Rattle.jh_digits.specs.declared.system.System.{System}
 use Rattle.jh_digits.specs.declared.space.Step.{Step}
@@ -83,6 +83,14 @@ cell_count s = stride (radix s) (coordinates s)
 unfoldable pub cell_of : System → (ℕ → ℕ) → ℕ
 cell_of s x = code (radix s) x (coordinates s)
 
+-- the coordinates of the needs after a step, as a number whose bits they are
+abbrev pub flags_of : System → Step → ℕ → ℕ
+flags_of s step cell = code (radix s) (next_of s step cell) (length s.needs)
+
+-- the needs that name a column, as a number whose bits they are
+abbrev pub mask_of : System → ℕ → ℕ
+mask_of s j = code (radix s) (λ k. if names (need_of s k) j then 1 else 0) (length s.needs)
+
 abbrev pub StepFits : System → Step → Type 0
 StepFits s (Take j) = j < s.columns
 StepFits s _ = Unit {0}
@@ -93,5 +101,8 @@ pub record IsSpace (s : System) (space : Space) : Type 0 where
   pub depths_count : length space.depths.items ≡ coordinates s
   pub widths : (i : ℕ) → i < coordinates s → slice_index space.widths.items i ≡ radix s i
   pub depths : (i : ℕ) → i < coordinates s → slice_index space.depths.items i ≡ depth s i
+  pub masks_count : length space.masks.items ≡ s.columns
+  pub masks : (j : ℕ) → j < s.columns → slice_index space.masks.items j ≡ mask_of s j
+  pub flags : space.flags ≡ 2 ^ length s.needs
   pub cells : space.cells ≡ cell_count s
   pub small : (s.columns + 1) * cell_count s ≤ node_limit

@@ -5,4 +5,3 @@ pub mod Answers
 pub mod Cells
 pub mod Closed
 pub mod Table
-pub mod Walk

@@ -1,12 +1,11 @@
--- What a search has found, a mark for each node: 0 for a node that was not reached, 1 for one that
--- was, 2 for one that leads to the end by a digit 0 or by halving, and for the end itself, 3 for one
--- that leads there by a digit 1.
-use Rattle.std.specs.Prelude.{◌≡◌, ◌≢◌, ℕ, zero, suc, ◌+◌, ◌*◌, ◌-◌, ◌<◌, ◌≤◌, ◌⊎◌, List, length, slice_index}
+-- What a search has found, a mark for each node: 0 for a node that was not reached; for one that was, in which layer of
+-- digits, counted from 1 and at most 127, and 128 more where its steps were followed.
+use Rattle.std.specs.Prelude.{◌≡◌, ◌≢◌, ℕ, suc, ◌+◌, ◌*◌, ◌-◌, ◌<◌, ◌≤◌, List, length, slice_index}
 use Rattle.std.specs.List.{sum_by}
 use Rattle.jh_digits.specs.declared.system.System.{System}
 use Rattle.jh_digits.specs.declared.space.Step.TheVariants.{Take, Halve}
 use Rattle.jh_digits.specs.Cells.{next_of, IsInRange, cell_of, cell_count}
-use Rattle.jh_digits.specs.Closed.{start_of, end_of}
+use Rattle.jh_digits.specs.Closed.{start_of}
 
 -- the number of a node
 abbrev pub node_of : System → ℕ → ℕ → ℕ
@@ -28,51 +27,23 @@ CanTake s j c = IsInRange s (next_of s (Take j) c)
 unfoldable pub CanHalve : System → ℕ → Type 0
 CanHalve s c = IsInRange s (next_of s Halve c)
 
--- how many marks there may still be
+-- how much marks may still grow
 unfoldable pub marks_left : List ℕ → ℕ
-marks_left table = sum_by (λ mark. 3 - mark) table
+marks_left table = sum_by (λ mark. 255 - mark) table
 
-pub record LeadsSkip (s : System) (table : List ℕ) (Rest : ℕ → ℕ → Type 0) (j c : ℕ) : Type 0 where
-  pub mark : mark_of s table j c ≡ 2
-  pub column : j < s.columns
-  pub next : Rest (suc j) c
-
-pub record LeadsTake (s : System) (table : List ℕ) (Rest : ℕ → ℕ → Type 0) (j c : ℕ) : Type 0 where
-  pub mark : mark_of s table j c ≡ 3
-  pub column : j < s.columns
-  pub can : CanTake s j c
-  pub next : Rest (suc j) (taken_of s j c)
-
-pub record LeadsHalve (s : System) (table : List ℕ) (Rest : ℕ → ℕ → Type 0) (j c : ℕ) : Type 0 where
-  pub mark : mark_of s table j c ≡ 2
-  pub column : j ≡ s.columns
-  pub can : CanHalve s c
-  pub next : Rest 0 (halved_of s c)
-
--- the marks lead from column j and cell c to the end in k steps
-unfoldable pub Leads : System → List ℕ → ℕ → ℕ → ℕ → Type 0
-Leads s table zero j c = (j ≡ 0) × (c ≡ end_of s)
-Leads s table (suc k) j c = LeadsSkip s table (Leads s table k) j c ⊎ (LeadsTake s table (Leads s table k) j c ⊎ LeadsHalve s table (Leads s table k) j c)
-
--- how many steps the marks lead to the end in, and that these were marked one by one
-pub record Trail (s : System) (table : List ℕ) (j c : ℕ) : Type 0 where
-  pub steps : ℕ
-  pub few : steps + marks_left table ≤ 3 * length table
-  pub leads : Leads s table steps j c
+-- the steps from a node lead to nodes that were reached
+pub record IsFollowed (s : System) (table : List ℕ) (j c : ℕ) : Type 0 where
+  pub skip : j < s.columns → mark_of s table (suc j) c ≢ 0
+  pub take : j < s.columns → CanTake s j c → mark_of s table (suc j) (taken_of s j c) ≢ 0
+  pub halve : j ≡ s.columns → CanHalve s c → mark_of s table 0 (halved_of s c) ≢ 0
 
 pub record IsTable (s : System) (table : List ℕ) : Type 0 where
   pub count : length table ≡ (s.columns + 1) * cell_count s
-  pub end : mark_of s table 0 (end_of s) ≡ 2
   pub start : mark_of s table 0 (start_of s) ≢ 0
-  pub trails : (j c : ℕ) → j ≤ s.columns → c < cell_count s → 2 ≤ mark_of s table j c → Trail s table j c
+  pub followed : (j c : ℕ) → j ≤ s.columns → c < cell_count s → 128 ≤ mark_of s table j c → IsFollowed s table j c
 
--- the steps from a node lead to nodes that were reached and are not known to lead to the end
-pub record IsStuck (s : System) (table : List ℕ) (j c : ℕ) : Type 0 where
-  pub skip : j < s.columns → mark_of s table (suc j) c ≡ 1
-  pub take : j < s.columns → CanTake s j c → mark_of s table (suc j) (taken_of s j c) ≡ 1
-  pub halve : j ≡ s.columns → CanHalve s c → mark_of s table 0 (halved_of s c) ≡ 1
-
--- from one table to a later one: marks may be added
-pub record Grows (s : System) (old new : List ℕ) (changed : ℕ) : Type 0 where
+-- from one table to a later one: nodes may be reached, and all else stays
+pub record Adds (s : System) (old new : List ℕ) : Type 0 where
   pub table : IsTable s new
-  pub fewer : marks_left new + changed ≤ marks_left old
+  pub same : (j c : ℕ) → j ≤ s.columns → c < cell_count s → mark_of s old j c ≢ 0 → mark_of s new j c ≡ mark_of s old j c
+  pub fewer : marks_left new ≤ marks_left old

@@ -83,7 +83,7 @@ pub(crate) fn minus_right(system: &System, row: usize) -> u64
 }
 
 /// The sum of a row's positive factors.
-fn positive_sum(system: &System, row: usize) -> u128
+pub(crate) fn positive_sum(system: &System, row: usize) -> u128
     requires formed { IsWellFormed system.now }
     requires row { row < system.now.rows }
     ensures value { result ≡ positive (entry_of system.now row) system.now.columns }
@@ -97,7 +97,7 @@ fn positive_sum(system: &System, row: usize) -> u128
 }
 
 /// The sum of a row's negated negative factors.
-fn negative_sum(system: &System, row: usize) -> u128
+pub(crate) fn negative_sum(system: &System, row: usize) -> u128
     requires formed { IsWellFormed system.now }
     requires row { row < system.now.rows }
     ensures value { result ≡ negative (entry_of system.now row) system.now.columns }

@@ -1,80 +1,36 @@
-ghost use Rattle.std.specs.Prelude.{◌≡◌, ◌<◌, ◌≤◌, ◌+◌, ◌*◌, length};
-ghost use Rattle.jh_digits.specs.Solution.{IsWellFormed};
-ghost use Rattle.jh_digits.specs.Cells.{cell_count, IsSpace};
+ghost use Rattle.std.specs.Prelude.{◌≡◌, ◌<◌, ◌≤◌, ◌≢◌, ℕ, true, false};
+ghost use Rattle.jh_digits.specs.Solution.{IsWellFormed, IsSolution};
+ghost use Rattle.jh_digits.specs.Cells.{IsSpace};
 ghost use Rattle.jh_digits.specs.Table.{marks_left, IsTable};
 
 use crate::System;
-use crate::marking::{halve_cell, reach, take_cell, visit};
+use crate::following::{Node, visit};
+use crate::marking::{end_cell, mark_at};
 use crate::space::Space;
-use jh_name::NoMemory;
+use crate::sweeping::sweep;
 use std::collections::VecDeque;
 
-/// Marks a node as reached, and puts it into the queue if it was not. Whether it leads to the end.
-fn offer(
+/// Visits a node of the queue.
+fn visit_node(
     system: &System,
     space: &Space,
     table: &mut [u8],
-    queue: &mut VecDeque<u32>,
-    column: usize,
-    cell: usize,
-) -> Result<bool, NoMemory>
-    requires space { IsSpace system.now space.now }
-    requires table { IsTable system.now table.old }
-    requires column { column ≤ system.now.columns }
-    requires cell { cell < cell_count system.now }
-    ensures table { IsTable system.now table.new }
-    ensures fewer { marks_left table.new ≤ marks_left table.old }
-{
-    let mark = reach(system, space, table, column, cell);
-    if mark == 0 {
-        queue.push_back((column * space.cells + cell) as u32)?;
-    }
-    Ok(mark >= 2)
-}
-
-/// Offers the nodes to which a node leads. Whether one of them leads to the end.
-fn expand(
-    system: &System,
-    space: &Space,
-    table: &mut [u8],
-    queue: &mut VecDeque<u32>,
-    column: usize,
-    cell: usize,
-) -> Result<bool, NoMemory>
+    queue: &mut VecDeque<Node>,
+    node: Node,
+)
     requires formed { IsWellFormed system.now }
     requires space { IsSpace system.now space.now }
     requires table { IsTable system.now table.old }
-    requires cell { cell < cell_count system.now }
     ensures table { IsTable system.now table.new }
     ensures fewer { marks_left table.new ≤ marks_left table.old }
 {
-    if column >= system.columns as usize {
-        return match halve_cell(system, space, cell) {
-            Some(halved) => offer(system, space, table, queue, 0, halved),
-            None => Ok(false),
-        };
-    }
-    if offer(system, space, table, queue, column + 1, cell)? {
-        return Ok(true);
-    }
-    match take_cell(system, space, column, cell) {
-        Some(taken) => offer(system, space, table, queue, column + 1, taken),
-        None => Ok(false),
+    if node.column <= system.columns as usize && node.cell < space.cells {
+        let _ = visit(system, space, table, queue, node.column, node.cell);
     }
 }
 
-/// How many nodes are kept in the order in which they were explored.
-const ORDER_LIMIT: usize = 1 << 22;
-
-/// Goes on from the nodes in the queue, the nearest first, until one leads to the end or none is
-/// left, and keeps the order. It only saves sweeps.
-pub(crate) fn explore(
-    system: &System,
-    space: &Space,
-    table: &mut [u8],
-    queue: &mut VecDeque<u32>,
-    order: &mut Vec<u32>,
-) -> Result<(), NoMemory>
+/// Goes on from the nodes in the queue, the nearest first, until the end is reached or none is left.
+fn explore(system: &System, space: &Space, table: &mut [u8], queue: &mut VecDeque<Node>, end: usize)
     requires formed { IsWellFormed system.now }
     requires space { IsSpace system.now space.now }
     requires table { IsTable system.now table.old }
@@ -84,39 +40,35 @@ pub(crate) fn explore(
     for _ in 0..table.len() {
         let node = match queue.pop_front() {
             Some(node) => node,
-            None => return Ok(()),
+            None => return,
         };
-        if order.len() < ORDER_LIMIT {
-            order.push(node)?;
-        }
-        let node = node as usize;
-        if expand(
-            system,
-            space,
-            table,
-            queue,
-            node / space.cells,
-            node % space.cells,
-        )? {
-            return Ok(());
+        visit_node(system, space, table, queue, node);
+        if end < table.len() && table[end] != 0 {
+            return;
         }
     }
-    Ok(())
 }
 
-/// Visits explored nodes, the last one first: each of them was reached from one before it.
-pub(crate) fn retrace(system: &System, space: &Space, table: &mut [u8], order: &[u32])
+/// Goes on until the end is reached, or a sweep finds no node to follow. Whether the end is reached.
+pub(crate) fn is_end_reached(
+    system: &System,
+    space: &Space,
+    table: &mut [u8],
+    queue: &mut VecDeque<Node>,
+) -> bool
     requires formed { IsWellFormed system.now }
     requires space { IsSpace system.now space.now }
     requires table { IsTable system.now table.old }
     ensures table { IsTable system.now table.new }
-    ensures fewer { marks_left table.new ≤ marks_left table.old }
+    ensures none { result ≡ false → (v : ℕ → ℕ) → ¬ IsSolution system.now v }
 {
-    for place in 0..order.len() {
-        let node = order[order.len() - 1 - place] as usize;
-        let column = node / space.cells;
-        if column <= system.columns as usize {
-            let _ = visit(system, space, table, column, node % space.cells);
+    let end = end_cell(system, space);
+    explore(system, space, table, queue, end);
+    while mark_at(system, space, table, 0, end) == 0 {
+        if !sweep(system, space, table, queue) {
+            return false;
         }
+        explore(system, space, table, queue, end);
     }
+    true
 }

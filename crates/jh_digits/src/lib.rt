@@ -4,13 +4,15 @@
 mod checking;
 mod counting;
 mod exploring;
+mod following;
 mod marking;
+mod refusing;
 mod solving;
 mod space;
 mod sweeping;
 mod system;
 mod tables;
-mod walking;
+mod tracing;
 
 pub use checking::holds;
 pub use counting::nodes;

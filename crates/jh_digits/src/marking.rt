@@ -1,11 +1,14 @@
-ghost use Rattle.std.specs.Prelude.{◌≡◌, ◌<◌, ◌≤◌, ◌*◌, ◌+◌, length, suc, true, false, IfSome, IfNone, slice_set};
+ghost use Rattle.std.specs.Prelude.{◌≡◌, ◌≢◌, ◌<◌, ◌≤◌, ◌*◌, ◌+◌, length, suc, IfSome, IfNone, slice_set};
 ghost use Rattle.jh_digits.specs.Solution.{IsWellFormed};
 ghost use Rattle.jh_digits.specs.Cells.{cell_count, IsSpace};
 ghost use Rattle.jh_digits.specs.Closed.{start_of, end_of};
-ghost use Rattle.jh_digits.specs.Table.{node_of, mark_of, taken_of, halved_of, CanTake, CanHalve, marks_left, IsTable, IsStuck, Grows};
+ghost use Rattle.jh_digits.specs.Table.{node_of, mark_of, taken_of, halved_of, CanTake, CanHalve, marks_left, IsTable, IsFollowed, Adds};
 
 use crate::System;
 use crate::space::{Space, Step, cell_after};
+
+/// What is added to the mark of a node whose steps were followed.
+pub(crate) const FOLLOWED: u8 = 128;
 
 /// The mark of a node.
 pub(crate) fn mark_at(
@@ -80,146 +83,43 @@ pub(crate) fn end_cell(system: &System, space: &Space) -> usize
     cell_after(system, space, Step::End, 0).unwrap()
 }
 
-/// Marks a node as reached if it was not, and gives the mark that it had.
+/// Marks a node as reached if it was not. Whether it was not.
 pub(crate) fn reach(
     system: &System,
     space: &Space,
     table: &mut [u8],
     column: usize,
     cell: usize,
-) -> u8
+    mark: u8,
+) -> bool
     requires space { IsSpace system.now space.now }
     requires table { IsTable system.now table.old }
     requires column { column ≤ system.now.columns }
     requires cell { cell < cell_count system.now }
+    requires mark { mark ≢ 0 }
+    requires waiting { mark < 128 }
+    ensures adds { Adds system.now table.old table.new }
+    ensures reached { mark_of system.now table.new column cell ≢ 0 }
+{
+    let is_new = mark_at(system, space, table, column, cell) == 0;
+    if is_new {
+        put_mark(system, space, table, column, cell, mark);
+    }
+    is_new
+}
+
+/// Marks a reached node whose steps all lead to reached nodes as followed.
+pub(crate) fn finish(system: &System, space: &Space, table: &mut [u8], column: usize, cell: usize)
+    requires space { IsSpace system.now space.now }
+    requires table { IsTable system.now table.old }
+    requires column { column ≤ system.now.columns }
+    requires cell { cell < cell_count system.now }
+    requires reached { mark_of system.now table.old column cell ≢ 0 }
+    requires waiting { mark_of system.now table.old column cell < 128 }
+    requires followed { IsFollowed system.now table.old column cell }
     ensures table { IsTable system.now table.new }
-    ensures fewer { marks_left table.new ≤ marks_left table.old }
+    ensures fewer { marks_left table.new < marks_left table.old }
 {
     let mark = mark_at(system, space, table, column, cell);
-    if mark == 0 {
-        put_mark(system, space, table, column, cell, 1);
-    }
-    mark
-}
-
-/// Marks a reached node before the last column, from which a digit 0 leads to a reached node, where
-/// a digit 1 leads to a cell that is given. Whether a mark changed.
-fn visit_taken(
-    system: &System,
-    space: &Space,
-    table: &mut [u8],
-    column: usize,
-    cell: usize,
-    taken: usize,
-) -> bool
-    requires formed { IsWellFormed system.now }
-    requires space { IsSpace system.now space.now }
-    requires table { IsTable system.now table.old }
-    requires column { column < system.now.columns }
-    requires cell { cell < cell_count system.now }
-    requires reached { mark_of system.now table.old column cell ≡ 1 }
-    requires can { CanTake system.now column cell }
-    requires taken { taken ≡ taken_of system.now column cell }
-    ensures grown { result ≡ true → Grows system.now table.old table.new 1 }
-    ensures same { result ≡ false → table.new ≡ table.old }
-    ensures stuck { result ≡ false → mark_of system.now table.old (suc column) (taken_of system.now column cell) ≡ 1 }
-{
-    let next = mark_at(system, space, table, column + 1, taken);
-    if next >= 2 {
-        put_mark(system, space, table, column, cell, 3);
-        return true;
-    }
-    if next == 0 {
-        put_mark(system, space, table, column + 1, taken, 1);
-        return true;
-    }
-    false
-}
-
-/// Marks a reached node before the last column, or one to which it leads. Whether a mark changed.
-fn visit_column(
-    system: &System,
-    space: &Space,
-    table: &mut [u8],
-    column: usize,
-    cell: usize,
-) -> bool
-    requires formed { IsWellFormed system.now }
-    requires space { IsSpace system.now space.now }
-    requires table { IsTable system.now table.old }
-    requires column { column < system.now.columns }
-    requires cell { cell < cell_count system.now }
-    requires reached { mark_of system.now table.old column cell ≡ 1 }
-    ensures grown { result ≡ true → Grows system.now table.old table.new 1 }
-    ensures same { result ≡ false → table.new ≡ table.old }
-    ensures stuck { result ≡ false → IsStuck system.now table.old column cell }
-{
-    let next = mark_at(system, space, table, column + 1, cell);
-    if next >= 2 {
-        put_mark(system, space, table, column, cell, 2);
-        return true;
-    }
-    if next == 0 {
-        put_mark(system, space, table, column + 1, cell, 1);
-        return true;
-    }
-    match take_cell(system, space, column, cell) {
-        Some(taken) => visit_taken(system, space, table, column, cell, taken),
-        None => false,
-    }
-}
-
-/// Marks a reached node after the last column, or the one to which it leads. Whether a mark changed.
-fn visit_last(system: &System, space: &Space, table: &mut [u8], column: usize, cell: usize) -> bool
-    requires formed { IsWellFormed system.now }
-    requires space { IsSpace system.now space.now }
-    requires table { IsTable system.now table.old }
-    requires column { column ≡ system.now.columns }
-    requires cell { cell < cell_count system.now }
-    requires reached { mark_of system.now table.old column cell ≡ 1 }
-    ensures grown { result ≡ true → Grows system.now table.old table.new 1 }
-    ensures same { result ≡ false → table.new ≡ table.old }
-    ensures stuck { result ≡ false → IsStuck system.now table.old column cell }
-{
-    let halved = match halve_cell(system, space, cell) {
-        Some(halved) => halved,
-        None => return false,
-    };
-    let next = mark_at(system, space, table, 0, halved);
-    if next >= 2 {
-        put_mark(system, space, table, column, cell, 2);
-        return true;
-    }
-    if next == 0 {
-        put_mark(system, space, table, 0, halved, 1);
-        return true;
-    }
-    false
-}
-
-/// Marks a node, or one to which it leads, where the marks so far tell more of it. Whether a mark
-/// changed.
-pub(crate) fn visit(
-    system: &System,
-    space: &Space,
-    table: &mut [u8],
-    column: usize,
-    cell: usize,
-) -> bool
-    requires formed { IsWellFormed system.now }
-    requires space { IsSpace system.now space.now }
-    requires table { IsTable system.now table.old }
-    requires column { column ≤ system.now.columns }
-    requires cell { cell < cell_count system.now }
-    ensures grown { result ≡ true → Grows system.now table.old table.new 1 }
-    ensures same { result ≡ false → table.new ≡ table.old }
-    ensures stuck { result ≡ false → mark_of system.now table.old column cell ≡ 1 → IsStuck system.now table.old column cell }
-{
-    if mark_at(system, space, table, column, cell) != 1 {
-        false
-    } else if column < system.columns as usize {
-        visit_column(system, space, table, column, cell)
-    } else {
-        visit_last(system, space, table, column, cell)
-    }
+    put_mark(system, space, table, column, cell, mark + FOLLOWED);
 }

@@ -2,19 +2,19 @@ ghost use Rattle.std.specs.Prelude.{◌≡◌, ◌<◌, ◌≤◌, ◌+◌, ◌*
 ghost use Rattle.jh_digits.specs.Solution.{IsWellFormed, IsSolution, HasColumns, spelled};
 ghost use Rattle.jh_digits.specs.Nodes.{node_count, node_limit, count_max};
 ghost use Rattle.jh_digits.specs.Cells.{cell_count, IsSpace};
-ghost use Rattle.jh_digits.specs.Closed.{start_of};
-ghost use Rattle.jh_digits.specs.Table.{mark_of, marks_left, IsTable};
+ghost use Rattle.jh_digits.specs.Table.{IsTable};
 ghost use Rattle.jh_digits.specs.Answers.{IfSolution, IfNoSolution, IfTooLarge};
 
 use crate::System;
 use crate::counting::nodes;
-use crate::exploring::{explore, retrace};
-use crate::marking::{end_cell, mark_at, start_cell};
+use crate::exploring::is_end_reached;
+use crate::following::Node;
+use crate::marking::start_cell;
+use crate::refusing::is_refused;
 use crate::space::Space;
-use crate::sweeping::sweep;
 use crate::system::{Digits, Solved};
 use crate::tables::space_of;
-use crate::walking::walk;
+use crate::tracing::trace;
 use jh_name::NoMemory;
 use std::alloc::Global;
 use std::collections::VecDeque;
@@ -22,7 +22,7 @@ use std::collections::VecDeque;
 /// The most nodes that `solve` looks through.
 const NODE_LIMIT: u128 = 67_108_864;
 
-/// The table in which the start is reached and the end leads to itself.
+/// The table in which the start is reached.
 fn first_table(alloc: Global, system: &System, space: &Space) -> Result<Vec<u8>, NoMemory>
     requires formed { IsWellFormed system.now }
     requires space { IsSpace system.now space.now }
@@ -31,29 +31,7 @@ fn first_table(alloc: Global, system: &System, space: &Space) -> Result<Vec<u8>,
     let count = (system.columns as usize + 1) * space.cells;
     let mut table = vec![in alloc; 0u8; count]?;
     table[start_cell(system, space)] = 1;
-    table[end_cell(system, space)] = 2;
     Ok(table)
-}
-
-/// Sweeps, and goes back along the order of exploration, until the start leads to the end or a sweep
-/// changes nothing. Whether the start does.
-fn leads_on(system: &System, space: &Space, table: &mut [u8], order: &[u32]) -> bool
-    requires formed { IsWellFormed system.now }
-    requires space { IsSpace system.now space.now }
-    requires table { IsTable system.now table.old }
-    ensures table { IsTable system.now table.new }
-    ensures leads { result ≡ true → 2 ≤ mark_of system.now table.new 0 (start_of system.now) }
-    ensures none { result ≡ false → (v : ℕ → ℕ) → ¬ IsSolution system.now v }
-{
-    let start = start_cell(system, space);
-    retrace(system, space, table, order);
-    while mark_at(system, space, table, 0, start) < 2 {
-        if !sweep(system, space, table) {
-            return false;
-        }
-        retrace(system, space, table, order);
-    }
-    true
 }
 
 /// Digits that solve a system of at most the limit's nodes, or none where there are none.
@@ -67,11 +45,13 @@ fn search(alloc: Global, system: &System) -> Result<Option<Digits>, NoMemory>
     let space = space_of(alloc, system)?;
     let mut table = first_table(alloc, system, &space)?;
     let mut queue = VecDeque::new(alloc);
-    queue.push_back(start_cell(system, &space) as u32)?;
-    let mut order = Vec::new(alloc);
-    explore(system, &space, &mut table, &mut queue, &mut order)?;
-    if leads_on(system, &space, &mut table, &order) {
-        Ok(Some(walk(alloc, system, &space, &table)?))
+    let start = Node {
+        column: 0,
+        cell: start_cell(system, &space),
+    };
+    queue.push_back(start)?;
+    if is_end_reached(system, &space, &mut table, &mut queue) {
+        Ok(Some(trace(alloc, system, &space, &table)?))
     } else {
         Ok(None)
     }
@@ -89,6 +69,9 @@ pub fn solve(alloc: Global, system: &System) -> Solved
     let count = nodes(system);
     if count > NODE_LIMIT {
         return Solved::TooLarge(count);
+    }
+    if is_refused(system) {
+        return Solved::NoSolution;
     }
     match search(alloc, system) {
         Ok(Some(digits)) => Solved::Solution(digits),

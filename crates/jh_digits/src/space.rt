@@ -1,8 +1,8 @@
-ghost use Rattle.std.specs.Prelude.{◌≡◌, ◌==◌, ◌<◌, ◌≤◌, length, IfSome, IfNone, slice_index};
+ghost use Rattle.std.specs.Prelude.{◌≡◌, ◌==◌, ◌<◌, ◌≤◌, ◌%◌, ◌^◌, length, IfSome, IfNone, slice_index};
 ghost use Rattle.std.specs.List.{list_any};
 ghost use Rattle.jh_digits.specs.Solution.{IsWellFormed, need_of};
 ghost use Rattle.jh_digits.specs.Nodes.{node_limit, width_of};
-ghost use Rattle.jh_digits.specs.Cells.{names, row_after, flag_after, after, radix, row_depth, coordinates, coordinate, next_of, IsInRange, cell_of, cell_count, StepFits, IsSpace};
+ghost use Rattle.jh_digits.specs.Cells.{names, row_after, flags_of, after, radix, row_depth, coordinates, coordinate, next_of, IsInRange, cell_of, cell_count, StepFits, IsSpace};
 
 use crate::System;
 use crate::counting::{minus_entry, minus_right, plus_entry, plus_right};
@@ -25,32 +25,25 @@ pub(crate) enum Step {
 pub(crate) struct Space {
     pub(crate) widths: Vec<u64>,
     pub(crate) depths: Vec<u64>,
+    /// For each column the needs that name it: need k is the bit of weight 2 to the power k.
+    pub(crate) masks: Vec<u64>,
+    /// 2 to the power of the number of needs.
+    pub(crate) flags: u64,
     pub(crate) cells: usize,
 }
 
-/// Whether a need names a column.
-fn is_named(need: &[u32], column: usize) -> bool
-    ensures { result ≡ names need.now column }
+/// The coordinates of the needs after a step, as bits.
+fn flags_after(system: &System, space: &Space, step: Step, cell: u64) -> u64
+    requires space { IsSpace system.now space.now }
+    requires step { StepFits system.now step }
+    ensures { result ≡ flags_of system.now step cell }
 {
-    need.iter().any(|named| *named as usize == column)
-}
-
-/// The coordinate of a need after a step.
-fn flag_after(system: &System, step: Step, need: usize, flag: u64) -> u64
-    requires { need < length system.now.needs }
-    ensures { result ≡ flag_after system.now step need flag }
-{
+    let flags = cell & (space.flags - 1);
     match step {
         Step::Start => 0,
-        Step::End => 1,
-        Step::Take(column) => {
-            if is_named(system.needs.items()[need].items(), column) {
-                1
-            } else {
-                flag
-            }
-        }
-        Step::Halve => flag,
+        Step::End => space.flags - 1,
+        Step::Take(column) => flags | space.masks[column],
+        Step::Halve => flags,
     }
 }
 
@@ -80,30 +73,27 @@ fn row_after(system: &System, step: Step, row: usize, depth: u64, width: u64, ra
     }
 }
 
-/// A coordinate after a step.
+/// The coordinate of a row after a step, by its place among all coordinates.
 fn coordinate_after(system: &System, space: &Space, step: Step, place: usize, value: u64) -> u64
     requires formed { IsWellFormed system.now }
     requires space { IsSpace system.now space.now }
     requires step { StepFits system.now step }
+    requires row { length system.now.needs ≤ place }
     requires place { place < coordinates system.now }
     requires value { value < radix system.now place }
     ensures { result ≡ after system.now step place value }
 {
     let needs = system.needs.items().len();
-    if place < needs {
-        flag_after(system, step, place, value)
-    } else {
-        let depths = space.depths.as_slice();
-        let widths = space.widths.as_slice();
-        row_after(
-            system,
-            step,
-            place - needs,
-            depths[place],
-            widths[place],
-            value,
-        )
-    }
+    let depths = space.depths.as_slice();
+    let widths = space.widths.as_slice();
+    row_after(
+        system,
+        step,
+        place - needs,
+        depths[place],
+        widths[place],
+        value,
+    )
 }
 
 /// The cell to which a step leads, or none where it leads out of the bounds.
@@ -116,11 +106,12 @@ pub(crate) fn cell_after(system: &System, space: &Space, step: Step, cell: usize
     ensures range { IfSome result (λ c. IsInRange system.now (next_of system.now step cell)) }
     ensures none { IfNone result (¬ IsInRange system.now (next_of system.now step cell)) }
 {
+    let needs = system.needs.items().len();
     let widths = space.widths.as_slice();
-    let mut rest = cell as u64;
-    let mut made = 0u64;
-    let mut scale = 1u64;
-    for place in 0..widths.len() {
+    let mut rest = cell as u64 >> needs;
+    let mut made = flags_after(system, space, step, cell as u64);
+    let mut scale = space.flags;
+    for place in needs..widths.len() {
         let width = widths[place];
         let next = coordinate_after(system, space, step, place, rest % width);
         if next >= width {

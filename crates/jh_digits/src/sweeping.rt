@@ -1,14 +1,21 @@
-ghost use Rattle.std.specs.Prelude.{◌≡◌, ◌<◌, ◌≤◌, ℕ, true, false};
+ghost use Rattle.std.specs.Prelude.{◌≡◌, ◌≢◌, ◌<◌, ◌≤◌, ℕ, true, false};
 ghost use Rattle.jh_digits.specs.Solution.{IsWellFormed};
 ghost use Rattle.jh_digits.specs.Cells.{cell_count, IsSpace};
-ghost use Rattle.jh_digits.specs.Table.{mark_of, marks_left, IsTable, IsStuck};
+ghost use Rattle.jh_digits.specs.Table.{mark_of, marks_left, IsTable};
 
 use crate::System;
-use crate::marking::visit;
+use crate::following::{Node, visit};
 use crate::space::Space;
+use std::collections::VecDeque;
 
-/// Visits the nodes of a column. Whether a mark changed.
-fn sweep_column(system: &System, space: &Space, table: &mut [u8], column: usize) -> bool
+/// Visits the nodes of a column. Whether one of them was followed.
+fn sweep_column(
+    system: &System,
+    space: &Space,
+    table: &mut [u8],
+    queue: &mut VecDeque<Node>,
+    column: usize,
+) -> bool
     requires formed { IsWellFormed system.now }
     requires space { IsSpace system.now space.now }
     requires table { IsTable system.now table.old }
@@ -16,32 +23,36 @@ fn sweep_column(system: &System, space: &Space, table: &mut [u8], column: usize)
     ensures table { IsTable system.now table.new }
     ensures fewer { result ≡ true → marks_left table.new < marks_left table.old }
     ensures same { result ≡ false → table.new ≡ table.old }
-    ensures stuck { result ≡ false → (c : ℕ) → c < cell_count system.now → mark_of system.now table.old column c ≡ 1 → IsStuck system.now table.old column c }
+    ensures followed { result ≡ false → (c : ℕ) → c < cell_count system.now → mark_of system.now table.old column c ≢ 0 → 128 ≤ mark_of system.now table.old column c }
 {
     let mut changed = false;
     for cell in 0..space.cells {
-        if visit(system, space, table, column, cell) {
+        if visit(system, space, table, queue, column, cell) {
             changed = true;
         }
     }
     changed
 }
 
-/// Visits all nodes, the last column first, so that one sweep goes back by a whole layer. Whether a
-/// mark changed.
-pub(crate) fn sweep(system: &System, space: &Space, table: &mut [u8]) -> bool
+/// Visits all nodes, the first column first, so that one sweep goes on by a whole layer. Whether one of them was
+/// followed.
+pub(crate) fn sweep(
+    system: &System,
+    space: &Space,
+    table: &mut [u8],
+    queue: &mut VecDeque<Node>,
+) -> bool
     requires formed { IsWellFormed system.now }
     requires space { IsSpace system.now space.now }
     requires table { IsTable system.now table.old }
     ensures table { IsTable system.now table.new }
     ensures fewer { result ≡ true → marks_left table.new < marks_left table.old }
     ensures same { result ≡ false → table.new ≡ table.old }
-    ensures stuck { result ≡ false → (j c : ℕ) → j ≤ system.now.columns → c < cell_count system.now → mark_of system.now table.old j c ≡ 1 → IsStuck system.now table.old j c }
+    ensures followed { result ≡ false → (j c : ℕ) → j ≤ system.now.columns → c < cell_count system.now → mark_of system.now table.old j c ≢ 0 → 128 ≤ mark_of system.now table.old j c }
 {
     let mut changed = false;
-    let columns = system.columns as usize;
-    for passed in 0..columns + 1 {
-        if sweep_column(system, space, table, columns - passed) {
+    for column in 0..system.columns as usize + 1 {
+        if sweep_column(system, space, table, queue, column) {
             changed = true;
         }
     }

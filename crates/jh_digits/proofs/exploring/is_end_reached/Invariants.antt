@@ -1,5 +1,5 @@
 use Rattle.jh_digits.specs.Table.{marks_left, IsTable}
-use Rattle.jh_digits.proofs.solving.leads_on.Given as goal
+use Rattle.jh_digits.proofs.exploring.is_end_reached.Given as goal
 
 abbrev pub invariant-loop-table : goal.invariant-loop-table
 invariant-loop-table l = IsTable l.system l.table
