@@ -12,6 +12,7 @@ mod Fitness
 mod Spelling
 mod Systematic
 pub mod Known
+mod Spoilings
 mod Searches
 mod Placements
 mod Gatherings

@@ -7,4 +7,5 @@ pub mod Within
 pub mod Searching
 pub mod Standing
 pub mod Made
+pub mod Spoiled
 pub mod Answers

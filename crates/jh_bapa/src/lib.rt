@@ -14,6 +14,7 @@ mod rows;
 mod sets;
 mod solving;
 mod splitting;
+mod spoiling;
 
 pub use deciding::{Decided, decide};
 pub use naming::is_well_formed;

@@ -8,6 +8,7 @@ ghost use Rattle.jh_bapa.specs.Standing.{NewTried, OldTried};
 ghost use Rattle.jh_bapa.specs.Within.{IsWithin};
 
 use crate::splitting::split;
+use crate::spoiling::are_spoiled;
 use jh_judge::{Atom, judge_query};
 use jh_name::NoMemory;
 use jh_query::{Query, Sizes, Spot, is_first, spot_of};
@@ -33,6 +34,10 @@ fn place_at(
     ensures some { IfOk result (λ found. IfSome found (λ sizes. Refutes (query_tree query.now) (sizing_of sizes))) }
 {
     spots.push(spot)?;
+    if are_spoiled(query.hyps.items(), spots) {
+        let _spot = spots.pop();
+        return Ok(None);
+    }
     if let Some(true) = judge_query(query, spots, atoms) {
         let _spot = spots.pop();
         return Ok(None);

@@ -1,4 +1,5 @@
-use Rattle.std.proofs.Common.{◌≡◌, List, ap, sym, subst, ◌∙◌, arith, length, rules}
+use Rattle.std.proofs.Common.{◌≡◌, ◌++◌, ◌∷◌, [], List, ap, sym, subst, ◌∙◌, arith, length, rules}
+use Rattle.std.proofs.lemmas.List.{length-append}
 use Rattle.jh_query.specs.declared.sizes.Spot.{Spot}
 use Rattle.jh_judge.specs.declared.casing.Atom.{Atom}
 use Rattle.jh_query.specs.Bare.{query_tree}
@@ -6,12 +7,19 @@ use Rattle.jh_bapa.specs.Cases.{conds_of}
 use Rattle.jh_bapa.specs.Searching.{IsCasing, IsPlacement}
 use Rattle.jh_bapa.proofs.Known.{none-then}
 use Rattle.jh_bapa.proofs.Searches.{none-of}
+use Rattle.jh_bapa.proofs.Spoilings.{spoiled-none}
 use Rattle.jh_bapa.proofs.Placements.{new-more, next-both, told-both}
 use Rattle.jh_bapa.proofs.placing.+place.Goals as goal
 
+pub place_at-returns-then-are_spoiled-clause-none : goal.place_at-returns-then-are_spoiled-clause-none
+place_at-returns-then-are_spoiled-clause-none t c =
+    spoiled-none (query_tree c.args.query.now) (c.args.spots.now.items ++ c.args.spot ∷ []) c.deref.result.now c.args.atoms.now.items (c.deref.ensures.value ∙ c.in_ok-push.ensures.items)
+    (omega (arith, length-append c.args.spots.now.items (c.args.spot ∷ []), c.requires.room))
+    (sym (rw c.items.ensures at c.are_spoiled.ensures) ∙ c.if-are_spoiled.true)
+
 pub place_at-returns-in-Some-true-clause-none : goal.place_at-returns-in-Some-true-clause-none
 place_at-returns-in-Some-true-clause-none t c =
-    told-both (query_tree c.args.query.now) _ c.deref.result.now c.args.atoms.now.items c.deref-2.result.now c.in-Some-true.field-0 c.in-Some-true.ensures.tells c.in-Some-true.field-0-test (c.deref.ensures.value ∙ c.in_ok-push.ensures.items) c.deref-2.ensures.value
+    told-both (query_tree c.args.query.now) _ c.deref-2.result.now c.args.atoms.now.items c.deref-3.result.now c.in-Some-true.field-0 c.in-Some-true.ensures.tells c.in-Some-true.field-0-test (c.deref-2.ensures.value ∙ c.in_ok-push.ensures.items) c.deref-3.ensures.value
 
 pub place_new-loop-region-preserved : goal.place_new-loop-region-preserved
 place_new-loop-region-preserved t c =
