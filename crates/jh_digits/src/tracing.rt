@@ -188,8 +188,9 @@ fn has_columns(layers: &[Row<bool>], columns: usize) -> bool
     true
 }
 
-/// The digits on the way to the end, which are a solution. No shortest way has more layers than marks tell, since no
-/// smallest solution has so many digits; but where one had, there would be no memory for it.
+/// The digits on the way to the end, which are a solution. Marks tell the layers up to the 126th, and a smallest solution
+/// of a system of at most the limit's nodes has at most 27 digits; where a way were longer, it would be said that memory
+/// ran out.
 pub(crate) fn trace(
     alloc: Global,
     system: &System,
