@@ -13,7 +13,7 @@ use std::alloc::Global;
 use std::io::Print;
 use std::time::{Clock, Instant};
 use std::{env, io};
-use systems::{one_need, one_row};
+use systems::{one_need, one_row, wide};
 
 /// One row: its factors, its right side, and how many of the first columns have a need.
 #[derive(Clone, Copy)]
@@ -80,10 +80,26 @@ static LARGE: &[Trial] = &[
         needs: 0,
     },
     Trial {
+        entries: &[1_250_001, -1_250_033, 1_249_999],
+        right: 1,
+        needs: 1,
+    },
+    Trial {
         entries: &[1001, -1003, 997, -1009, 991, -1013],
         right: 123_457,
         needs: 6,
     },
+];
+
+/// The factors of 64 columns.
+static FIVES_AND_SIXES: [i64; 64] = [
+    5, 6, 5, 6, 5, 6, 5, 6, 5, 6, 5, 6, 5, 6, 5, 6, 5, 6, 5, 6, 5, 6, 5, 6, 5, 6, 5, 6, 5, 6, 5, 6,
+    5, 6, 5, 6, 5, 6, 5, 6, 5, 6, 5, 6, 5, 6, 5, 6, 5, 6, 5, 6, 5, 6, 5, 6, 5, 6, 5, 6, 5, 6, 5, 6,
+];
+
+static ONES: [i64; 64] = [
+    1, 1, 1, 1, 1, 1, 1, 1, 1, 1, 1, 1, 1, 1, 1, 1, 1, 1, 1, 1, 1, 1, 1, 1, 1, 1, 1, 1, 1, 1, 1, 1,
+    1, 1, 1, 1, 1, 1, 1, 1, 1, 1, 1, 1, 1, 1, 1, 1, 1, 1, 1, 1, 1, 1, 1, 1, 1, 1, 1, 1, 1, 1, 1, 1,
 ];
 
 /// A column's number modulo 2 to the power of 63.
@@ -171,6 +187,15 @@ fn report_thousand(rt: &(impl Print + Clock), alloc: Global) -> io::Result<()> {
     println!(rt; "1000 systems of at most 100 nodes: {solved} solved, {time} ms")
 }
 
+/// Reports on rows of 64 columns with needs of 32 columns each: ten of them, where no numbers solve the row, and six,
+/// which one layer of digits meets.
+fn report_wide(rt: &(impl Print + Clock), alloc: Global) -> io::Result<()> {
+    let system = wide(alloc, &FIVES_AND_SIXES, 19, 10, 32)?;
+    report(rt, alloc, &system, true)?;
+    let system = wide(alloc, &ONES, 6, 6, 32)?;
+    report(rt, alloc, &system, true)
+}
+
 fn main(rt: HostRuntime) -> io::Result<()> {
     let alloc = rt.alloc();
     let words = env::args(&rt)?.count();
@@ -180,6 +205,7 @@ fn main(rt: HostRuntime) -> io::Result<()> {
     if words > 1 {
         report_thousand(&rt, alloc)?;
         report_all(&rt, alloc, LARGE, true)?;
+        report_wide(&rt, alloc)?;
     }
     Ok(())
 }
