@@ -13,6 +13,7 @@ mod Spelling
 mod Systematic
 pub mod Known
 mod Spoilings
+mod Choosing
 mod Searches
 mod Placements
 mod Gatherings

@@ -8,4 +8,5 @@ pub mod Searching
 pub mod Standing
 pub mod Made
 pub mod Spoiled
+pub mod Choices
 pub mod Answers

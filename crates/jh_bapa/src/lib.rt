@@ -4,6 +4,7 @@
 mod casing;
 mod counting;
 mod deciding;
+mod flagging;
 mod hoping;
 mod judging;
 mod lines;

@@ -10,6 +10,7 @@ ghost use Rattle.jh_bapa.specs.Searching.{IsCasing, IsPlacement, NoneLeft, Refut
 ghost use Rattle.jh_bapa.specs.Standing.{opens_at};
 ghost use Rattle.jh_bapa.specs.Within.{IsWithin};
 
+use crate::flagging::{are_flags_vain, open_flags};
 use crate::hoping::is_hopeless;
 use crate::judging::open_query;
 use crate::solving::solve_case;
@@ -106,6 +107,19 @@ fn is_hopeless_at(atoms: &[Atom<'_>], spots: &[Spot], place: usize) -> bool
     is_hopeless(atoms, spots, &atom)
 }
 
+/// How many flags are tried by words at least. Fewer are split one by one.
+const MANY_FLAGS: usize = 8;
+
+/// Whether nothing but many flags is open, and the query is true whatever they are.
+fn is_true_by_flags(query: &Query, spots: &[Spot], atoms: &[Atom<'_>]) -> bool
+    ensures { result ≡ true → NoneLeft (query_tree query.now) spots.now atoms.now }
+{
+    if query.flags > 32 || open_flags(atoms) < MANY_FLAGS {
+        return false;
+    }
+    are_flags_vain(query, spots, atoms)
+}
+
 /// Sizes of a placement that refute the query, with cases for the open atoms on which it hangs.
 #[cycle(split)]
 pub(crate) fn split(
@@ -126,10 +140,15 @@ pub(crate) fn split(
     match judge_query(query, spots, atoms) {
         Some(true) => Ok(None),
         Some(false) => solve_case(alloc, query, atoms, spots),
-        None => match open_query(query, spots, atoms) {
-            Some(place) => split_atom(alloc, query, atoms, spots, place),
-            None => Ok(None),
-        },
+        None => {
+            if is_true_by_flags(query, spots, atoms) {
+                return Ok(None);
+            }
+            match open_query(query, spots, atoms) {
+                Some(place) => split_atom(alloc, query, atoms, spots, place),
+                None => Ok(None),
+            }
+        }
     }
 }
 

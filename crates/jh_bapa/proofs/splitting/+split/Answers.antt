@@ -1,7 +1,8 @@
-use Rattle.std.proofs.Common.{◌≡◌, ap, sym, ◌∙◌, arith, length, rules}
+use Rattle.std.proofs.Common.{◌≡◌, ap, sym, ◌∙◌, arith, length, rules, subst, List}
+use Rattle.jh_judge.specs.declared.casing.Atom.{Atom}
 use Rattle.jh_query.specs.Bare.{cond_tree, query_tree}
 use Rattle.jh_query.specs.Named.{room_of}
-use Rattle.jh_bapa.specs.Searching.{is_open, open_count, with_case}
+use Rattle.jh_bapa.specs.Searching.{NoneLeft, is_open, open_count, with_case}
 use Rattle.jh_bapa.proofs.Searches.{at-closed, case-length, case-open, cases-none, chosen-casing, hopeless-case, hyps-stand, loop-casing, loop-falls, loop-inside, loop-kept, loop-none, named-stands, none-of, opens-inside, told-case}
 use Rattle.jh_bapa.proofs.splitting.+split.Goals as goal
 
@@ -11,8 +12,11 @@ split-open_query-requires-clause-hyps_stand t c = hyps-stand (room_of (query_tre
 pub split-open_query-requires-clause-goal_stands : goal.split-open_query-requires-clause-goal_stands
 split-open_query-requires-clause-goal_stands t c = named-stands (room_of (query_tree c.args.query.now)) (length c.args.spots.now) (query_tree c.args.query.now).goal (sym c.requires.full) c.requires.formed.goal
 
+pub split-returns-then-is_true_by_flags-clause-none : goal.split-returns-then-is_true_by_flags-clause-none
+split-returns-then-is_true_by_flags-clause-none t c = subst (λ (xs : List Atom). NoneLeft (query_tree c.args.query.now) c.args.spots.now xs) c.deref-in-None.ensures.value (c.is_true_by_flags.ensures c.if-is_true_by_flags.true)
+
 pub split-split_atom-requires : goal.split-split_atom-requires
-split-split_atom-requires t c = (omega (arith, c.decreases), (c.requires.formed, (c.requires.within, (c.requires.casing, (c.requires.placement, (c.requires.full, rw c.deref-in-None.ensures.value at c.in-Some.ensures.place))))))
+split-split_atom-requires t c = (omega (arith, c.decreases), (c.requires.formed, (c.requires.within, (c.requires.casing, (c.requires.placement, (c.requires.full, rw c.deref-in-None-2.ensures.value at c.in-Some.ensures.place))))))
 
 pub split-returns-in-Some-true-clause-none : goal.split-returns-in-Some-true-clause-none
 split-returns-in-Some-true-clause-none t c = told-case (query_tree c.args.query.now) c.args.spots.now c.deref.result.now c.args.atoms.now.items c.in-Some-true.field-0 c.in-Some-true.ensures.tells c.in-Some-true.field-0-test c.deref.ensures.value
