@@ -40,8 +40,16 @@ pub(crate) static KINDS: &[Large] = &[
         kind: Kind::Chain,
     },
     Large {
-        name: "parity of 8 flags",
-        kind: Kind::Parity(8),
+        name: "parity of 7 flags",
+        kind: Kind::Parity(7),
+    },
+    Large {
+        name: "parity of 20 flags",
+        kind: Kind::Parity(20),
+    },
+    Large {
+        name: "parity of 25 flags",
+        kind: Kind::Parity(25),
     },
     Large {
         name: "a multiple that is 1",
@@ -50,22 +58,6 @@ pub(crate) static KINDS: &[Large] = &[
     Large {
         name: "three large factors",
         kind: Kind::Cardinals,
-    },
-];
-
-/// Those that take long.
-pub(crate) static SLOW: &[Large] = &[
-    Large {
-        name: "parity of 12 flags",
-        kind: Kind::Parity(12),
-    },
-    Large {
-        name: "parity of 16 flags",
-        kind: Kind::Parity(16),
-    },
-    Large {
-        name: "parity of 20 flags",
-        kind: Kind::Parity(20),
     },
 ];
 

@@ -7,11 +7,11 @@ mod large;
 use jh_bapa::{Decided, decide, is_well_formed};
 use jh_query::{Query, fits, is_true, size};
 use jh_query_text::query_of;
-use large::{KINDS, Kind, SLOW, write_large};
+use large::{KINDS, Kind, write_large};
 use std::alloc::Global;
+use std::io;
 use std::io::{Eprint, Print};
 use std::time::{Clock, Instant};
-use std::{env, io};
 
 /// How many small queries are decided.
 const SMALL: u32 = 1_000;
@@ -109,15 +109,9 @@ fn time_small(rt: &(impl Print + Eprint + Clock), alloc: Global) -> io::Result<(
 
 fn main(rt: HostRuntime) -> io::Result<()> {
     let alloc = rt.alloc();
-    let words = env::args(&rt)?.count();
     time_small(&rt, alloc)?;
     for large in KINDS {
         time_large(&rt, alloc, large.kind, large.name)?;
-    }
-    if words > 1 {
-        for large in SLOW {
-            time_large(&rt, alloc, large.kind, large.name)?;
-        }
     }
     Ok(())
 }
