@@ -3,5 +3,6 @@ mod SideSteps
 mod StatementSteps
 mod CallSteps
 mod LoopSteps
+mod MethodSteps
 mod OutlinedSteps
 mod AlongSteps

@@ -70,15 +70,6 @@ pub(crate) fn push_call(
 {
     match outline.callable(call.class, call.method.text()) {
         None => Ok(turn),
-        Some(method) => push_known(
-            table,
-            commands,
-            outline,
-            this,
-            scope,
-            call,
-            &method,
-            turn,
-        ),
+        Some(method) => push_known(table, commands, outline, this, scope, call, &method, turn),
     }
 }

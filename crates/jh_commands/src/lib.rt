@@ -1,11 +1,13 @@
-//! The commands of statements, over the nodes of a table.
+//! The commands of statements and of methods, over the nodes of a table.
 #![tactic(auto)]
 
 mod calling;
 mod forming;
 mod loops;
+mod methods;
+mod returning;
 mod scope;
 mod sides;
 mod statements;
 
-pub use statements::push_all;
+pub use methods::{MethodCommand, of_method};

@@ -77,7 +77,13 @@ fn push_kept(
     ensures commands { OnOk result (AddsCommands table.new commands.old.items commands.new.items (steps.assert_claims kind.LoopKept (map (claim_in (source_of outline.now)) invariants.now) ++ w.stop ∷ [])) }
     ensures grows { Extends table.old table.new }
 {
-    assert_claims(table, commands, outline.formulas, MarkKind::LoopKept, invariants)?;
+    assert_claims(
+        table,
+        commands,
+        outline.formulas,
+        MarkKind::LoopKept,
+        invariants,
+    )?;
     push_stop(commands)
 }
 
@@ -256,29 +262,13 @@ fn push_one<'a>(
 {
     match code {
         Code::Empty => Ok(turn),
-        Code::Block(stmts) => push_all(
-            table,
-            commands,
-            outline,
-            this,
-            scope,
-            stmts.items(),
-            turn,
-        ),
+        Code::Block(stmts) => push_all(table, commands, outline, this, scope, stmts.items(), turn),
         Code::Assign(target, value) => {
             push_assign(table, commands, target, value)?;
             Ok(turn)
         }
         Code::New(_, target, class) => push_new(table, commands, target, class.text(), turn),
-        Code::Call(call) => push_call(
-            table,
-            commands,
-            outline,
-            this,
-            scope.as_slice(),
-            call,
-            turn,
-        ),
+        Code::Call(call) => push_call(table, commands, outline, this, scope.as_slice(), call, turn),
         Code::Branch(place, test, first, second) => {
             let test = tested(table, commands, outline, test)?;
             let first = first_side(table, outline, this, scope, *place, test, first, turn)?;
@@ -333,14 +323,7 @@ fn push_one<'a>(
             Ok(turn)
         }
         Code::Ghost(place, target, _, value) => {
-            push_ghost(
-                table,
-                commands,
-                outline.formulas,
-                *place,
-                *target,
-                *value,
-            )?;
+            push_ghost(table, commands, outline.formulas, *place, *target, *value)?;
             Ok(turn)
         }
     }
