@@ -1,0 +1,93 @@
+ghost use Rattle.std.specs.Prelude.{◌≡◌, ◌<◌, List, true, length, Some, IfOk, OnOk, slice_get};
+ghost use Rattle.jh_table.specs.Entries.{is_truth};
+ghost use Rattle.jh_table.specs.Growth.{Extends};
+ghost use Rattle.jh_table.specs.Nodes.{nodes};
+ghost use Rattle.jh_sequent.specs.Sequents.{HypTree};
+ghost use Rattle.jh_sequents.specs.Standing.{AreHyps};
+ghost use Rattle.jh_prove.specs.Memos.{found};
+ghost use Rattle.jh_prove.specs.Unlabelled.{IsUnlabelled, HoldsUnlabelled, AreFacts, AreUnlabelled, AreBare};
+
+use crate::memo::Memo;
+use jh_name::NoMemory;
+use jh_normal::unlabelled;
+use jh_sequents::{NodeHyp, Sequents};
+use jh_table::Table;
+use std::alloc::Global;
+
+/// The node of a formula without labels, made anew.
+fn made_without_labels(table: &mut Table, node: usize) -> Result<usize, NoMemory>
+    requires { is_truth (slice_get (nodes table.old) node) ≡ true }
+    ensures node { IfOk result (IsUnlabelled (nodes table.new) node) }
+    ensures grows { Extends table.old table.new }
+{
+    unlabelled(table, node)
+}
+
+/// The node of a formula without labels. They are taken off once for each node.
+pub(crate) fn without_labels(
+    table: &mut Table,
+    memo: &mut Memo,
+    node: usize,
+) -> Result<usize, NoMemory>
+    requires node { is_truth (slice_get (nodes table.old) node) ≡ true }
+    requires memo { HoldsUnlabelled (nodes table.old) (found memo.old.answers) }
+    ensures node { IfOk result (IsUnlabelled (nodes table.new) node) }
+    ensures memo { OnOk result (HoldsUnlabelled (nodes table.new) (found memo.new.answers)) }
+    ensures grows { Extends table.old table.new }
+{
+    match memo.known(node) {
+        Some(answer) => Ok(answer),
+        None => {
+            let answer = made_without_labels(table, node)?;
+            memo.note(node, answer)?;
+            Ok(answer)
+        }
+    }
+}
+
+/// The hypothesis at a place.
+fn hyp_at(hyps: &[NodeHyp], place: usize) -> NodeHyp
+    requires { place < length hyps.now }
+    ensures { slice_get hyps.now place ≡ Some result }
+{
+    hyps[place]
+}
+
+/// The nodes of the facts of hypotheses without labels.
+fn facts_without_labels(
+    table: &mut Table,
+    memo: &mut Memo,
+    hyps: &[NodeHyp],
+) -> Result<Vec<usize>, NoMemory>
+    requires hyps { AreFacts table.old hyps.now }
+    requires memo { HoldsUnlabelled (nodes table.old) (found memo.old.answers) }
+    ensures facts { IfOk result (λ made. AreUnlabelled (nodes table.new) hyps.now made.items) }
+    ensures memo { OnOk result (HoldsUnlabelled (nodes table.new) (found memo.new.answers)) }
+    ensures grows { Extends table.old table.new }
+{
+    let mut facts = Vec::new(table.alloc());
+    for place in 0..hyps.len() {
+        let hyp = hyp_at(hyps, place);
+        let fact = without_labels(table, memo, hyp.fact)?;
+        facts.push(fact)?;
+    }
+    Ok(facts)
+}
+
+/// The nodes of the facts of a list of hypotheses without labels.
+pub(crate) fn facts_of(
+    alloc: Global,
+    table: &mut Table,
+    memo: &mut Memo,
+    sequents: &Sequents,
+    list: Option<usize>,
+) -> Result<Vec<usize>, NoMemory>
+    requires list { (hs : List HypTree) × AreHyps table.old sequents.now.hyps list hs }
+    requires memo { HoldsUnlabelled (nodes table.old) (found memo.old.answers) }
+    ensures facts { IfOk result (λ made. (hs : List HypTree) → AreHyps table.old sequents.now.hyps list hs → AreBare (nodes table.new) hs made.items) }
+    ensures memo { OnOk result (HoldsUnlabelled (nodes table.new) (found memo.new.answers)) }
+    ensures grows { Extends table.old table.new }
+{
+    let hyps = sequents.hyps(alloc, list)?;
+    facts_without_labels(table, memo, hyps.as_slice())
+}
