@@ -1,3 +1,3 @@
 mod Pairing
 mod Bareness
-mod Rights
+pub mod Rights

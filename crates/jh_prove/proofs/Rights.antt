@@ -1,5 +1,5 @@
 -- Right answers.
-use Rattle.std.proofs.Common.{◌≡◌, sym, subst, ℕ, ◌+◌, true, false, List, [], ◌∷◌, ◌++◌, take, slice_get, Some}
+use Rattle.std.proofs.Common.{◌≡◌, refl, sym, ap, suc, length, subst, ℕ, ◌+◌, true, false, List, [], ◌∷◌, ◌++◌, take, slice_get, Some}
 use Rattle.jh_sequent.specs.Sequents.{SequentTree}
 use Rattle.jh_split.specs.Laws.{AllValid}
 use Rattle.jh_trivial.specs.Laws.{TrivialIsValid}
@@ -9,15 +9,23 @@ use Rattle.jh_prove.specs.Answers.{all_proved}
 use Rattle.jh_prove.specs.Right.{Right, AllRight}
 use Rattle.jh_prove.proofs.Pairing.{take-next}
 
-right-more : (ss : List SequentTree) (answers : List Answer) (s : SequentTree) (a : Answer) → AllRight ss answers → Right s a → AllRight (ss ++ s ∷ []) (answers ++ a ∷ [])
-right-more [] [] s a h right = (right, tt)
-right-more [] (b ∷ more) s a h right = absurd h
-right-more (x ∷ ss) [] s a h right = absurd h
-right-more (x ∷ ss) (b ∷ more) s a h right = (h.0, right-more ss more s a h.1 right)
+-- there are as many right answers as sequents
+pub right-length : (ss : List SequentTree) (answers : List Answer) → AllRight ss answers → length ss ≡ length answers
+right-length [] [] h = refl
+right-length [] (a ∷ more) h = absurd h
+right-length (s ∷ ss) [] h = absurd h
+right-length (s ∷ ss) (a ∷ more) h = ap suc (right-length ss more h.1)
+
+-- right answers for sequents, and for those behind them
+pub right-join : (ss ts : List SequentTree) (answers more : List Answer) → AllRight ss answers → AllRight ts more → AllRight (ss ++ ts) (answers ++ more)
+right-join [] ts [] more h k = k
+right-join [] ts (a ∷ answers) more h k = absurd h
+right-join (s ∷ ss) ts [] more h k = absurd h
+right-join (s ∷ ss) ts (a ∷ answers) more h k = (h.0, right-join ss ts answers more h.1 k)
 
 -- one more right answer for the first sequents
 pub right-next : (ss : List SequentTree) (answers : List Answer) (i : ℕ) (s : SequentTree) (a : Answer) → slice_get ss i ≡ Some s → AllRight (take i ss) answers → Right s a → AllRight (take (i + 1) ss) (answers ++ a ∷ [])
-right-next ss answers i s a at h right = subst (λ (xs : List SequentTree). AllRight xs (answers ++ a ∷ [])) (sym (take-next ss i s at)) (right-more (take i ss) answers s a h right)
+right-next ss answers i s a at h right = subst (λ (xs : List SequentTree). AllRight xs (answers ++ a ∷ [])) (sym (take-next ss i s at)) (right-join (take i ss) (s ∷ []) answers (a ∷ []) h (right, tt))
 
 wrong : false ≡ true → ⊥
 wrong e = cc
