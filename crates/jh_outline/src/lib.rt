@@ -1,0 +1,8 @@
+//! The outline of a program: all that the commands of its methods are made from.
+#![tactic(auto)]
+
+mod draft;
+mod framing;
+mod listing;
+
+pub use draft::{Declared, Draft, Tabled, draft_of};
