@@ -1,0 +1,5 @@
+mod Counted
+mod Formulas
+mod Outlined
+mod Shown
+mod Valid

@@ -1,0 +1,69 @@
+-- A program is sound where all sequents of its methods are valid.
+use Rattle.std.proofs.Common.{◌≡◌, refl, sym, ap, subst, ◌∙◌, ℕ, zero, suc, ◌+◌, List, [], ◌∷◌, Some, true, arith}
+use Rattle.jh_ast.specs.Programs.{ProgramTree}
+use Rattle.jh_rules.specs.Words.{text_of}
+use Rattle.jh_spread.specs.Spreads.{IsIn}
+use Rattle.jh_vars.specs.Written.{Callee}
+use Rattle.jh_written.proofs.Gathering.{some-is, in-gathered}
+use Rattle.jh_runs.specs.Program.{Program, Method}
+use Rattle.jh_runs.specs.LoweredProgram.{program_of}
+use Rattle.jh_guard.specs.Writes.{Writes}
+use Rattle.jh_logic.specs.Laws.{AreValid}
+use Rattle.jh_logic.specs.MethodContracts.{IsValid}
+use Rattle.jh_sequent.specs.Sequents.{SequentTree}
+use Rattle.jh_split.specs.Laws.{AllValid, SplitIsExact}
+use Rattle.jh_split.specs.Split.{before}
+use Rattle.jh_tree.specs.Tree.{FormulaTree}
+use Rattle.jh_tree.specs.Passing.{formula_passes}
+use Rattle.jh_sequents.specs.Numbering.{IsFirst}
+use Rattle.jh_sound.specs.Laws.{AcceptedIsSound}
+use Rattle.jh_sound.proofs.Lists.{has-at, no-none}
+use Rattle.jh_sound.proofs.Methods.{method-at, method-code}
+use Rattle.jh_obligations.specs.Laws.{EachValid, OwedIsSound}
+use Rattle.jh_outline.proofs.Telling.{exact-writes}
+use Rattle.jh_obligations.specs.Owed.{formula_of, Debt, IsOwed, AreOwed}
+use Rattle.jh_obligations.specs.Owing.{Owing, owing, owing_of, method_owing, class_owing}
+
+-- each method of a source owes
+pub owing-has : (p : ProgramTree) (m : Callee) (x : Method) → (program_of p).method m ≡ Some x → (w : Owing) × IsIn (owing_of p) w × (w.callee ≡ m)
+owing-has p m x e =
+    let r = method-code p m x e in
+    let a = method-at p m r.0 r.1 in
+    let k = has-at a.class.methods r.0 a.stands in
+    let w : Owing = owing m.class k.0 (text_of r.0.name) in
+    let place : k.0 ≡ 0 + k.0 = omega arith in
+    let class : m.class ≡ 0 + m.class = omega arith in
+    let own : IsIn (class_owing m.class a.class) w =
+    in-gathered (method_owing m.class) 0 a.class.methods k.0 r.0 w k.1 (subst (λ (n : ℕ). IsIn (method_owing m.class n r.0) w) place (zero, refl)) in
+    (w, in-gathered class_owing 0 p.classes m.class a.class w a.is (subst (λ (n : ℕ). IsIn (class_owing n a.class) w) class own), ap (λ (t : List ℕ). record { class = m.class; name = t }) a.text)
+
+-- what one of some methods owes
+pub owed-at : (q : Program) (ws : Writes) (list : List Owing) (ds : List Debt) → AreOwed q ws list ds → EachValid ds → (w : Owing) → IsIn list w → (d : Debt) × IsOwed q ws w d × AllValid d.sequents
+owed-at q ws [] [] h v w (zero, e) = absurd (no-none w e)
+owed-at q ws [] [] h v w (suc i, e) = absurd (no-none w e)
+owed-at q ws [] (d ∷ ds) h v w i = absurd h
+owed-at q ws (y ∷ list) [] h v w i = absurd h
+owed-at q ws (y ∷ list) (d ∷ ds) h v w (zero, e) = (d, subst (λ (z : Owing). IsOwed q ws z d) (some-is y w e) h.0, v.0)
+owed-at q ws (y ∷ list) (d ∷ ds) h v w (suc i, e) = owed-at q ws list ds h.1 v.1 w (i, e)
+
+-- a method is valid where its sequents are
+names-before : (a : FormulaTree) (k : ℕ) → IsFirst a k → formula_passes a (before k) ≡ true
+names-before a k h = h.least.closed k (omega (arith, h.is))
+
+valid-of : SplitIsExact → (q : Program) (ws : Writes) (w : Owing) (d : Debt) → IsOwed q ws w d → AllValid d.sequents → (m : Callee) (x : Method) → w.callee ≡ m → q.method m ≡ Some x → IsValid q ws m x
+valid-of exact q ws w d h v m x same e =
+    let code : h.few.code ≡ x = some-is h.few.code x (sym h.few.is ∙ ap q.method same ∙ e) in
+    let formula : FormulaTree = formula_of q ws w.callee h.few.code in
+    subst (λ (n : Callee). IsValid q ws n x) same
+    (subst (λ (y : Method). IsValid q ws w.callee y) code
+    ((exact w.id formula h.sequents.first (names-before formula h.sequents.first h.sequents.is_first)).0
+    (subst (λ (us : List SequentTree). AllValid us) h.sequents.are v)))
+
+all-valid : SplitIsExact → (p : ProgramTree) (ws : Writes) (ds : List Debt) → AreOwed (program_of p) ws (owing_of p) ds → EachValid ds → AreValid (program_of p) ws
+all-valid exact p ws ds h v m x e =
+    let r = owing-has p m x e in
+    let k = owed-at (program_of p) ws (owing_of p) ds h v r.0 r.1 in
+    valid-of exact (program_of p) ws r.0 k.0 k.1 k.2 m x r.2 e
+
+pub owed-sound : SplitIsExact → AcceptedIsSound → OwedIsSound
+owed-sound exact sound p ds ok h v = sound p h.writes ok (exact-writes p ok h.writes h.exact) (all-valid exact p h.writes ds h.owed v)

@@ -1,0 +1,20 @@
+ghost use Rattle.jh_obligations.specs.Laws.{LittleIsNotMuch, OneIsFirst, OwedIsLittle, OwedIsSound};
+
+use jh_sound::accepted_is_sound;
+use jh_split::split_is_exact;
+
+/// A source that is accepted is sound where all sequents of its methods are valid. It is a law, and does nothing.
+pub fn owed_is_sound()
+    ensures { OwedIsSound }
+{
+    accepted_is_sound();
+    split_is_exact();
+}
+
+/// Where the methods of a source owe a list of sequents none has too many; there is at most one first method that has,
+/// with one number. It is a law, and does nothing.
+pub fn too_many_is_exact()
+    ensures little { OwedIsLittle }
+    ensures much { LittleIsNotMuch }
+    ensures first { OneIsFirst }
+{}
