@@ -11,12 +11,14 @@ use Rattle.jh_lex.specs.declared.token.Token.{Token}
 use Rattle.jh_lex.specs.Lexes.{Lexes, IsFirstFault}
 use Rattle.jh_lex.proofs.Unique.{one_list, one_fault, fault_or_list}
 use Rattle.jh_name.specs.declared.place.Place.{Place}
-use Rattle.jh_nest.specs.Nesting.{AllShallow, IsFirstDeep, nesting_at}
+use Rattle.jh_nest.specs.Nesting.{AllShallow, IsFirstDeep}
 use Rattle.jh_rules.specs.Breaks.{Breaks}
-use Rattle.jh_vars.specs.States.{Variable}
+use Rattle.jh_vars.specs.States.{Variable, class_text}
+use Rattle.jh_obligations.specs.Laws.{OneIsFirst}
+use Rattle.jh_obligations.specs.Sources.{OwesMuch}
 use Rattle.jh_vars.specs.Reading.{IsCyclic, IsFirst, IsFirstCyclic, variables}
-use Rattle.jahob.specs.Refusals.{Parses, RefusedAt, not_utf8, bad_char, open_comment, open_quote, too_wide, syntax, too_deep, IsMistyped, IsCircular, IsUnbuilt}
-use Rattle.jahob.proofs.Verifying.{parses-one, refused-parses}
+use Rattle.jahob.specs.Refusals.{RefusedAt, not_utf8, bad_char, open_comment, open_quote, too_wide, syntax, too_deep, IsMistyped, IsCircular, IsCrowded, method_text}
+use Rattle.jahob.proofs.Verifying.{parses-one, spells-one, refused-parses}
 
 -- the number and the place of a fault of the text
 abbrev fault_number : LexError → ℕ
@@ -101,11 +103,11 @@ one-place bytes n p q not first second = place-of bytes not (why first) (why sec
 pub refused-typed : (bytes : List ℕ) (n rule : ℕ) (p q : Place) → RefusedAt bytes n p → IsMistyped bytes rule q → ⊥
 refused-typed bytes n rule p q refused ill = refused-parses bytes n p ill.tree refused ill.parsed
 
-pub refused-built : (bytes : List ℕ) (n : ℕ) (p : Place) → RefusedAt bytes n p → IsUnbuilt bytes → ⊥
-refused-built bytes n p refused left = refused-parses bytes n p left.tree refused left.parsed
+pub refused-crowded : (bytes class name : List ℕ) (n count : ℕ) (p : Place) → RefusedAt bytes n p → IsCrowded bytes class name count → ⊥
+refused-crowded bytes class name n count p refused crowd = refused-parses bytes n p crowd.tree refused crowd.spelled.parsed
 
-pub ill-built : (bytes : List ℕ) (rule : ℕ) (p : Place) → IsMistyped bytes rule p → IsUnbuilt bytes → ⊥
-ill-built bytes rule p ill left = left.typed rule p (subst (λ t. Breaks t rule p) (parses-one bytes ill.tree left.tree ill.parsed left.parsed) ill.least.breaks)
+pub ill-crowded : (bytes class name : List ℕ) (rule count : ℕ) (p : Place) → IsMistyped bytes rule p → IsCrowded bytes class name count → ⊥
+ill-crowded bytes class name rule count p ill crowd = crowd.spelled.typed rule p (subst (λ t. Breaks t rule p) (parses-one bytes ill.tree crowd.tree ill.parsed crowd.spelled.parsed) ill.least.breaks)
 
 pub refused-circular : (bytes : List ℕ) (n : ℕ) (p : Place) (name : List ℕ) → RefusedAt bytes n p → IsCircular bytes name → ⊥
 refused-circular bytes n p name refused loop = refused-parses bytes n p loop.tree refused loop.parsed
@@ -113,8 +115,16 @@ refused-circular bytes n p name refused loop = refused-parses bytes n p loop.tre
 pub ill-circular : (bytes : List ℕ) (rule : ℕ) (p : Place) (name : List ℕ) → IsMistyped bytes rule p → IsCircular bytes name → ⊥
 ill-circular bytes rule p name ill loop = loop.typed rule p (subst (λ t. Breaks t rule p) (parses-one bytes ill.tree loop.tree ill.parsed loop.parsed) ill.least.breaks)
 
-pub circular-built : (bytes name : List ℕ) → IsCircular bytes name → IsUnbuilt bytes → ⊥
-circular-built bytes name loop left = left.acyclic (record { class = loop.class; name = name }) (subst (λ t. IsFirstCyclic t (record { class = loop.class; name = name })) (parses-one bytes loop.tree left.tree loop.parsed left.parsed) loop.first).here
+pub circular-crowded : (bytes x class name : List ℕ) (count : ℕ) → IsCircular bytes x → IsCrowded bytes class name count → ⊥
+circular-crowded bytes x class name count loop crowd =
+    crowd.spelled.acyclic (record { class = loop.class; name = x }) (subst (λ t. IsFirstCyclic t (record { class = loop.class; name = x })) (parses-one bytes loop.tree crowd.tree loop.parsed crowd.spelled.parsed) loop.first).here
+
+-- the first method with too many sequents is one
+pub one-method : OneIsFirst → (bytes c x d y : List ℕ) (m n : ℕ) → IsCrowded bytes c x m → IsCrowded bytes d y n → (c ≡ d) × (x ≡ y) × (m ≡ n)
+one-method law bytes c x d y m n h k =
+    let same : h.tree ≡ k.tree = spells-one bytes h.tree k.tree h.spelled k.spelled in
+    let one = law k.tree h.id k.id m n (subst (λ (t : ProgramTree). OwesMuch t h.id m) same h.much) k.much in
+    (h.class_is ∙ (λ i. class_text (same i) (one.0 i).class) ∙ sym k.class_is, h.name_is ∙ (λ i. method_text (same i) (one.0 i)) ∙ sym k.name_is, one.1)
 
 -- a list has one first item of which something is so
 module _ {X : Type 0} (H : X → Type 0) where

@@ -1,13 +1,20 @@
 -- From what was due and delivered to the clauses of the top call.
 use Rattle.std.proofs.Common.{◌≡◌, ◌≤◌, ◌<◌, ℕ, List, length, ap, sym, ◌∙◌, Bool, true, false, refl, arith, inl, inr}
 use Rattle.std.specs.Prelude.{◌≢◌, Option, None, Some, IfSome, ◌⊎◌, if◌then◌else◌, codes}
-use Rattle.jahob.specs.declared.tree.Program.{Program}
+use Rattle.jh_ast.specs.Programs.{ProgramTree}
+use Rattle.jh_sound.specs.Laws.{IsAccepted}
+use Rattle.jh_obligations.specs.Laws.{OwedIsSound, OwedIsLittle, LittleIsNotMuch}
+use Rattle.jh_obligations.specs.Sources.{OwesLittle}
+use Rattle.jh_prove.specs.Laws.{ProvedIsValid}
+use Rattle.jh_report.specs.Report.{is_accepted}
+use Rattle.jh_vars.specs.States.{class_text}
+use Rattle.jahob.specs.Refusals.{Spells, method_text}
 use Rattle.jahob.specs.declared.top.Reply.{Reply}
 use Rattle.jahob.specs.declared.top.Reply.TheVariants as reply
-use Rattle.jahob.specs.Causes.{FilesSeen, SinkSeen, Finding, reported, no_job, refused, mistyped, circular, unbuilt, file_failed, file_too_long, no_memory, Comes, Due, due, reply_due, Takes, IsTaken, Delivered, HaveNoFault, Answered, IsExcused, Exact, FitsBytes, FitsFile, Fits, IsFault, fault_text}
-use Rattle.jahob.specs.Verify.{Spells, Tells, Reports, Verifies, all_proved, source_limit}
+use Rattle.jahob.specs.Causes.{FilesSeen, SinkSeen, Finding, reported, no_job, refused, mistyped, circular, crowded, file_failed, file_too_long, no_memory, Comes, Due, due, reply_due, Takes, IsTaken, Delivered, HaveNoFault, Answered, IsExcused, Exact, FitsBytes, FitsFile, Fits, IsFault, IsReply, fault_text}
+use Rattle.jahob.specs.Verify.{Tells, Reports, Verifies, source_limit}
 use Rattle.jahob.specs.Words.{verify_file}
-use Rattle.jahob.proofs.Verifying.{spells-one, refused-parses, ill-spells, loop-spells, unbuilt-spells, reports-verifies, right-sound}
+use Rattle.jahob.proofs.Verifying.{spells-one, refused-parses, ill-spells, loop-spells, crowded-spells, reports-verifies, right-sound}
 
 -- a status is the one that is due, or 5
 takes-status : (sink : SinkSeen) (text : List ℕ) (d status : ℕ) → Takes sink text d status → (status ≡ d) ⊎ (status ≡ 5)
@@ -21,32 +28,37 @@ not-low d status high is low =
       | inr failed ↦ elim low [ inl zero ↦ absurd (omega (arith, failed, zero)) | inr one ↦ absurd (omega (arith, failed, one)) ]
     ]
 
--- a report with status 0 or 1 was written whole
-reports-of : (words : List (List ℕ)) (files : FilesSeen) (out err : SinkSeen) (status : ℕ) (o : Finding) → Comes words files o → Delivered (due o) out err status → (status ≡ 0) ⊎ (status ≡ 1) → Reports words files.holds out.before out.after status
-reports-of words files out err status (reported p answers) comes delivered low =
-    elim delivered.0 [
-      | inl whole ↦ record { program = p; read = comes.0; answers = answers; right = comes.1; written = whole.1; status_is = whole.0; sound = right-sound p answers status comes.1 whole.0 }
-      | inr front ↦ not-low 5 status (omega arith) (inr front.0) low
-    ]
-reports-of words files out err status no_job comes delivered low = not-low 2 status (omega arith) (takes-status err _ 2 status delivered.0) low
-reports-of words files out err status (refused n place) comes delivered low = not-low 3 status (omega arith) (takes-status err _ 3 status delivered.0) low
-reports-of words files out err status (mistyped n place) comes delivered low = not-low 3 status (omega arith) (takes-status err _ 3 status delivered.0) low
-reports-of words files out err status (circular name) comes delivered low = not-low 3 status (omega arith) (takes-status err _ 3 status delivered.0) low
-reports-of words files out err status unbuilt comes delivered low = not-low 3 status (omega arith) (takes-status err _ 3 status delivered.0) low
-reports-of words files out err status (file_failed file) comes delivered low = not-low 4 status (omega arith) (takes-status err _ 4 status delivered.0) low
-reports-of words files out err status (file_too_long file) comes delivered low = not-low 4 status (omega arith) (takes-status err _ 4 status delivered.0) low
-reports-of words files out err status no_memory comes delivered low = not-low 6 status (omega arith) (takes-status err _ 6 status delivered.0) low
+-- what is known of what bytes spell
+abbrev pub SpelledIsAccepted : Type 0
+SpelledIsAccepted = (bytes : List ℕ) (tree : ProgramTree) → Spells bytes tree → IsAccepted tree
 
-pub answered-reports : (words : List (List ℕ)) (files : FilesSeen) (out err : SinkSeen) (status : ℕ) → Answered words files out err status → (status ≡ 0) ⊎ (status ≡ 1) → Reports words files.holds out.before out.after status
-answered-reports words files out err status a low = reports-of words files out err status a.finding a.comes a.delivered low
+-- a report with status 0 or 1 was written whole
+module _ (accepted : SpelledIsAccepted) (sound : OwedIsSound) (proved : ProvedIsValid) where
+  reports-of : (words : List (List ℕ)) (files : FilesSeen) (out err : SinkSeen) (status : ℕ) (o : Finding) → Comes words files o → Delivered (due o) out err status → (status ≡ 0) ⊎ (status ≡ 1) → Reports words files.holds out.before out.after status
+  reports-of words files out err status (reported p rs) comes delivered low =
+      elim delivered.0 [
+        | inl whole ↦ record { program = p; read = comes.0; reported = rs; judges = comes.1; written = whole.1; status_is = whole.0; sound = right-sound proved sound p rs status (accepted comes.0.bytes p comes.0.spelled) comes.1 whole.0 }
+        | inr front ↦ not-low 5 status (omega arith) (inr front.0) low
+      ]
+  reports-of words files out err status no_job comes delivered low = not-low 2 status (omega arith) (takes-status err _ 2 status delivered.0) low
+  reports-of words files out err status (refused n place) comes delivered low = not-low 3 status (omega arith) (takes-status err _ 3 status delivered.0) low
+  reports-of words files out err status (mistyped n place) comes delivered low = not-low 3 status (omega arith) (takes-status err _ 3 status delivered.0) low
+  reports-of words files out err status (circular name) comes delivered low = not-low 3 status (omega arith) (takes-status err _ 3 status delivered.0) low
+  reports-of words files out err status (crowded class name n) comes delivered low = not-low 3 status (omega arith) (takes-status err _ 3 status delivered.0) low
+  reports-of words files out err status (file_failed file) comes delivered low = not-low 4 status (omega arith) (takes-status err _ 4 status delivered.0) low
+  reports-of words files out err status (file_too_long file) comes delivered low = not-low 4 status (omega arith) (takes-status err _ 4 status delivered.0) low
+  reports-of words files out err status no_memory comes delivered low = not-low 6 status (omega arith) (takes-status err _ 6 status delivered.0) low
+
+  pub answered-reports : (words : List (List ℕ)) (files : FilesSeen) (out err : SinkSeen) (status : ℕ) → Answered words files out err status → (status ≡ 0) ⊎ (status ≡ 1) → Reports words files.holds out.before out.after status
+  answered-reports words files out err status a low = reports-of words files out err status a.finding a.comes a.delivered low
+
+  -- the headline
+  pub answered-verifies : (words : List (List ℕ)) (files : FilesSeen) (out err : SinkSeen) (status : ℕ) → Answered words files out err status → status ≡ 0 → Verifies words files.holds
+  answered-verifies words files out err status a zero = reports-verifies words files.holds out.before out.after status (answered-reports words files out err status a (inl zero)) zero
 
 -- what a sink took is what was due on it
 pub delivered-by : (d : Due) (on_out : Bool) (text : List ℕ) (due_status : ℕ) (out err : SinkSeen) (status : ℕ) → on_out ≡ d.on_out → text ≡ d.text → due_status ≡ d.status → IsTaken on_out text due_status out err status → Delivered d out err status
 delivered-by d on_out text due_status out err status on is_text is_status taken = rw (sym on, sym is_text, sym is_status) taken
-
--- the headline
-pub answered-verifies : (words : List (List ℕ)) (files : FilesSeen) (out err : SinkSeen) (status : ℕ) → Answered words files out err status → status ≡ 0 → Verifies words files.holds
-answered-verifies words files out err status a zero = reports-verifies words files.holds out.before out.after status (answered-reports words files out err status a (inl zero)) zero
 
 -- a right reply that was delivered has its cause
 pub answered-by : (words : List (List ℕ)) (files : FilesSeen) (out err : SinkSeen) (status : ℕ) (r : Reply) → Fits words files r → Delivered (reply_due r) out err status → Answered words files out err status
@@ -58,16 +70,16 @@ report-status false h = omega (arith, h)
 
 -- want of memory leaves the first sink as it was
 memory-of : (words : List (List ℕ)) (files : FilesSeen) (out err : SinkSeen) (status : ℕ) (o : Finding) → Delivered (due o) out err status → status ≡ 6 → out.after ≡ out.before
-memory-of words files out err status (reported p answers) delivered six =
-    elim (takes-status out _ (if all_proved answers then 0 else 1) status delivered.0) [
-      | inl whole ↦ absurd (report-status (all_proved answers) (sym whole ∙ six))
+memory-of words files out err status (reported p rs) delivered six =
+    elim (takes-status out _ (if is_accepted rs then 0 else 1) status delivered.0) [
+      | inl whole ↦ absurd (report-status (is_accepted rs) (sym whole ∙ six))
       | inr front ↦ absurd (omega (arith, front, six))
     ]
 memory-of words files out err status no_job delivered six = delivered.1.written
 memory-of words files out err status (refused n place) delivered six = delivered.1.written
 memory-of words files out err status (mistyped n place) delivered six = delivered.1.written
 memory-of words files out err status (circular name) delivered six = delivered.1.written
-memory-of words files out err status unbuilt delivered six = delivered.1.written
+memory-of words files out err status (crowded class name n) delivered six = delivered.1.written
 memory-of words files out err status (file_failed file) delivered six = delivered.1.written
 memory-of words files out err status (file_too_long file) delivered six = delivered.1.written
 memory-of words files out err status no_memory delivered six = delivered.1.written
@@ -91,12 +103,12 @@ none-some o file none some = let both : None ≡ Some file = sym none ∙ some i
 
 -- without a job it is usage
 usage-of : (words : List (List ℕ)) (files : FilesSeen) (out err : SinkSeen) (status : ℕ) (o : Finding) → Comes words files o → Delivered (due o) out err status → verify_file words ≡ None → (status ≡ 2) ⊎ (status ≡ 5)
-usage-of words files out err status (reported p answers) comes delivered none = none-some (verify_file words) comes.0.file none comes.0.asked
+usage-of words files out err status (reported p rs) comes delivered none = none-some (verify_file words) comes.0.file none comes.0.asked
 usage-of words files out err status no_job comes delivered none = takes-status err _ 2 status delivered.0
 usage-of words files out err status (refused n place) comes delivered none = none-some (verify_file words) comes.file none comes.asked
 usage-of words files out err status (mistyped n place) comes delivered none = none-some (verify_file words) comes.file none comes.asked
 usage-of words files out err status (circular name) comes delivered none = none-some (verify_file words) comes.file none comes.asked
-usage-of words files out err status unbuilt comes delivered none = none-some (verify_file words) comes.file none comes.asked
+usage-of words files out err status (crowded class name n) comes delivered none = none-some (verify_file words) comes.file none comes.asked
 usage-of words files out err status (file_failed file) comes delivered none = none-some (verify_file words) file none comes.0
 usage-of words files out err status (file_too_long file) comes delivered none = none-some (verify_file words) file none comes.0
 usage-of words files out err status no_memory comes delivered none = none-some (verify_file words) comes.0 none comes.1
@@ -132,7 +144,7 @@ due-or files sink text file d status takes = elim (takes-status sink text d stat
 
 too_long-of : (words : List (List ℕ)) (files : FilesSeen) (out err : SinkSeen) (status : ℕ) (o : Finding) → Comes words files o → Delivered (due o) out err status
     → (file bytes : List ℕ) → verify_file words ≡ Some file → files.holds file ≡ Some bytes → source_limit < length bytes → (status ≡ 4) ⊎ IsExcused files file status
-too_long-of words files out err status (reported p answers) comes delivered file bytes asked held long =
+too_long-of words files out err status (reported p rs) comes delivered file bytes asked held long =
     let same : comes.0.bytes ≡ bytes = told-bytes words files.holds file bytes comes.0.file comes.0.bytes asked held comes.0.asked comes.0.told in
     let within : length bytes ≤ source_limit = rw (sym same) comes.0.within in
     absurd (omega (arith, within, long))
@@ -149,7 +161,7 @@ too_long-of words files out err status (circular name) comes delivered file byte
     let same : comes.bytes ≡ bytes = told-bytes words files.holds file bytes comes.file comes.bytes asked held comes.asked comes.told in
     let within : length bytes ≤ source_limit = rw (sym same) comes.within in
     absurd (omega (arith, within, long))
-too_long-of words files out err status unbuilt comes delivered file bytes asked held long =
+too_long-of words files out err status (crowded class name n) comes delivered file bytes asked held long =
     let same : comes.bytes ≡ bytes = told-bytes words files.holds file bytes comes.file comes.bytes asked held comes.asked comes.told in
     let within : length bytes ≤ source_limit = rw (sym same) comes.within in
     absurd (omega (arith, within, long))
@@ -168,70 +180,71 @@ not-long words files file bytes other asked held comes =
     let is : files.holds other ≡ Some bytes = ap files.holds same ∙ held in
     longer (files.holds other) bytes is comes.1
 
--- a file whose bytes are as short as a source may be, and why its bytes spell no program: the status is 3, or it is excused
-refused-of : (words : List (List ℕ)) (files : FilesSeen) (out err : SinkSeen) (status : ℕ) (o : Finding) → Comes words files o → Delivered (due o) out err status
-    → (file bytes : List ℕ) → verify_file words ≡ Some file → files.holds file ≡ Some bytes → length bytes ≤ source_limit → ((p : Program) → Spells bytes p → ⊥) → (status ≡ 3) ⊎ IsExcused files file status
-refused-of words files out err status (reported p answers) comes delivered file bytes asked held short none =
-    let same : comes.0.bytes ≡ bytes = told-bytes words files.holds file bytes comes.0.file comes.0.bytes asked held comes.0.asked comes.0.told in
-    absurd (none p (rw (sym same) comes.0.spelled))
-refused-of words files out err status no_job comes delivered file bytes asked held short none = none-some (verify_file words) file comes asked
-refused-of words files out err status (refused n place) comes delivered file bytes asked held short none = due-or files err _ file 3 status delivered.0
-refused-of words files out err status (mistyped n place) comes delivered file bytes asked held short none = due-or files err _ file 3 status delivered.0
-refused-of words files out err status (circular name) comes delivered file bytes asked held short none = due-or files err _ file 3 status delivered.0
-refused-of words files out err status unbuilt comes delivered file bytes asked held short none = due-or files err _ file 3 status delivered.0
-refused-of words files out err status (file_failed other) comes delivered file bytes asked held short none = inr (excused-failed words files err _ file other status asked comes delivered.0)
-refused-of words files out err status (file_too_long other) comes delivered file bytes asked held short none =
-    let long : source_limit < length bytes = not-long words files file bytes other asked held comes in
-    absurd (omega (arith, long, short))
-refused-of words files out err status no_memory comes delivered file bytes asked held short none = inr (excused-memory files err _ file status delivered.0)
+module _ (little : OwedIsLittle) (much : LittleIsNotMuch) where
+  -- a file whose bytes are as short as a source may be, and why its bytes spell no program: the status is 3, or it is excused
+  refused-of : (words : List (List ℕ)) (files : FilesSeen) (out err : SinkSeen) (status : ℕ) (o : Finding) → Comes words files o → Delivered (due o) out err status
+      → (file bytes : List ℕ) → verify_file words ≡ Some file → files.holds file ≡ Some bytes → length bytes ≤ source_limit → ((p : ProgramTree) → Spells bytes p → OwesLittle p → ⊥) → (status ≡ 3) ⊎ IsExcused files file status
+  refused-of words files out err status (reported p rs) comes delivered file bytes asked held short none =
+      let same : comes.0.bytes ≡ bytes = told-bytes words files.holds file bytes comes.0.file comes.0.bytes asked held comes.0.asked comes.0.told in
+      absurd (none p (rw (sym same) comes.0.spelled) (little p comes.1.owed comes.1.owes))
+  refused-of words files out err status no_job comes delivered file bytes asked held short none = none-some (verify_file words) file comes asked
+  refused-of words files out err status (refused n place) comes delivered file bytes asked held short none = due-or files err _ file 3 status delivered.0
+  refused-of words files out err status (mistyped n place) comes delivered file bytes asked held short none = due-or files err _ file 3 status delivered.0
+  refused-of words files out err status (circular name) comes delivered file bytes asked held short none = due-or files err _ file 3 status delivered.0
+  refused-of words files out err status (crowded class name n) comes delivered file bytes asked held short none = due-or files err _ file 3 status delivered.0
+  refused-of words files out err status (file_failed other) comes delivered file bytes asked held short none = inr (excused-failed words files err _ file other status asked comes delivered.0)
+  refused-of words files out err status (file_too_long other) comes delivered file bytes asked held short none =
+      let long : source_limit < length bytes = not-long words files file bytes other asked held comes in
+      absurd (omega (arith, long, short))
+  refused-of words files out err status no_memory comes delivered file bytes asked held short none = inr (excused-memory files err _ file status delivered.0)
 
--- what is due for a report is 0 or 1
-report-due : (b : Bool) (status : ℕ) → status ≡ (if b then 0 else 1) → (status ≡ 0) ⊎ (status ≡ 1)
-report-due true status is = inl is
-report-due false status is = inr is
+  -- what is due for a report is 0 or 1
+  report-due : (b : Bool) (status : ℕ) → status ≡ (if b then 0 else 1) → (status ≡ 0) ⊎ (status ≡ 1)
+  report-due true status is = inl is
+  report-due false status is = inr is
 
-reported-of : (words : List (List ℕ)) (files : FilesSeen) (out err : SinkSeen) (status : ℕ) (o : Finding) → Comes words files o → Delivered (due o) out err status
-    → (file bytes : List ℕ) (p : Program) → verify_file words ≡ Some file → files.holds file ≡ Some bytes → length bytes ≤ source_limit → Spells bytes p → (status ≡ 0) ⊎ (status ≡ 1) ⊎ IsExcused files file status
-reported-of words files out err status (reported q answers) comes delivered file bytes p asked held short spells =
-    elim (takes-status out _ (if all_proved answers then 0 else 1) status delivered.0) [
-      | inl is ↦ elim (report-due (all_proved answers) status is) [ inl zero ↦ inl zero | inr one ↦ inr (inl one) ]
-      | inr five ↦ inr (inr (inr (inl five)))
-    ]
-reported-of words files out err status no_job comes delivered file bytes p asked held short spells = none-some (verify_file words) file comes asked
-reported-of words files out err status (refused n place) comes delivered file bytes p asked held short spells =
-    let same : comes.bytes ≡ bytes = told-bytes words files.holds file bytes comes.file comes.bytes asked held comes.asked comes.told in
-    absurd (refused-parses bytes n place spells.tree (rw (sym same) comes.why) spells.parsed)
-reported-of words files out err status (mistyped rule place) comes delivered file bytes p asked held short spells =
-    let same : comes.bytes ≡ bytes = told-bytes words files.holds file bytes comes.file comes.bytes asked held comes.asked comes.told in
-    absurd (ill-spells bytes rule place p (rw (sym same) comes.why) spells)
-reported-of words files out err status (circular name) comes delivered file bytes p asked held short spells =
-    let same : comes.bytes ≡ bytes = told-bytes words files.holds file bytes comes.file comes.bytes asked held comes.asked comes.told in
-    absurd (loop-spells bytes name p (rw (sym same) comes.why) spells)
-reported-of words files out err status unbuilt comes delivered file bytes p asked held short spells =
-    let same : comes.bytes ≡ bytes = told-bytes words files.holds file bytes comes.file comes.bytes asked held comes.asked comes.told in
-    absurd (unbuilt-spells bytes p (rw (sym same) comes.why) spells)
-reported-of words files out err status (file_failed other) comes delivered file bytes p asked held short spells = inr (inr (excused-failed words files err _ file other status asked comes delivered.0))
-reported-of words files out err status (file_too_long other) comes delivered file bytes p asked held short spells =
-    let long : source_limit < length bytes = not-long words files file bytes other asked held comes in
-    absurd (omega (arith, long, short))
-reported-of words files out err status no_memory comes delivered file bytes p asked held short spells = inr (inr (excused-memory files err _ file status delivered.0))
+  reported-of : (words : List (List ℕ)) (files : FilesSeen) (out err : SinkSeen) (status : ℕ) (o : Finding) → Comes words files o → Delivered (due o) out err status
+      → (file bytes : List ℕ) (p : ProgramTree) → verify_file words ≡ Some file → files.holds file ≡ Some bytes → length bytes ≤ source_limit → Spells bytes p → OwesLittle p → (status ≡ 0) ⊎ (status ≡ 1) ⊎ IsExcused files file status
+  reported-of words files out err status (reported q rs) comes delivered file bytes p asked held short spells few =
+      elim (takes-status out _ (if is_accepted rs then 0 else 1) status delivered.0) [
+        | inl is ↦ elim (report-due (is_accepted rs) status is) [ inl zero ↦ inl zero | inr one ↦ inr (inl one) ]
+        | inr five ↦ inr (inr (inr (inl five)))
+      ]
+  reported-of words files out err status no_job comes delivered file bytes p asked held short spells few = none-some (verify_file words) file comes asked
+  reported-of words files out err status (refused n place) comes delivered file bytes p asked held short spells few =
+      let same : comes.bytes ≡ bytes = told-bytes words files.holds file bytes comes.file comes.bytes asked held comes.asked comes.told in
+      absurd (refused-parses bytes n place p (rw (sym same) comes.why) spells.parsed)
+  reported-of words files out err status (mistyped rule place) comes delivered file bytes p asked held short spells few =
+      let same : comes.bytes ≡ bytes = told-bytes words files.holds file bytes comes.file comes.bytes asked held comes.asked comes.told in
+      absurd (ill-spells bytes rule place p (rw (sym same) comes.why) spells)
+  reported-of words files out err status (circular name) comes delivered file bytes p asked held short spells few =
+      let same : comes.bytes ≡ bytes = told-bytes words files.holds file bytes comes.file comes.bytes asked held comes.asked comes.told in
+      absurd (loop-spells bytes name p (rw (sym same) comes.why) spells)
+  reported-of words files out err status (crowded class name n) comes delivered file bytes p asked held short spells few =
+      let same : comes.bytes ≡ bytes = told-bytes words files.holds file bytes comes.file comes.bytes asked held comes.asked comes.told in
+      absurd (crowded-spells much bytes class name n p (rw (sym same) comes.why) spells few)
+  reported-of words files out err status (file_failed other) comes delivered file bytes p asked held short spells few = inr (inr (excused-failed words files err _ file other status asked comes delivered.0))
+  reported-of words files out err status (file_too_long other) comes delivered file bytes p asked held short spells few =
+      let long : source_limit < length bytes = not-long words files file bytes other asked held comes in
+      absurd (omega (arith, long, short))
+  reported-of words files out err status no_memory comes delivered file bytes p asked held short spells few = inr (inr (excused-memory files err _ file status delivered.0))
 
-pub answered-exact : (words : List (List ℕ)) (files : FilesSeen) (out err : SinkSeen) (status : ℕ) → Answered words files out err status → Exact words files status
-answered-exact words files out err status a = record {
-  usage = usage-of words files out err status a.finding a.comes a.delivered;
-  too_long = too_long-of words files out err status a.finding a.comes a.delivered;
-  refused = λ file bytes n place asked held short why. refused-of words files out err status a.finding a.comes a.delivered file bytes asked held short (λ p spells. refused-parses bytes n place spells.tree why spells.parsed);
-  mistyped = λ file bytes rule place asked held short why. refused-of words files out err status a.finding a.comes a.delivered file bytes asked held short (λ p spells. ill-spells bytes rule place p why spells);
-  circular = λ file bytes name asked held short why. refused-of words files out err status a.finding a.comes a.delivered file bytes asked held short (λ p spells. loop-spells bytes name p why spells);
-  unbuilt = λ file bytes asked held short why. refused-of words files out err status a.finding a.comes a.delivered file bytes asked held short (λ p spells. unbuilt-spells bytes p why spells);
-  reported = reported-of words files out err status a.finding a.comes a.delivered;
-}
+  pub answered-exact : (words : List (List ℕ)) (files : FilesSeen) (out err : SinkSeen) (status : ℕ) → Answered words files out err status → Exact words files status
+  answered-exact words files out err status a = record {
+    usage = usage-of words files out err status a.finding a.comes a.delivered;
+    too_long = too_long-of words files out err status a.finding a.comes a.delivered;
+    refused = λ file bytes n place asked held short why. refused-of words files out err status a.finding a.comes a.delivered file bytes asked held short (λ p spells few. refused-parses bytes n place p why spells.parsed);
+    mistyped = λ file bytes rule place asked held short why. refused-of words files out err status a.finding a.comes a.delivered file bytes asked held short (λ p spells few. ill-spells bytes rule place p why spells);
+    circular = λ file bytes name asked held short why. refused-of words files out err status a.finding a.comes a.delivered file bytes asked held short (λ p spells few. loop-spells bytes name p why spells);
+    crowded = λ file bytes class name n asked held short why. refused-of words files out err status a.finding a.comes a.delivered file bytes asked held short (λ p spells few. crowded-spells much bytes class name n p why spells few);
+    reported = reported-of words files out err status a.finding a.comes a.delivered;
+  }
 
--- what came from a file is an finding of the words that ask for it
+-- what came from a file is a finding of the words that ask for it
 read-fits : (words : List (List ℕ)) (files : FilesSeen) (file bytes : List ℕ) (answer : Reply) → verify_file words ≡ Some file → Tells (files.holds file) bytes → length bytes ≤ source_limit → FitsBytes bytes answer → Fits words files answer
 read-fits words files file bytes (reply.Report text accepted) asked told short fits = record {
-  finding = reported fits.0 fits.2.answers;
-  comes = (record { file = file; bytes = bytes; asked = asked; told = told; within = short; spelled = fits.1; only = λ q other. spells-one bytes q fits.0 other fits.1 }, fits.2.right);
+  finding = reported fits.0 fits.2.reported;
+  comes = (record { file = file; bytes = bytes; asked = asked; told = told; within = short; spelled = fits.1; only = λ q other. spells-one bytes q fits.0 other fits.1 }, fits.2.judges);
   is_due = λ i. record { status = if sym fits.2.accepted_is i then 0 else 1; on_out = true; text = sym fits.2.text_is i };
 }
 read-fits words files file bytes reply.Usage asked told short fits = absurd fits
@@ -250,10 +263,10 @@ read-fits words files file bytes (reply.Circular text) asked told short fits = r
   comes = record { file = file; bytes = bytes; asked = asked; told = told; within = short; why = fits.1 };
   is_due = λ i. record { status = 3; on_out = false; text = sym fits.2 i };
 }
-read-fits words files file bytes reply.Unbuilt asked told short fits = record {
-  finding = unbuilt;
-  comes = record { file = file; bytes = bytes; asked = asked; told = told; within = short; why = fits };
-  is_due = refl;
+read-fits words files file bytes (reply.Crowded text) asked told short fits = record {
+  finding = crowded fits.0 fits.1 fits.2;
+  comes = record { file = file; bytes = bytes; asked = asked; told = told; within = short; why = fits.3 };
+  is_due = λ i. record { status = 3; on_out = false; text = sym fits.4 i };
 }
 read-fits words files file bytes (reply.Fault text) asked told short fits = absurd fits
 read-fits words files file bytes reply.NoMemory asked told short fits = record { finding = no_memory; comes = (file, asked); is_due = refl }
@@ -265,7 +278,7 @@ fault-fits words files file kind o reply.Usage asked fits is comes = absurd fits
 fault-fits words files file kind o (reply.Refused text) asked fits is comes = absurd fits
 fault-fits words files file kind o (reply.Mistyped text) asked fits is comes = absurd fits
 fault-fits words files file kind o (reply.Circular text) asked fits is comes = absurd fits
-fault-fits words files file kind o reply.Unbuilt asked fits is comes = absurd fits
+fault-fits words files file kind o (reply.Crowded text) asked fits is comes = absurd fits
 fault-fits words files file kind o (reply.Fault text) asked fits is comes = record {
   finding = o;
   comes = comes;
@@ -285,3 +298,15 @@ fits-file words files file answer asked fits =
       ]
       | inr there ↦ read-fits words files file there.0 answer asked there.1 there.2 there.3
     ]
+
+-- a right reply to the program that bytes spell is right for the bytes
+pub reply-fits : (bytes : List ℕ) (p : ProgramTree) (r : Reply) → Spells bytes p → IsReply p r → FitsBytes bytes r
+reply-fits bytes p (reply.Report text accepted) spells h = (p, spells, h)
+reply-fits bytes p reply.Usage spells h = absurd h
+reply-fits bytes p (reply.Refused text) spells h = absurd h
+reply-fits bytes p (reply.Mistyped text) spells h = absurd h
+reply-fits bytes p (reply.Circular text) spells h = absurd h
+reply-fits bytes p (reply.Crowded text) spells h =
+    (class_text p h.id.class, method_text p h.id, h.n, record { tree = p; spelled = spells; id = h.id; much = h.much; class_is = refl; name_is = refl }, h.text_is)
+reply-fits bytes p (reply.Fault text) spells h = absurd h
+reply-fits bytes p reply.NoMemory spells h = tt

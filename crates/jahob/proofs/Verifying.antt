@@ -1,6 +1,6 @@
 -- From what was read and answered to the headline.
-use Rattle.std.proofs.Common.{◌≡◌, ◌<◌, ◌≤◌, ℕ, List, length, ap, sym, subst, ◌∙◌, Bool, true, false, refl, arith}
-use Rattle.std.specs.Prelude.{Option, Some, Err, if◌then◌else◌}
+use Rattle.std.proofs.Common.{◌≡◌, ◌<◌, ◌≤◌, ℕ, List, [], ◌∷◌, length, sym, subst, ◌∙◌, Bool, true, false, refl, arith}
+use Rattle.std.specs.Prelude.{Option, Err, if◌then◌else◌}
 use Rattle.jh_ast.specs.Programs.{ProgramTree}
 use Rattle.jh_lex.specs.declared.error.LexError.{LexError}
 use Rattle.jh_lex.specs.declared.token.Token.{Token}
@@ -14,42 +14,39 @@ use Rattle.jh_parse.specs.Parsed.{ParsedProgram}
 use Rattle.jh_spec.specs.declared.error.ParseError.{ParseError}
 use Rattle.jh_spec.specs.declared.error.ParseError.TheVariants as parse
 use Rattle.jh_parse.proofs.MemberComplete.{at_most_one_program}
-use Rattle.jahob.specs.declared.prove.Answer.{Answer}
-use Rattle.jahob.specs.declared.tree.Program.{Program}
-use Rattle.jahob.specs.Obligations.{sequents_of}
-use Rattle.jahob.specs.Refusals.{Parses, RefusedAt, not_utf8, bad_char, open_comment, open_quote, too_wide, syntax, too_deep, IsTyped, IsMistyped, IsCircular, IsUnbuilt, IsLoopOf, IsWhy, refusal_of}
 use Rattle.jh_vars.specs.Reading.{IsFirstCyclic}
-use Rattle.jahob.specs.declared.error.Refusal.{Refusal}
-use Rattle.jahob.specs.declared.error.Refusal.TheVariants as refusal
 use Rattle.jh_rules.specs.Breaks.{Breaks}
+use Rattle.jh_runs.specs.LoweredProgram.{IsSound}
+use Rattle.jh_sequent.specs.Sequents.{SequentTree}
+use Rattle.jh_sequents.specs.Pairs.{ArePaired}
+use Rattle.jh_split.specs.Laws.{AllValid}
+use Rattle.jh_sound.specs.Laws.{IsAccepted}
+use Rattle.jh_sound.proofs.Lists.{and-left, and-right}
 use Rattle.jh_type.specs.Refused.{IsRefused}
 use Rattle.jh_type.specs.declared.typed.TypeError.{TypeError}
 use Rattle.jh_type.specs.declared.typed.TypeError.TheVariants as type
-use Rattle.jahob.specs.Subset.{program_of}
-use Rattle.jahob.specs.Sequents.{AllRight}
-use Rattle.jahob.specs.Sound.{Sound}
-use Rattle.jahob.specs.Verify.{Spells, Reports, Verifies, all_proved}
-use Rattle.jahob.proofs.Rights.{proved-valid}
-use Rattle.jahob.proofs.Soundness.{valid_sound}
+use Rattle.jh_obligations.specs.Laws.{EachValid, OwedIsSound, LittleIsNotMuch}
+use Rattle.jh_obligations.specs.Owed.{Debt}
+use Rattle.jh_obligations.specs.Sources.{OwesLittle, OwesMuch}
+use Rattle.jh_prove.specs.Answers.{all_proved}
+use Rattle.jh_prove.specs.Laws.{ProvedIsValid}
+use Rattle.jh_report.specs.Report.{Reported, is_accepted}
+use Rattle.jahob.specs.declared.error.Refusal.{Refusal}
+use Rattle.jahob.specs.declared.error.Refusal.TheVariants as refusal
+use Rattle.jahob.specs.Refusals.{Parses, Spells, RefusedAt, not_utf8, bad_char, open_comment, open_quote, too_wide, syntax, too_deep, IsTyped, IsMistyped, IsCircular, IsCrowded, IsLoopOf, IsWhy, refusal_of}
+use Rattle.jahob.specs.Verify.{IsJudged, Judges, Reports, Verifies}
 
 -- bytes spell one tree at most
 pub parses-one : (bytes : List ℕ) (t u : ProgramTree) → Parses bytes t → Parses bytes u → t ≡ u
 parses-one bytes t u p q = at_most_one_program q.tokens t u (subst (λ ts. Spelled ts t) (one_list bytes p.tokens q.tokens p.cut q.cut) p.spelled) q.spelled
 
--- what is read from one tree is read from the other
-tree-is : (bytes : List ℕ) (t u : ProgramTree) (p : Program) → Parses bytes t → Parses bytes u → program_of t ≡ Some p → program_of u ≡ Some p
-tree-is bytes t u p first second is = ap program_of (parses-one bytes u t second first) ∙ is
-
--- bytes spell one program at most
-pub spells-one : (bytes : List ℕ) (p q : Program) → Spells bytes p → Spells bytes q → p ≡ q
-spells-one bytes p q first second =
-    let left : program_of second.tree ≡ Some p = tree-is bytes first.tree second.tree p first.parsed second.parsed first.is in
-    let both : Some p ≡ Some q = sym left ∙ second.is in
-    cc
+-- and one program at most
+pub spells-one : (bytes : List ℕ) (p q : ProgramTree) → Spells bytes p → Spells bytes q → p ≡ q
+spells-one bytes p q first second = parses-one bytes p q first.parsed second.parsed
 
 -- bytes that break a type rule spell none
-pub ill-spells : (bytes : List ℕ) (rule : ℕ) (place : Place) (p : Program) → IsMistyped bytes rule place → Spells bytes p → ⊥
-ill-spells bytes rule place p ill spells = spells.typed rule place (subst (λ t. Breaks t rule place) (parses-one bytes ill.tree spells.tree ill.parsed spells.parsed) ill.least.breaks)
+pub ill-spells : (bytes : List ℕ) (rule : ℕ) (place : Place) (p : ProgramTree) → IsMistyped bytes rule place → Spells bytes p → ⊥
+ill-spells bytes rule place p ill spells = spells.typed rule place (subst (λ t. Breaks t rule place) (parses-one bytes ill.tree p ill.parsed spells.parsed) ill.least.breaks)
 
 -- why a source that breaks a type rule is refused
 pub ill-why : (bytes : List ℕ) (tree : ProgramTree) (fault : TypeError) → Parses bytes tree → IsRefused tree fault → IsWhy bytes (refusal_of fault)
@@ -57,20 +54,19 @@ ill-why bytes tree (type.TypeFault rule place) parsed least = record { tree = tr
 ill-why bytes tree type.Memory parsed least = tt
 
 -- bytes that have a cyclic variable spell none
-pub loop-spells : (bytes name : List ℕ) (p : Program) → IsCircular bytes name → Spells bytes p → ⊥
-loop-spells bytes name p loop spells = spells.acyclic (record { class = loop.class; name = name }) (subst (λ t. IsFirstCyclic t (record { class = loop.class; name = name })) (parses-one bytes loop.tree spells.tree loop.parsed spells.parsed) loop.first).here
+pub loop-spells : (bytes name : List ℕ) (p : ProgramTree) → IsCircular bytes name → Spells bytes p → ⊥
+loop-spells bytes name p loop spells = spells.acyclic (record { class = loop.class; name = name }) (subst (λ t. IsFirstCyclic t (record { class = loop.class; name = name })) (parses-one bytes loop.tree p loop.parsed spells.parsed) loop.first).here
 
 -- why a source with a cyclic variable is refused
 pub loop-why : (bytes : List ℕ) (tree : ProgramTree) (r : Refusal) → Parses bytes tree → IsTyped tree → IsLoopOf tree r → IsWhy bytes r
 loop-why bytes tree (refusal.At n place) parsed typed loop = absurd loop
 loop-why bytes tree (refusal.Mistyped rule place) parsed typed loop = absurd loop
 loop-why bytes tree (refusal.Cyclic name) parsed typed loop = record { tree = tree; parsed = parsed; typed = typed; class = loop.0; first = loop.1 }
-loop-why bytes tree refusal.Unbuilt parsed typed loop = absurd loop
 loop-why bytes tree refusal.Memory parsed typed loop = tt
 
--- bytes that spell a tree that is no program spell none
-pub unbuilt-spells : (bytes : List ℕ) (p : Program) → IsUnbuilt bytes → Spells bytes p → ⊥
-unbuilt-spells bytes p left spells = left.none p (tree-is bytes spells.tree left.tree p spells.parsed left.parsed spells.is) spells.named
+-- bytes that spell a program with a method of too many sequents spell none of which each method has few
+pub crowded-spells : LittleIsNotMuch → (bytes class name : List ℕ) (n : ℕ) (p : ProgramTree) → IsCrowded bytes class name n → Spells bytes p → OwesLittle p → ⊥
+crowded-spells law bytes class name n p crowd spells little = law p crowd.id n little (subst (λ (t : ProgramTree). OwesMuch t crowd.id n) (spells-one bytes crowd.tree p crowd.spelled spells) crowd.much)
 
 -- bytes that are refused spell no tree
 pub refused-parses : (bytes : List ℕ) (n : ℕ) (place : Place) (t : ProgramTree) → RefusedAt bytes n place → Parses bytes t → ⊥
@@ -103,9 +99,17 @@ accepted-by : (b : Bool) → ◌≡◌ {A = ℕ} (if b then 0 else 1) 0 → b �
 accepted-by true h = refl
 accepted-by false h = absurd (omega arith)
 
+-- right answers of which none is Unproved leave all sequents valid
+each-valid : ProvedIsValid → (p : ProgramTree) (ds : List Debt) (rs : List Reported) → ArePaired (IsJudged p) ds rs → is_accepted rs ≡ true → EachValid ds
+each-valid law p [] [] h e = tt
+each-valid law p [] (r ∷ rs) h e = tt
+each-valid law p (d ∷ ds) [] h e = absurd h
+each-valid law p (d ∷ ds) (r ∷ rs) h e =
+    (subst (λ (ss : List SequentTree). AllValid ss) h.0.sequents (law r.sequents r.answers h.0.right (and-left (all_proved r.answers) (is_accepted rs) e)), each-valid law p ds rs h.1 (and-right (all_proved r.answers) (is_accepted rs) e))
+
 -- a program whose report has status 0 is sound
-pub right-sound : (p : Program) (answers : List Answer) (status : ℕ) → AllRight (sequents_of p) answers → status ≡ (if all_proved answers then 0 else 1) → status ≡ 0 → Sound p
-right-sound p answers status right is zero = valid_sound p (proved-valid (sequents_of p) answers right (accepted-by (all_proved answers) (sym is ∙ zero)))
+pub right-sound : ProvedIsValid → OwedIsSound → (p : ProgramTree) (rs : List Reported) (status : ℕ) → IsAccepted p → Judges p rs → status ≡ (if is_accepted rs then 0 else 1) → status ≡ 0 → IsSound p
+right-sound proved sound p rs status ok judges is zero = sound p judges.owed ok judges.owes (each-valid proved p judges.owed rs judges.judged (accepted-by (is_accepted rs) (sym is ∙ zero)))
 
 -- the headline, where a report with status 0 was made
 pub reports-verifies : (words : List (List ℕ)) (holds : List ℕ → Option (List ℕ)) (before after : Option (List ℕ)) (status : ℕ) → Reports words holds before after status → status ≡ 0 → Verifies words holds

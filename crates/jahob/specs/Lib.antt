@@ -1,15 +1,4 @@
-pub mod Reads
-pub mod Subset
-pub mod Checked
-pub mod Refusals
 pub mod Words
-pub mod Command
-pub mod Wp
-pub mod Sequents
-pub mod State
-pub mod Execution
-pub mod Sound
-pub mod Obligations
-pub mod Report
+pub mod Refusals
 pub mod Verify
 pub mod Causes

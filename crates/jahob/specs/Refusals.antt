@@ -1,24 +1,26 @@
 -- Why a source is refused, with the number and the place of the refusal.
-use Rattle.std.specs.Prelude.{ℕ, ◌≡◌, true, List, Some}
+use Rattle.std.specs.Prelude.{ℕ, ◌≡◌, List, [], slice_get}
+use Rattle.std.specs.Option.{option_map_or}
+use Rattle.jh_name.specs.declared.place.MethodId.{MethodId}
 use Rattle.jh_name.specs.declared.place.Place.{Place}
 use Rattle.jh_lex.specs.declared.token.Token.{Token}
 use Rattle.jh_lex.specs.declared.error.LexError.TheVariants as lex
 use Rattle.jh_lex.specs.Lexes.{Lexes, IsFirstFault}
-use Rattle.jh_ast.specs.Programs.{ProgramTree}
+use Rattle.jh_ast.specs.Programs.{ClassPart, MethodPart, ProgramTree}
 use Rattle.jh_nest.specs.Nesting.{AllShallow, IsFirstDeep}
 use Rattle.jh_parse.specs.Members as grammar
 use Rattle.jh_rules.specs.Breaks.{Breaks}
 use Rattle.jh_rules.specs.Faults.{fault}
+use Rattle.jh_rules.specs.Words.{text_of}
 use Rattle.jh_spec.specs.Parsed.{IsStart}
 use Rattle.jh_vars.specs.Reading.{IsAcyclic, IsFirstCyclic}
+use Rattle.jh_vars.specs.States.{class_text}
+use Rattle.jh_obligations.specs.Sources.{OwesMuch}
 use Rattle.jh_type.specs.Refused.{IsLeastFault}
 use Rattle.jh_type.specs.declared.typed.TypeError.{TypeError}
 use Rattle.jh_type.specs.declared.typed.TypeError.TheVariants as type
 use Rattle.jahob.specs.declared.error.Refusal.{Refusal}
 use Rattle.jahob.specs.declared.error.Refusal.TheVariants as refusal
-use Rattle.jahob.specs.declared.tree.Program.{Program}
-use Rattle.jahob.specs.Checked.{is_well_named}
-use Rattle.jahob.specs.Subset.{program_of}
 
 -- The bytes spell a tree: they are cut into tokens that spell it, none of which is nested too deep.
 pub record Parses (bytes : List ℕ) (tree : ProgramTree) : Type 0 where
@@ -56,20 +58,31 @@ pub record IsCircular (bytes : List ℕ) (name : List ℕ) : Type 0 where
   pub class : ℕ
   pub first : IsFirstCyclic tree (record { class = class; name = name })
 
--- The bytes spell a tree that breaks no type rule, has no cyclic variable, and is no program of those that are verified so far.
-pub record IsUnbuilt (bytes : List ℕ) : Type 0 where
-  pub tree : ProgramTree
+-- Bytes spell a program: they spell a tree that breaks no type rule and has no cyclic variable.
+pub record Spells (bytes : List ℕ) (tree : ProgramTree) : Type 0 where
   pub parsed : Parses bytes tree
   pub typed : IsTyped tree
   pub acyclic : IsAcyclic tree
-  pub none : (p : Program) → program_of tree ≡ Some p → is_well_named p ≡ true → ⊥
+
+-- the own name of a method, by its number
+abbrev pub method_text : ProgramTree → MethodId → List ℕ
+method_text p id = option_map_or (λ (c : ClassPart). option_map_or (λ (m : MethodPart). text_of m.name) (slice_get c.methods id.method) []) (slice_get p.classes id.class) []
+
+-- The bytes spell a program with a method of more than 2,000 sequents; the first such has this class and this name, and so many, as far as a
+-- number of 128 bits tells.
+pub record IsCrowded (bytes class name : List ℕ) (n : ℕ) : Type 0 where
+  pub tree : ProgramTree
+  pub spelled : Spells bytes tree
+  pub id : MethodId
+  pub much : OwesMuch tree id n
+  pub class_is : class ≡ class_text tree id.class
+  pub name_is : name ≡ method_text tree id
 
 -- a refusal is right
 abbrev pub IsWhy : List ℕ → Refusal → Type 0
 IsWhy bytes (refusal.At n p) = RefusedAt bytes n p
 IsWhy bytes (refusal.Mistyped rule p) = IsMistyped bytes rule p
 IsWhy bytes (refusal.Cyclic name) = IsCircular bytes name.text
-IsWhy bytes refusal.Unbuilt = IsUnbuilt bytes
 IsWhy bytes refusal.Memory = Unit {0}
 
 -- a refusal is that for a cyclic variable of the tree, the first in the text, or want of memory

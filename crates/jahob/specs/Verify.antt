@@ -1,30 +1,17 @@
 -- What `verify` reads, what it accepts and what it reports.
-use Rattle.std.specs.List.{list_all}
-use Rattle.std.specs.Prelude.{not, ℕ, ◌≡◌, ◌≤◌, Bool, true, List, length, if◌then◌else◌, Option, Some, IfSome}
+use Rattle.std.specs.Prelude.{ℕ, ◌≡◌, ◌≤◌, Bool, List, length, if◌then◌else◌, Option, Some, IfSome}
 use Rattle.jh_files.specs.Contents.{Appends}
-use Rattle.jahob.specs.declared.prove.Answer.{Answer}
-use Rattle.jahob.specs.declared.tree.Program.{Program}
 use Rattle.jh_ast.specs.Programs.{ProgramTree}
 use Rattle.jh_name.specs.declared.place.Place.{Place}
-use Rattle.jahob.specs.Checked.{is_well_named}
-use Rattle.jh_vars.specs.Reading.{IsAcyclic}
-use Rattle.jahob.specs.Refusals.{Parses, IsTyped, RefusedAt, IsMistyped, IsCircular, IsUnbuilt}
-use Rattle.jahob.specs.Subset.{program_of}
+use Rattle.jh_vars.specs.States.{class_text}
+use Rattle.jh_runs.specs.LoweredProgram.{IsSound}
+use Rattle.jh_sequents.specs.Pairs.{ArePaired}
+use Rattle.jh_obligations.specs.Owed.{Debt}
+use Rattle.jh_obligations.specs.Sources.{Owes}
+use Rattle.jh_prove.specs.Right.{AllRight}
+use Rattle.jh_report.specs.Report.{Reported, report_of, is_accepted}
+use Rattle.jahob.specs.Refusals.{Spells, RefusedAt, IsMistyped, IsCircular, IsCrowded, method_text}
 use Rattle.jahob.specs.Words.{verify_file}
-use Rattle.jahob.specs.Sequents.{AllRight}
-use Rattle.jahob.specs.Obligations.{sequents_of}
-use Rattle.jahob.specs.Report.{report_of, is_unproved}
-use Rattle.jahob.specs.Sound.{Sound}
-
--- Bytes spell a program: they spell a tree that breaks no type rule, has no cyclic variable and is a program of those that are
--- verified so far, and it is well named.
-pub record Spells (bytes : List ℕ) (p : Program) : Type 0 where
-  pub tree : ProgramTree
-  pub parsed : Parses bytes tree
-  pub typed : IsTyped tree
-  pub acyclic : IsAcyclic tree
-  pub is : program_of tree ≡ Some p
-  pub named : is_well_named p ≡ true
 
 -- the most bytes that a source may have
 abbrev pub source_limit : ℕ
@@ -34,26 +21,35 @@ source_limit = 1048576
 abbrev pub Tells : Option (List ℕ) → List ℕ → Type 0
 Tells held bytes = IfSome held (λ told. bytes ≡ told)
 
--- the status of answers: 0 where none is Unproved
-abbrev pub all_proved : List Answer → Bool
-all_proved answers = list_all (λ a. not (is_unproved a)) answers
+-- What is reported of a method of a program: its class and its own name, its sequents, and right answers for them.
+pub record IsJudged (p : ProgramTree) (d : Debt) (r : Reported) : Type 0 where
+  pub class : r.class ≡ class_text p d.id.class
+  pub name : r.name ≡ method_text p d.id
+  pub sequents : r.sequents ≡ d.sequents
+  pub right : AllRight r.sequents r.answers
 
--- a text is the report on a program, with right answers for its sequents
-pub record IsReport (p : Program) (text : List ℕ) (accepted : Bool) : Type 0 where
-  pub answers : List Answer
-  pub right : AllRight (sequents_of p) answers
-  pub text_is : text ≡ report_of p (sequents_of p) answers
-  pub accepted_is : accepted ≡ all_proved answers
+-- What is reported of a program: of each of its methods, in the order of the text, the sequents that it owes with right answers.
+pub record Judges (p : ProgramTree) (rs : List Reported) : Type 0 where
+  pub owed : List Debt
+  pub owes : Owes p owed
+  pub judged : ArePaired (IsJudged p) owed rs
+
+-- a text is the report on a program, and says whether no answer is Unproved
+pub record IsReport (p : ProgramTree) (text : List ℕ) (accepted : Bool) : Type 0 where
+  pub reported : List Reported
+  pub judges : Judges p reported
+  pub text_is : text ≡ report_of reported
+  pub accepted_is : accepted ≡ is_accepted reported
 
 -- The words ask for a file, whose bytes spell one program.
-pub record IsRead (words : List (List ℕ)) (holds : List ℕ → Option (List ℕ)) (p : Program) : Type 0 where
+pub record IsRead (words : List (List ℕ)) (holds : List ℕ → Option (List ℕ)) (p : ProgramTree) : Type 0 where
   pub file : List ℕ
   pub bytes : List ℕ
   pub asked : verify_file words ≡ Some file
   pub told : Tells (holds file) bytes
   pub within : length bytes ≤ source_limit
   pub spelled : Spells bytes p
-  pub only : (q : Program) → Spells bytes q → q ≡ p
+  pub only : (q : ProgramTree) → Spells bytes q → q ≡ p
 
 -- The words ask for a file, whose bytes are refused with a number, at a place.
 pub record IsRefused (words : List (List ℕ)) (holds : List ℕ → Option (List ℕ)) (number : ℕ) (place : Place) : Type 0 where
@@ -82,28 +78,28 @@ pub record IsLooped (words : List (List ℕ)) (holds : List ℕ → Option (List
   pub within : length bytes ≤ source_limit
   pub why : IsCircular bytes name
 
--- The words ask for a file, whose bytes spell a tree that is no program of those that are verified so far.
-pub record IsLeft (words : List (List ℕ)) (holds : List ℕ → Option (List ℕ)) : Type 0 where
+-- The words ask for a file, whose bytes spell a program with a method of too many sequents.
+pub record IsLeft (words : List (List ℕ)) (holds : List ℕ → Option (List ℕ)) (class name : List ℕ) (n : ℕ) : Type 0 where
   pub file : List ℕ
   pub bytes : List ℕ
   pub asked : verify_file words ≡ Some file
   pub told : Tells (holds file) bytes
   pub within : length bytes ≤ source_limit
-  pub why : IsUnbuilt bytes
+  pub why : IsCrowded bytes class name n
 
 -- The headline: the words ask for a file whose bytes spell one program, and that program is sound.
 pub record Verifies (words : List (List ℕ)) (holds : List ℕ → Option (List ℕ)) : Type 0 where
-  pub program : Program
+  pub program : ProgramTree
   pub read : IsRead words holds program
-  pub sound : Sound program
+  pub sound : IsSound program
 
 -- The words ask for a file whose bytes spell one program, and the report on it was written, with right
 -- answers for its sequents; the status is 0 where none is Unproved, and else 1. With 0 that program is sound.
 pub record Reports (words : List (List ℕ)) (holds : List ℕ → Option (List ℕ)) (before after : Option (List ℕ)) (status : ℕ) : Type 0 where
-  pub program : Program
+  pub program : ProgramTree
   pub read : IsRead words holds program
-  pub answers : List Answer
-  pub right : AllRight (sequents_of program) answers
-  pub written : Appends before (report_of program (sequents_of program) answers) after
-  pub status_is : status ≡ (if all_proved answers then 0 else 1)
-  pub sound : status ≡ 0 → Sound program
+  pub reported : List Reported
+  pub judges : Judges program reported
+  pub written : Appends before (report_of reported) after
+  pub status_is : status ≡ (if is_accepted reported then 0 else 1)
+  pub sound : status ≡ 0 → IsSound program

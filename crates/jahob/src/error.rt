@@ -1,47 +1,4 @@
 use jh_name::{Name, NoMemory, Place};
-use std::alloc::{AllocError, AllocFailed};
-
-/// Why a syntax tree is no program of those that are verified so far.
-#[derive(Clone, Copy, Debug, PartialEq, Eq)]
-pub enum ReadError {
-    /// It is none.
-    Refused,
-    /// Memory ran out.
-    Memory,
-}
-
-impl From<NoMemory> for ReadError {
-    ghost use Rattle.std.specs.Prelude.{◌≡◌};
-    ghost use Rattle.jahob.specs.declared.error.ReadError.TheVariants.{Memory};
-
-    ghost from_gives = { λ _ error. error ≡ Memory };
-
-    fn from(_error: NoMemory) -> ReadError {
-        ReadError::Memory
-    }
-}
-
-impl From<AllocError> for ReadError {
-    ghost use Rattle.std.specs.Prelude.{◌≡◌};
-    ghost use Rattle.jahob.specs.declared.error.ReadError.TheVariants.{Memory};
-
-    ghost from_gives = { λ _ error. error ≡ Memory };
-
-    fn from(_error: AllocError) -> ReadError {
-        ReadError::Memory
-    }
-}
-
-impl<T: Drop> From<AllocFailed<T>> for ReadError {
-    ghost use Rattle.std.specs.Prelude.{◌≡◌};
-    ghost use Rattle.jahob.specs.declared.error.ReadError.TheVariants.{Memory};
-
-    ghost from_gives = { λ _ error. error ≡ Memory };
-
-    fn from(_error: AllocFailed<T>) -> ReadError {
-        ReadError::Memory
-    }
-}
 
 /// Why a source isn't verified.
 #[derive(Debug, Drop)]
@@ -52,8 +9,26 @@ pub enum Refusal {
     Mistyped(u8, Place),
     /// The definition of a variable of this name, the first such in the text, reads the variable.
     Cyclic(Name),
-    /// It spells no program of those that are verified so far.
-    Unbuilt,
     /// Memory ran out.
     Memory,
+}
+
+/// Why there is no report on a program.
+#[derive(Debug, Drop)]
+pub enum Unreported {
+    /// A method has more than 2,000 sequents; the line says which, the first such, and how many.
+    Crowded(String),
+    /// Memory ran out.
+    Memory,
+}
+
+impl From<NoMemory> for Unreported {
+    ghost use Rattle.std.specs.Prelude.{◌≡◌};
+    ghost use Rattle.jahob.specs.declared.error.Unreported.TheVariants.{Memory};
+
+    ghost from_gives = { λ _ error. error ≡ Memory };
+
+    fn from(_error: NoMemory) -> Unreported {
+        Unreported::Memory
+    }
 }

@@ -1,53 +1,26 @@
 //! The top call: from the words of a command line to a report.
 #![tactic(auto)]
 
-ghost use Rattle.std.specs.Prelude.{◌≡◌, ◌≢◌, ◌+◌, ◌<◌, ◌^◌, ◌-◌, ◌⊎◌, ◌++◌, ℕ, List, codes, map, length, string_bytes, IfOk, IfErr, OnOk, Some, Err, true};
-ghost use Rattle.jh_tree.specs.Bare.{formula_tree};
-ghost use Rattle.jahob.specs.declared.tree.Program.{Program as ProgramTree};
-ghost use Rattle.jahob.specs.Obligations.{obligation_of, member_sequents, method_id, number_after, sequents_of};
-ghost use Rattle.jahob.specs.Sequents.{sequent_tree, split_of};
-ghost use Rattle.jahob.specs.Verify.{Spells, IsReport, Verifies, Reports};
+ghost use Rattle.std.specs.Prelude.{◌≡◌, ◌≢◌, ◌-◌, ◌<◌, ◌^◌, ◌⊎◌, ℕ, List, codes, map, length, string_bytes, IfOk};
 ghost use Rattle.jh_ast.specs.Bare.{program_tree};
-ghost use Rattle.jh_lex.specs.Lexes.{Lexes};
-ghost use Rattle.jahob.specs.Checked.{is_well_named};
-ghost use Rattle.jh_ast.specs.Programs.{ProgramTree as SourceTree};
+ghost use Rattle.jh_sound.specs.Laws.{IsAccepted};
 ghost use Rattle.jh_vars.specs.Reading.{IsAcyclic};
-ghost use Rattle.jh_unfold.specs.Holding.{IsCause};
-ghost use Rattle.jahob.specs.Refusals.{Parses, IsTyped, IsWhy, IsLoopOf, refusal_of};
-ghost use Rattle.jahob.specs.Subset.{program_of};
+ghost use Rattle.jahob.specs.Verify.{Verifies, Reports};
 ghost use Rattle.jahob.specs.Causes.{fault_text, refused_text, mistyped_text, circular_text, IsRefusal, IsIllness, IsLoop, IsReply, IsFault, FitsBytes, FitsFile, Fits, Takes, Delivered, HaveNoFault, reply_due, Answered, Exact};
 
-use crate::check::is_well_named;
-use crate::command::of_method;
-use crate::error::{ReadError, Refusal};
-use crate::prove::prove_all;
-use crate::report::{all_proved, report};
-use crate::sequent::Sequent;
-use crate::split::split;
-use crate::subset::subset_program;
-use crate::tree::{Member, Method, Program};
+use crate::error::{Refusal, Unreported};
+use crate::reading::{read, spelled_source_is_accepted};
+use crate::reporting::verify;
 use crate::words::file_of;
-use crate::wp::wp;
-use jh_ast::Program as Source;
 use jh_files::{FileFault, Files, Sink, put_all};
-use jh_form::Formula;
-use jh_lex::{LexError, Token, tokens};
-use jh_name::{MethodId, Name, NoMemory, Place};
-use jh_parse::program;
-use jh_spec::ParseError;
-use jh_type::{TypeError, Typed, check};
-use jh_unfold::{Unfolded, VarsError, unfold};
+use jh_name::{Name, NoMemory, Place};
+use jh_obligations::{owed_is_sound, too_many_is_exact};
+use jh_prove::proved_is_valid;
+use jh_unfold::Unfolded;
 use std::alloc::Global;
 
 /// The most bytes that a source may have.
 const SOURCE_LIMIT: u64 = 1_048_576;
-
-/// A report on a program, and whether every sequent is proved.
-#[derive(Debug, Drop)]
-pub struct Verified {
-    pub text: String,
-    pub accepted: bool,
-}
 
 /// What a call comes to, before anything is written.
 #[derive(Debug, Drop)]
@@ -61,8 +34,8 @@ pub enum Reply {
     Mistyped(String),
     /// The source has a cyclic variable; the line names it.
     Circular(String),
-    /// The source spells no program of those that are verified so far.
-    Unbuilt,
+    /// A method has more sequents than a method may have; the line names it, and says how many.
+    Crowded(String),
     /// The file can't be read; the line says why.
     Fault(String),
     NoMemory,
@@ -79,7 +52,7 @@ impl Reply {
             Reply::Refused(_) => 3,
             Reply::Mistyped(_) => 3,
             Reply::Circular(_) => 3,
-            Reply::Unbuilt => 3,
+            Reply::Crowded(_) => 3,
             Reply::Fault(_) => 4,
             Reply::NoMemory => 6,
         }
@@ -95,7 +68,7 @@ impl Reply {
             Reply::Refused(text) => text.as_str(),
             Reply::Mistyped(text) => text.as_str(),
             Reply::Circular(text) => text.as_str(),
-            Reply::Unbuilt => "refused 13\n",
+            Reply::Crowded(text) => text.as_str(),
             Reply::Fault(text) => text.as_str(),
             Reply::NoMemory => "no memory\n",
         }
@@ -111,203 +84,11 @@ impl Reply {
             Reply::Refused(_) => false,
             Reply::Mistyped(_) => false,
             Reply::Circular(_) => false,
-            Reply::Unbuilt => false,
+            Reply::Crowded(_) => false,
             Reply::Fault(_) => false,
             Reply::NoMemory => false,
         }
     }
-}
-
-/// The tokens of a source.
-fn cut(alloc: Global, bytes: &[u8]) -> Result<Vec<Token>, Refusal>
-    requires { length bytes.now < 2 ^ 32 - 1 }
-    ensures cut { IfOk result (λ made. Lexes bytes.now made.items) }
-    ensures why { IfErr result (IsWhy bytes.now) }
-{
-    match tokens(alloc, bytes) {
-        Ok(tokens) => Ok(tokens),
-        Err(LexError::NotUtf8(place)) => Err(Refusal::At(1, place)),
-        Err(LexError::BadChar(place)) => Err(Refusal::At(2, place)),
-        Err(LexError::OpenComment(place)) => Err(Refusal::At(3, place)),
-        Err(LexError::OpenQuote(place)) => Err(Refusal::At(4, place)),
-        Err(LexError::TooWide(place)) => Err(Refusal::At(5, place)),
-        Err(LexError::Memory) => Err(Refusal::Memory),
-    }
-}
-
-/// The syntax tree of a source.
-fn parsed(alloc: Global, bytes: &[u8]) -> Result<Source, Refusal>
-    requires { length bytes.now < 2 ^ 32 - 1 }
-    ensures parsed { IfOk result (λ source. Parses bytes.now (program_tree source)) }
-    ensures why { IfErr result (IsWhy bytes.now) }
-{
-    let tokens = cut(alloc, bytes)?;
-    match program(alloc, tokens.as_slice()) {
-        Ok(source) => Ok(source),
-        Err(ParseError::Syntax(place)) => Err(Refusal::At(6, place)),
-        Err(ParseError::TooDeep(place)) => Err(Refusal::At(7, place)),
-        Err(ParseError::Memory) => Err(Refusal::Memory),
-    }
-}
-
-/// The program that a syntax tree is, where it is well named and one of those that are verified so far.
-fn built(alloc: Global, source: &Source) -> Result<Program, ReadError>
-    ensures is { IfOk result (λ p. program_of (program_tree source.now) ≡ Some p) }
-    ensures named { IfOk result (λ p. is_well_named p ≡ true) }
-    ensures none { result ≡ Err ReadError.Refused → (p : ProgramTree) → program_of (program_tree source.now) ≡ Some p → is_well_named p ≡ true → ⊥ }
-{
-    let program = subset_program(alloc, source)?;
-    if is_well_named(&program) {
-        Ok(program)
-    } else {
-        Err(ReadError::Refused)
-    }
-}
-
-/// Why a source that breaks a type rule isn't verified.
-fn refusal_of(fault: TypeError) -> Refusal
-    ensures { result ≡ refusal_of fault }
-{
-    match fault {
-        TypeError::TypeFault { rule, place } => Refusal::Mistyped(rule, place),
-        TypeError::Memory => Refusal::Memory,
-    }
-}
-
-/// The syntax tree of a source, which breaks no type rule.
-fn typed(alloc: Global, bytes: &[u8]) -> Result<Typed, Refusal>
-    requires { length bytes.now < 2 ^ 32 - 1 }
-    ensures parsed { IfOk result (λ source. Parses bytes.now (program_tree source)) }
-    ensures typed { IfOk result (λ source. IsTyped (program_tree source)) }
-    ensures why { IfErr result (IsWhy bytes.now) }
-{
-    let source = parsed(alloc, bytes)?;
-    match check(alloc, source) {
-        Ok(typed) => Ok(typed),
-        Err(refused) => Err(refusal_of(refused.fault)),
-    }
-}
-
-/// Why a source that isn't unfolded isn't verified.
-fn loop_of(fault: VarsError) -> Refusal
-    ensures { (tree : SourceTree) → IsCause tree fault → IsLoopOf tree result }
-{
-    match fault {
-        VarsError::CyclicDef(name) => Refusal::Cyclic(name),
-        VarsError::Memory => Refusal::Memory,
-    }
-}
-
-/// A source without cyclic variables, with its formulas.
-fn unfolded(alloc: Global, source: Typed) -> Result<Unfolded, Refusal>
-    ensures same { IfOk result (λ made. made.program ≡ source) }
-    ensures acyclic { IfOk result (λ made. IsAcyclic (program_tree source)) }
-    ensures why { IfErr result (IsLoopOf (program_tree source)) }
-{
-    match unfold(alloc, source) {
-        Ok(made) => Ok(made),
-        Err(refused) => Err(loop_of(refused.fault)),
-    }
-}
-
-/// The program that a source spells.
-fn read(alloc: Global, bytes: &[u8]) -> Result<Program, Refusal>
-    requires { length bytes.now < 2 ^ 32 - 1 }
-    ensures spelled { IfOk result (Spells bytes.now) }
-    ensures why { IfErr result (IsWhy bytes.now) }
-{
-    let source = typed(alloc, bytes)?;
-    let source = unfolded(alloc, source)?;
-    match built(alloc, source.typed().program()) {
-        Ok(program) => Ok(program),
-        Err(ReadError::Refused) => Err(Refusal::Unbuilt),
-        Err(ReadError::Memory) => Err(Refusal::Memory),
-    }
-}
-
-/// The formula that has to be valid for a method to be right.
-fn obligation(alloc: Global, program: &Program, method: &Method) -> Result<Formula, NoMemory>
-    ensures { IfOk result (λ made. formula_tree made ≡ obligation_of program.now method.now) }
-{
-    let command = of_method(alloc, program, method)?;
-    wp(
-        alloc,
-        command.body.items(),
-        &command.returned,
-        &command.returned,
-    )
-}
-
-/// The sequents of a method with a number.
-fn method_sequents(
-    alloc: Global,
-    program: &Program,
-    method: &Method,
-    number: u32,
-) -> Result<Vec<Sequent>, NoMemory>
-    ensures { IfOk result (λ made. map sequent_tree made.items ≡ split_of (method_id number) (obligation_of program.now method.now)) }
-{
-    let formula = obligation(alloc, program, method)?;
-    let id = MethodId {
-        class: 0,
-        method: number,
-    };
-    split(alloc, id, &formula)
-}
-
-/// Adds the sequents of a member, where the next method has a number, and answers the number after it.
-fn add_sequents(
-    alloc: Global,
-    program: &Program,
-    member: &Member,
-    number: u32,
-    made: &mut Vec<Sequent>,
-) -> Result<u32, NoMemory>
-    ensures number { IfOk result (λ next. next ≡ number_after number member.now) }
-    ensures made { OnOk result (map sequent_tree made.new.items ≡ map sequent_tree made.old.items ++ member_sequents program.now number member.now) }
-{
-    match member {
-        Member::Static(_) => Ok(number),
-        Member::Method(method) => {
-            let next = next_number(number)?;
-            let mut more = method_sequents(alloc, program, method, number)?;
-            made.append(&mut more)?;
-            Ok(next)
-        }
-    }
-}
-
-fn next_number(number: u32) -> Result<u32, NoMemory>
-    ensures { IfOk result (λ next. next ≡ number + 1) }
-{
-    match number.checked_add(1) {
-        Some(next) => Ok(next),
-        None => Err(NoMemory),
-    }
-}
-
-/// The sequents of a program, method by method.
-fn sequents(alloc: Global, program: &Program) -> Result<Vec<Sequent>, NoMemory>
-    ensures { IfOk result (λ made. map sequent_tree made.items ≡ sequents_of program.now) }
-{
-    let mut made = Vec::new(alloc);
-    let mut number = 0;
-    let members = program.members.items();
-    for member in members {
-        number = add_sequents(alloc, program, member, number, &mut made)?;
-    }
-    Ok(made)
-}
-
-/// The report on a program, and whether every sequent is proved.
-fn verify(alloc: Global, program: &Program) -> Result<Verified, NoMemory>
-    ensures { IfOk result (λ verified. IsReport program.now (string_bytes verified.text) verified.accepted) }
-{
-    let sequents = sequents(alloc, program)?;
-    let answers = prove_all(alloc, sequents.as_slice())?;
-    let text = report(alloc, program, sequents.as_slice(), answers.as_slice())?;
-    let accepted = all_proved(answers.as_slice());
-    Ok(Verified { text, accepted })
 }
 
 /// The line for a source that breaks a type rule, at a place.
@@ -369,12 +150,15 @@ fn reply_to_refusal(alloc: Global, number: u8, place: Place) -> Reply
     }
 }
 
-fn reply_to_program(alloc: Global, program: &Program) -> Reply
-    ensures { IsReply program.now result }
+fn reply_to_program(alloc: Global, source: Unfolded) -> Reply
+    requires accepted { IsAccepted (program_tree source.program) }
+    requires acyclic { IsAcyclic (program_tree source.program) }
+    ensures { IsReply (program_tree source.program) result }
 {
-    match verify(alloc, program) {
+    match verify(alloc, source) {
         Ok(verified) => Reply::Report(verified.text, verified.accepted),
-        Err(NoMemory) => Reply::NoMemory,
+        Err(Unreported::Crowded(text)) => Reply::Crowded(text),
+        Err(Unreported::Memory) => Reply::NoMemory,
     }
 }
 
@@ -382,12 +166,12 @@ fn reply_to_bytes(alloc: Global, bytes: &[u8]) -> Reply
     requires { length bytes.now < 2 ^ 32 - 1 }
     ensures { FitsBytes bytes.now result }
 {
+    spelled_source_is_accepted();
     match read(alloc, bytes) {
-        Ok(program) => reply_to_program(alloc, &program),
+        Ok(source) => reply_to_program(alloc, source),
         Err(Refusal::At(number, place)) => reply_to_refusal(alloc, number, place),
         Err(Refusal::Mistyped(rule, place)) => reply_to_illness(alloc, rule, place),
         Err(Refusal::Cyclic(name)) => reply_to_loop(alloc, &name),
-        Err(Refusal::Unbuilt) => Reply::Unbuilt,
         Err(Refusal::Memory) => Reply::NoMemory,
     }
 }
@@ -502,6 +286,10 @@ pub fn jahob<F: Files, O: Sink, E: Sink>(
     ensures memory { result ≡ 6 → O.written out.new ≡ O.written out.old }
     ensures held { (name : List ℕ) → F.holds files.new name ≡ F.holds files.old name }
 {
+    spelled_source_is_accepted();
+    owed_is_sound();
+    too_many_is_exact();
+    proved_is_valid();
     let reply = reply_to(alloc, words, files);
     deliver(&reply, out, err)
 }

@@ -16,7 +16,7 @@ use std::process::ExitCode;
 use std::{fs, io, str};
 
 /// The files of cases, by what they are about.
-const FILES: [&str; 2] = ["statics.cases", "refusals.cases"];
+const FILES: [&str; 3] = ["statics.cases", "refusals.cases", "methods.cases"];
 
 /// How many cases there were, and how many of them differed.
 #[derive(Clone, Copy)]

@@ -1,4 +1,4 @@
-use Rattle.jahob.proofs.Apart.{one-number, one-place, one-name, refused-typed, refused-built, refused-circular, ill-built, ill-circular, circular-built}
+use Rattle.jahob.proofs.Apart.{one-number, one-place, one-name, one-method, refused-typed, refused-crowded, refused-circular, ill-crowded, ill-circular, circular-crowded}
 use Rattle.jahob.proofs.laws.at_most_one_refusal.Goals as goal
 
 pub returns-clause-number : goal.returns-clause-number
@@ -10,11 +10,11 @@ returns-clause-place c = one-place
 pub returns-clause-typed : goal.returns-clause-typed
 returns-clause-typed c = refused-typed
 
-pub returns-clause-built : goal.returns-clause-built
-returns-clause-built c = refused-built
+pub returns-clause-spelled : goal.returns-clause-spelled
+returns-clause-spelled c = refused-crowded
 
 pub returns-clause-apart : goal.returns-clause-apart
-returns-clause-apart c = ill-built
+returns-clause-apart c = ill-crowded
 
 pub returns-clause-circular : goal.returns-clause-circular
 returns-clause-circular c = refused-circular
@@ -23,7 +23,10 @@ pub returns-clause-ordered : goal.returns-clause-ordered
 returns-clause-ordered c = ill-circular
 
 pub returns-clause-acyclic : goal.returns-clause-acyclic
-returns-clause-acyclic c = circular-built
+returns-clause-acyclic c = circular-crowded
 
 pub returns-clause-name : goal.returns-clause-name
 returns-clause-name c = one-name
+
+pub returns-clause-method : goal.returns-clause-method
+returns-clause-method c = one-method c.too_many_is_exact.ensures.first

@@ -1,0 +1,83 @@
+-- What is reported of the methods of a program, as a loop over them goes on.
+use Rattle.std.proofs.Common.{◌≡◌, refl, sym, ap, subst, ◌∙◌, ℕ, zero, suc, ◌+◌, ◌≤◌, ◌<◌, List, [], ◌∷◌, ◌++◌, drop, length, Option, Some, None, slice_get, add-one}
+use Rattle.std.proofs.lemmas.List.{append_assoc, append-nil, drop_all}
+use Rattle.jh_ast.specs.Programs.{ProgramTree}
+use Rattle.jh_rules.specs.Names.{◌then◌}
+use Rattle.jh_table.specs.Entries.{Listing}
+use Rattle.jh_table.specs.Growth.{Extends}
+use Rattle.jh_table.specs.Nodes.{nodes}
+use Rattle.jh_vars.specs.Opened.{opened}
+use Rattle.jh_asserting.specs.Told.{AreFormulas, node_of, told_at}
+use Rattle.jh_sequent.specs.Sequents.{SequentTree}
+use Rattle.jh_sequents.specs.Pairs.{ArePaired}
+use Rattle.jh_sequents.specs.declared.splitting.Sequents.{Sequents}
+use Rattle.jh_sequents.proofs.Grown.{sequents-stay}
+use Rattle.jh_written.proofs.Gathering.{some-is, none-some}
+use Rattle.jh_obligations.specs.Owed.{AllStand, Debt, Stand}
+use Rattle.jh_prove.specs.declared.answer.Answer.{Answer}
+use Rattle.jh_prove.specs.Right.{AllRight}
+use Rattle.jh_report.specs.Report.{Reported}
+use Rattle.jahob.specs.Verify.{IsJudged}
+
+-- right answers are one for each sequent, and lists in pairs are as long as one another
+pub right-length : (ss : List SequentTree) (answers : List Answer) → AllRight ss answers → length ss ≡ length answers
+right-length [] [] h = refl
+right-length [] (a ∷ answers) h = absurd h
+right-length (s ∷ ss) [] h = absurd h
+right-length (s ∷ ss) (a ∷ answers) h = ap suc (right-length ss answers h.1)
+
+pub paired-length : {X Y : Type 0} (R : X → Y → Type 0) (xs : List X) (ys : List Y) → ArePaired R xs ys → length xs ≡ length ys
+paired-length R [] [] h = refl
+paired-length R [] (y ∷ ys) h = absurd h
+paired-length R (x ∷ xs) [] h = absurd h
+paired-length R (x ∷ xs) (y ∷ ys) h = ap suc (paired-length R xs ys h.1)
+
+-- sequents stay while the table grows
+module _ (t u : Listing) (g : Extends t u) where
+  pub stand-stays : (x : Sequents) (d : Debt) → Stand t x d → Stand u x d
+  stand-stays x d h = (h.0, sequents-stay t u g x.hyps x.method x.sequents.items d.sequents h.1)
+
+  pub stand-all : (xs : List Sequents) (ds : List Debt) → AllStand t xs ds → AllStand u xs ds
+  stand-all [] [] h = tt
+  stand-all [] (d ∷ ds) h = absurd h
+  stand-all (x ∷ xs) [] h = absurd h
+  stand-all (x ∷ xs) (d ∷ ds) h = (stand-stays x d h.0, stand-all xs ds h.1)
+
+-- the sequents at a place
+pub stand-at : (t : Listing) (xs : List Sequents) (ds : List Debt) (n : ℕ) (x : Sequents) → slice_get xs n ≡ Some x → AllStand t xs ds → (d : Debt) × (slice_get ds n ≡ Some d) × Stand t x d
+stand-at t [] ds zero x e h = absurd (none-some x e)
+stand-at t [] ds (suc n) x e h = absurd (none-some x e)
+stand-at t (y ∷ xs) [] n x e h = absurd h
+stand-at t (y ∷ xs) (d ∷ ds) zero x e h = let k : Stand t x d = subst (λ (z : Sequents). Stand t z d) (some-is y x e) h.0 in (d, refl, k)
+stand-at t (y ∷ xs) (d ∷ ds) (suc n) x e h = stand-at t xs ds n x e h.1
+
+drop-at : {X : Type 0} (xs : List X) (n : ℕ) (x : X) → slice_get xs n ≡ Some x → drop n xs ≡ x ∷ drop (suc n) xs
+drop-at [] zero x e = absurd (none-some x e)
+drop-at [] (suc n) x e = absurd (none-some x e)
+drop-at (y ∷ xs) zero x e = ap (λ z. z ∷ xs) (some-is y x e)
+drop-at (y ∷ xs) (suc n) x e = drop-at xs n x e
+
+-- with what is reported of the methods that are left, it is all
+abbrev pub Leads : ProgramTree → List Debt → ℕ → List Reported → Type 0
+Leads p ds n rs = (more : List Reported) → ArePaired (IsJudged p) (drop n ds) more → ArePaired (IsJudged p) ds (rs ++ more)
+
+module _ (p : ProgramTree) (ds : List Debt) where
+  pub leads-next : (n : ℕ) (d : Debt) → slice_get ds n ≡ Some d → (rs : List Reported) (r : Reported) → IsJudged p d r → Leads p ds n rs → Leads p ds (n + 1) (rs ++ r ∷ [])
+  leads-next n d at rs r judged rest more k =
+      subst (λ (us : List Reported). ArePaired (IsJudged p) ds us) (sym (append_assoc rs (r ∷ []) more))
+      (rest (r ∷ more)
+      (subst (λ (es : List Debt). ArePaired (IsJudged p) es (r ∷ more)) (sym (drop-at ds n d at))
+      (judged, subst (λ (j : ℕ). ArePaired (IsJudged p) (drop j ds) more) (add-one n) k)))
+
+  pub leads-end : (n : ℕ) (rs : List Reported) → length ds ≤ n → Leads p ds n rs → ArePaired (IsJudged p) ds rs
+  leads-end n rs le rest =
+      subst (λ (us : List Reported). ArePaired (IsJudged p) ds us) (append-nil rs)
+      (rest [] (subst (λ (es : List Debt). ArePaired (IsJudged p) es []) (sym (drop_all n ds le)) tt))
+
+-- the nodes of the parts of an unfolded program are its formulas
+pub formulas-of : (p : ProgramTree) (t : Listing) (ns : List (Option ℕ)) → ((n : ℕ) → (node_of ns n then slice_get (nodes t)) ≡ opened p n) → ((n k : ℕ) → node_of ns n ≡ Some k → k < length (nodes t)) → AreFormulas p t ns
+formulas-of p t ns value inside = record { inside = inside; is = λ n. told (node_of ns n) ∙ value n }
+  where
+    told : (o : Option ℕ) → told_at t o ≡ (o then slice_get (nodes t))
+    told None = refl
+    told (Some k) = refl
