@@ -2,4 +2,5 @@ mod Counted
 mod Formulas
 mod Outlined
 mod Shown
+mod Unique
 mod Valid

@@ -1,5 +1,5 @@
 -- What the methods of a program owe, as a loop over them goes on.
-use Rattle.std.proofs.Common.{◌≡◌, refl, sym, ap, subst, ◌∙◌, ℕ, zero, suc, ◌+◌, ◌≤◌, List, [], ◌∷◌, ◌++◌, map, drop, length, Some, slice_get, option_map, add-one}
+use Rattle.std.proofs.Common.{◌≡◌, refl, sym, ap, subst, ◌∙◌, ℕ, zero, suc, ◌+◌, ◌≤◌, List, [], ◌∷◌, ◌++◌, map, drop, length, Some, None, slice_get, option_map, add-one}
 use Rattle.std.proofs.lemmas.List.{append_assoc, append-nil, drop_all}
 use Rattle.jh_name.specs.declared.place.MethodId.{MethodId}
 use Rattle.jh_table.specs.Entries.{Listing}
@@ -20,7 +20,7 @@ use Rattle.jh_sequents.proofs.Grown.{sequents-stay}
 use Rattle.jh_written.proofs.Gathering.{some-is}
 use Rattle.jh_known.specs.declared.outline.Callable.{Callable}
 use Rattle.jh_known.specs.declared.outline.Outline.{Outline}
-use Rattle.jh_known.specs.Outlines.{IsCallable, callee_of, program_in, source_of, writes_in}
+use Rattle.jh_known.specs.Outlines.{method_of, IsCallable, callee_of, program_in, source_of, writes_in}
 use Rattle.jh_known.proofs.OutlineSteps.{program-method}
 use Rattle.jh_obligations.specs.declared.fault.LogicError.{LogicError}
 use Rattle.jh_obligations.specs.declared.fault.LogicError.TheVariants as fault
@@ -65,6 +65,10 @@ module _ (o : Outline) (x : Callable) (id : MethodId) (name : Text) (callee : ca
       let k = subst (λ (m : Callee). IsFault (formula_of (program_in o) (writes_in o) m code) (goals.TooMany n)) callee h in
       (refl, record { code = code; is = code-is w.callee callee; many = k.0; exact = λ j. k.1 id j })
   owes-many goals.Memory h = tt
+
+-- what is not in an outline is not in its program
+pub none-there : (o : Outline) (m : Callee) → method_of o m ≡ None → (program_in o).method m ≡ None
+none-there o m e = program-method o m ∙ ap (option_map (method_in (source_of o))) e
 
 -- the first of the items that are left
 drop-at : {X : Type 0} (xs : List X) (n : ℕ) (x : X) → slice_get xs n ≡ Some x → drop n xs ≡ x ∷ drop (suc n) xs

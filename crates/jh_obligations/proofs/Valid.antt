@@ -1,12 +1,13 @@
 -- A program is sound where all sequents of its methods are valid.
-use Rattle.std.proofs.Common.{◌≡◌, refl, sym, ap, subst, ◌∙◌, ℕ, zero, suc, ◌+◌, List, [], ◌∷◌, Some, true, arith}
-use Rattle.jh_ast.specs.Programs.{ProgramTree}
+use Rattle.std.proofs.Common.{◌≡◌, refl, sym, ap, subst, ◌∙◌, ℕ, zero, suc, ◌+◌, List, [], ◌∷◌, Some, option_map, slice_get, true, arith}
+use Rattle.jh_ast.specs.Programs.{ClassPart, ProgramTree}
 use Rattle.jh_rules.specs.Words.{text_of}
 use Rattle.jh_spread.specs.Spreads.{IsIn}
-use Rattle.jh_vars.specs.Written.{Callee}
-use Rattle.jh_written.proofs.Gathering.{some-is, in-gathered}
+use Rattle.jh_rules.specs.Names.{◌then◌}
+use Rattle.jh_vars.specs.Written.{Callee, method_in, part_of}
+use Rattle.jh_written.proofs.Gathering.{some-is, in-gathered, gathered-of}
 use Rattle.jh_runs.specs.Program.{Program, Method}
-use Rattle.jh_runs.specs.LoweredProgram.{program_of}
+use Rattle.jh_runs.specs.LoweredProgram.{program_of, method_code}
 use Rattle.jh_guard.specs.Writes.{Writes}
 use Rattle.jh_logic.specs.Laws.{AreValid}
 use Rattle.jh_logic.specs.MethodContracts.{IsValid}
@@ -17,11 +18,12 @@ use Rattle.jh_tree.specs.Tree.{FormulaTree}
 use Rattle.jh_tree.specs.Passing.{formula_passes}
 use Rattle.jh_sequents.specs.Numbering.{IsFirst}
 use Rattle.jh_sound.specs.Laws.{AcceptedIsSound}
-use Rattle.jh_sound.proofs.Lists.{has-at, no-none}
+use Rattle.jh_sound.proofs.Lists.{at-has, has-at, no-none}
+use Rattle.jh_sound.proofs.Declared.{method-some}
 use Rattle.jh_sound.proofs.Methods.{method-at, method-code}
 use Rattle.jh_obligations.specs.Laws.{EachValid, OwedIsSound}
 use Rattle.jh_outline.proofs.Telling.{exact-writes}
-use Rattle.jh_obligations.specs.Owed.{formula_of, Debt, IsOwed, AreOwed}
+use Rattle.jh_obligations.specs.Owed.{AreThere, formula_of, Debt, IsOwed, AreOwed}
 use Rattle.jh_obligations.specs.Owing.{Owing, owing, owing_of, method_owing, class_owing}
 
 -- each method of a source owes
@@ -36,6 +38,24 @@ owing-has p m x e =
     let own : IsIn (class_owing m.class a.class) w =
     in-gathered (method_owing m.class) 0 a.class.methods k.0 r.0 w k.1 (subst (λ (n : ℕ). IsIn (method_owing m.class n r.0) w) place (zero, refl)) in
     (w, in-gathered class_owing 0 p.classes m.class a.class w a.is (subst (λ (n : ℕ). IsIn (class_owing n a.class) w) class own), ap (λ (t : List ℕ). record { class = m.class; name = t }) a.text)
+
+-- each of its methods is one of its program
+one-in : (x w : Owing) → IsIn (x ∷ []) w → x ≡ w
+one-in x w (zero, e) = some-is x w e
+one-in x w (suc i, e) = absurd (no-none w e)
+
+pub all-there : (p : ProgramTree) → AreThere (program_of p) (owing_of p)
+all-there p w i e =
+    let c = gathered-of class_owing 0 p.classes w i in
+    let m = gathered-of (method_owing (0 + c.0)) 0 c.1.methods w c.3 in
+    let name : List ℕ = text_of m.1.name in
+    let callee : Callee = record { class = 0 + c.0; name = name } in
+    let class : c.0 ≡ 0 + c.0 = omega arith in
+    let at : slice_get p.classes (0 + c.0) ≡ Some c.1 = subst (λ (k : ℕ). slice_get p.classes k ≡ Some c.1) class c.2 in
+    let some = method-some name c.1.methods m.1 (at-has c.1.methods m.0 m.1 m.2) refl in
+    let part : part_of p callee ≡ Some some.0 = ap (λ o. o then λ (k : ClassPart). method_in name k.methods) at ∙ some.1 in
+    let is : callee ≡ w.callee = ap (λ (x : Owing). x.callee) (one-in (owing (0 + c.0) (0 + m.0) name) w m.3) in
+    no-none (method_code p callee.class some.0) (sym e ∙ ap (program_of p).method (sym is) ∙ ap (option_map (method_code p callee.class)) part)
 
 -- what one of some methods owes
 pub owed-at : (q : Program) (ws : Writes) (list : List Owing) (ds : List Debt) → AreOwed q ws list ds → EachValid ds → (w : Owing) → IsIn list w → (d : Debt) × IsOwed q ws w d × AllValid d.sequents

@@ -26,3 +26,7 @@ LittleIsNotMuch = (p : ProgramTree) (id : MethodId) (n : ℕ) → OwesLittle p �
 
 abbrev pub OneIsFirst : Type 0
 OneIsFirst = (p : ProgramTree) (i j : MethodId) (m n : ℕ) → OwesMuch p i m → OwesMuch p j n → (i ≡ j) × (m ≡ n)
+
+-- There is one list of sequents that the methods of a source owe.
+abbrev pub OwedIsOne : Type 0
+OwedIsOne = (p : ProgramTree) (ds es : List Debt) → Owes p ds → Owes p es → ds ≡ es

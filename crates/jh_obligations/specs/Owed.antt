@@ -1,8 +1,9 @@
 -- What the methods of a program owe: the sequents of their formulas.
-use Rattle.std.specs.Prelude.{◌≡◌, ◌≤◌, ◌<◌, ℕ, List, [], ◌∷◌, Some, length}
+use Rattle.std.specs.Prelude.{◌≡◌, ◌≤◌, ◌<◌, ℕ, List, [], ◌∷◌, Some, None, length}
 use Rattle.jh_name.specs.declared.place.MethodId.{MethodId}
 use Rattle.jh_tree.specs.Tree.{FormulaTree}
 use Rattle.jh_table.specs.Entries.{Listing}
+use Rattle.jh_spread.specs.Spreads.{IsIn}
 use Rattle.jh_wp.specs.Wp.{wp}
 use Rattle.jh_vars.specs.Written.{Callee}
 use Rattle.jh_runs.specs.Program.{Program, Method}
@@ -40,6 +41,10 @@ Stand t made d = (made.method ≡ d.id) × AreSequents t made.hyps made.method m
 
 abbrev pub AllStand : Listing → List Sequents → List Debt → Type 0
 AllStand t made ds = ArePaired (Stand t) made ds
+
+-- each of some methods is one of the program
+abbrev pub AreThere : Program → List Owing → Type 0
+AreThere p list = (w : Owing) → IsIn list w → p.method w.callee ≡ None → ⊥
 
 module _ (p : Program) (ws : Writes) where
   -- how many sequents a method has, whichever constants are taken

@@ -8,7 +8,7 @@ use std::alloc::AllocFailed;
 /// Why a program has no list of sequents.
 #[derive(Clone, Copy, Debug, PartialEq, Eq)]
 pub enum LogicError {
-    /// The first method with more than 2,000 has so many, or more than the greatest `u128` where it is that.
+    /// The first method with more than 2,000 has so many; the greatest `u128` stands for itself and for more.
     TooManySequents { method: MethodId, n: u128 },
     Memory,
 }

@@ -1,4 +1,4 @@
-ghost use Rattle.jh_obligations.specs.Laws.{LittleIsNotMuch, OneIsFirst, OwedIsLittle, OwedIsSound};
+ghost use Rattle.jh_obligations.specs.Laws.{LittleIsNotMuch, OneIsFirst, OwedIsLittle, OwedIsOne, OwedIsSound};
 
 use jh_sound::accepted_is_sound;
 use jh_split::split_is_exact;
@@ -10,6 +10,11 @@ pub fn owed_is_sound()
     accepted_is_sound();
     split_is_exact();
 }
+
+/// There is one list of sequents that the methods of a source owe. It is a law, and does nothing.
+pub fn owed_is_one()
+    ensures { OwedIsOne }
+{}
 
 /// Where the methods of a source owe a list of sequents none has too many; there is at most one first method that has,
 /// with one number. It is a law, and does nothing.

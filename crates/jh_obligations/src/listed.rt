@@ -1,7 +1,7 @@
-ghost use Rattle.std.specs.Prelude.{◌≡◌, ◌<◌, List, Some, length, map, slice_get, IfErr, IfOk};
+ghost use Rattle.std.specs.Prelude.{◌≡◌, ◌<◌, List, None, Some, length, map, slice_get, IfErr, IfOk};
 ghost use Rattle.jh_table.specs.Growth.{Extends};
 ghost use Rattle.jh_known.specs.Outlines.{IsOutline, program_in, source_of, writes_in};
-ghost use Rattle.jh_obligations.specs.Owed.{AllStand, AreOwed, Debt, IsOwed, IsOwnWhy, IsWhy, Stand};
+ghost use Rattle.jh_obligations.specs.Owed.{AllStand, AreOwed, AreThere, Debt, IsOwed, IsOwnWhy, IsWhy, Stand};
 ghost use Rattle.jh_obligations.specs.Owing.{owing_in, owing_of};
 
 use crate::fault::{LogicError, fault_of};
@@ -14,14 +14,14 @@ use std::alloc::Global;
 
 /// What a method owes.
 fn owed(table: &mut Table, outline: &Outline<'_>, owner: &Owner<'_>) -> Result<Sequents, LogicError>
-    requires { IsOutline table.old outline.now }
+    requires outline { IsOutline table.old outline.now }
+    requires there { (program_in outline.now).method (owing_in owner.now).callee ≡ None → ⊥ }
     ensures owed { IfOk result (λ made. (d : Debt) × IsOwed (program_in outline.now) (writes_in outline.now) (owing_in owner.now) d × Stand table.new made d) }
     ensures why { IfErr result (IsOwnWhy (program_in outline.now) (writes_in outline.now) (owing_in owner.now)) }
     ensures grows { Extends table.old table.new }
 {
-    // Each method of the source is in its outline, so there is none only where there is no such method.
     match outline.callable(owner.id.class as usize, owner.name) {
-        None => Err(LogicError::Memory),
+        None => unreachable!(),
         Some(method) => match method_sequents(table, outline, &method, owner.id) {
             Err(fault) => Err(fault_of(owner.id, fault)),
             Ok(made) => Ok(made),
@@ -44,7 +44,8 @@ fn all_owed(
     outline: &Outline<'_>,
     owners: &[Owner<'_>],
 ) -> Result<Vec<Sequents>, LogicError>
-    requires { IsOutline table.old outline.now }
+    requires outline { IsOutline table.old outline.now }
+    requires there { AreThere (program_in outline.now) (map owing_in owners.now) }
     ensures owed { IfOk result (λ made. (ds : List Debt) × AreOwed (program_in outline.now) (writes_in outline.now) (map owing_in owners.now) ds × AllStand table.new made.items ds) }
     ensures why { IfErr result (IsWhy (program_in outline.now) (writes_in outline.now) (map owing_in owners.now)) }
     ensures grows { Extends table.old table.new }
@@ -60,14 +61,15 @@ fn all_owed(
     Ok(made)
 }
 
-/// The sequents of all methods of a program, method by method in the order of the text. Where a method has more than
+/// The sequents of all methods of a program, each of which is in its outline, method by method in the order of the text. Where a method has more than
 /// 2,000 the first such is named. What the table held stays in its place, after any answer.
 pub fn sequents(
     alloc: Global,
     table: &mut Table,
     outline: &Outline<'_>,
 ) -> Result<Vec<Sequents>, LogicError>
-    requires { IsOutline table.old outline.now }
+    requires outline { IsOutline table.old outline.now }
+    requires there { AreThere (program_in outline.now) (owing_of (source_of outline.now)) }
     ensures owed { IfOk result (λ made. (ds : List Debt) × AreOwed (program_in outline.now) (writes_in outline.now) (owing_of (source_of outline.now)) ds × AllStand table.new made.items ds) }
     ensures why { IfErr result (IsWhy (program_in outline.now) (writes_in outline.now) (owing_of (source_of outline.now))) }
     ensures grows { Extends table.old table.new }

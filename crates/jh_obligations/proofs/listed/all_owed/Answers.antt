@@ -4,12 +4,18 @@ use Rattle.jh_known.specs.Outlines.{program_in, writes_in}
 use Rattle.jh_known.proofs.OutlineSteps.{outline_grows}
 use Rattle.jh_sequents.specs.declared.splitting.Sequents.{Sequents}
 use Rattle.jh_obligations.specs.Owed.{AllStand}
+use Rattle.jh_written.proofs.Gathering.{in-map}
+use Rattle.jh_obligations.specs.Owing.{owing_in}
 use Rattle.jh_obligations.proofs.Shown.{many-here, many-next, owed-next, owed-end, stand-next}
 use Rattle.jh_obligations.proofs.listed.all_owed.Goals as goal
 
 -- src/listed.rt
-pub owed-requires : goal.owed-requires
-owed-requires c = outline_grows c.args.table.now c.loop-place.table c.args.outline.now c.requires c.loop-place.invariant.grows
+pub owed-requires-clause-outline : goal.owed-requires-clause-outline
+owed-requires-clause-outline c = outline_grows c.args.table.now c.loop-place.table c.args.outline.now c.requires.outline c.loop-place.invariant.grows
+
+-- src/listed.rt
+pub owed-requires-clause-there : goal.owed-requires-clause-there
+owed-requires-clause-there c = c.requires.there (owing_in c.owner_at-owner.result) (c.loop-place.place, in-map owing_in c.args.owners.now c.owner_at-owner.result c.loop-place.place c.owner_at-owner.ensures)
 
 -- src/listed.rt
 pub returns-in-Err-clause-why : goal.returns-in-Err-clause-why

@@ -3,7 +3,7 @@ use Rattle.jh_known.specs.Outlines.{program_in, writes_in}
 use Rattle.jh_obligations.specs.Owed.{IsOwnWhy}
 use Rattle.jh_obligations.specs.Owing.{owing_in}
 use Rattle.jh_obligations.specs.declared.fault.LogicError.{LogicError}
-use Rattle.jh_obligations.proofs.Shown.{owes, owes-many}
+use Rattle.jh_obligations.proofs.Shown.{none-there, owes, owes-many}
 use Rattle.jh_obligations.proofs.listed.owed.Goals as goal
 
 -- src/listed.rt
@@ -17,3 +17,7 @@ pub returns-in-Ok-clause-owed : goal.returns-in-Ok-clause-owed
 returns-in-Ok-clause-owed c =
     let h = c.in-Ok.ensures.sequents in
     owes c.args.outline.now c.in-Some.method c.args.owner.now.id c.args.owner.now.name.now c.in-Some.ensures.some.0 c.in-Some.ensures.some.1 c.method_sequents.new.table c.in-Ok.made h.0 h.1 h.2 c.in-Ok.ensures.few c.in-Ok.ensures.of_method
+
+-- src/listed.rt
+pub unreachable-requires : goal.unreachable-requires
+unreachable-requires c = c.requires.there (none-there c.args.outline.now (record { class = c.args.owner.now.id.class; name = c.args.owner.now.name.now }) (c.callable.ensures.none c.in-None.is))
