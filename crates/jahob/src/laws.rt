@@ -6,7 +6,7 @@ ghost use Rattle.jahob.specs.Refusals.{IsCircular, IsCrowded, IsMistyped, Refuse
 use jh_obligations::too_many_is_exact;
 
 /// At most one refusal applies to given bytes: they are refused with one number, at one place unless it is that of syntax; or they
-/// break a type rule, with one least place and rule; or they have a cyclic variable, of which one is the first; or a method has too
+/// break a type rule; or they have a cyclic variable, of which one is the first; or a method has too
 /// many sequents, of which one is the first.
 pub fn at_most_one_refusal()
     ensures number { (bytes : List ℕ) (m n : ℕ) (p q : Place) → RefusedAt bytes m p → RefusedAt bytes n q → m ≡ n }
