@@ -48,7 +48,13 @@ fn write_names(out: &mut String, names: &[Name]) -> Result<(), NoMemory> {
 /// Writes the label of a sequent.
 fn write_mark(out: &mut String, mark: &Mark) -> Result<(), NoMemory> {
     let place = mark.place;
-    write!(out, "{} {}:{} ", kind_word(mark.kind), place.line, place.column)?;
+    write!(
+        out,
+        "{} {}:{} ",
+        kind_word(mark.kind),
+        place.line,
+        place.column
+    )?;
     match &mark.name {
         None => write!(out, "None")?,
         Some(name) => {
@@ -155,7 +161,13 @@ pub fn write_sequents(
         } else {
             0
         };
-        write_heading(out, table, heading, heading.first.saturating_add(number), sequent.mark)?;
+        write_heading(
+            out,
+            table,
+            heading,
+            heading.first.saturating_add(number),
+            sequent.mark,
+        )?;
         write_hyps(out, table, hyps.as_slice(), known)?;
         write!(out, "  |- ")?;
         write_node(out, table, sequent.goal)?;

@@ -21,7 +21,7 @@ use std::alloc::Global;
 
 /// What is written, how many sequents of it there are so far, and whether it is the short form.
 #[derive(Drop)]
-pub struct Shown {
+pub struct Sheet {
     pub text: String,
     count: usize,
     is_short: bool,
@@ -42,7 +42,11 @@ fn write_mistyped(out: &mut String, fault: TypeError) -> Result<(), NoMemory> {
 fn write_unread(out: &mut String, error: &ParseError) -> Result<(), NoMemory> {
     match error {
         ParseError::Syntax(place) => writeln!(out, "refused 6 at {}:{}", place.line, place.column)?,
-        ParseError::TooDeep(place) => writeln!(out, "refused 7 at {}:{}", place.line, place.column)?,
+        ParseError::TooDeep(place) => writeln!(
+            out,
+            "refused 7 at {}:{}",
+            place.line, place.column
+        )?,
         ParseError::Memory => writeln!(out, "no memory")?,
     }
     Ok(())
@@ -68,7 +72,7 @@ fn write_none(out: &mut String, fault: GoalsFault) -> Result<(), NoMemory> {
 
 /// Writes the sequents of a method, by its class, its name and their numbers.
 fn write_method(
-    out: &mut Shown,
+    out: &mut Sheet,
     table: &mut Table,
     outline: &Outline<'_>,
     class: &str,
@@ -95,7 +99,7 @@ fn write_method(
 
 /// Writes the sequents of the methods of a class.
 fn write_class(
-    out: &mut Shown,
+    out: &mut Sheet,
     table: &mut Table,
     outline: &Outline<'_>,
     class: &Class,
@@ -107,7 +111,14 @@ fn write_class(
             class: number,
             method,
         };
-        write_method(out, table, outline, class.name.text.text(), made.name.text.text(), id)?;
+        write_method(
+            out,
+            table,
+            outline,
+            class.name.text.text(),
+            made.name.text.text(),
+            id,
+        )?;
         method = method.saturating_add(1);
     }
     Ok(())
@@ -115,7 +126,7 @@ fn write_class(
 
 /// Writes the sequents of the methods of classes.
 fn write_classes(
-    out: &mut Shown,
+    out: &mut Sheet,
     table: &mut Table,
     outline: &Outline<'_>,
     classes: &[Class],
@@ -131,7 +142,7 @@ fn write_classes(
 /// Writes the sequents of a program of which there is a draft.
 fn write_draft(
     alloc: Global,
-    out: &mut Shown,
+    out: &mut Sheet,
     table: &mut Table,
     draft: &Draft,
     program: &Program,
@@ -145,7 +156,7 @@ fn write_draft(
 /// Writes the sequents of a program, from what its methods may write and name.
 fn write_both(
     alloc: Global,
-    out: &mut Shown,
+    out: &mut Sheet,
     table: &mut Table,
     program: &Program,
     formulas: &[Option<usize>],
@@ -164,18 +175,26 @@ fn write_both(
 /// Writes the sequents of a program whose formulas are nodes of a table.
 fn write_typed(
     alloc: Global,
-    out: &mut Shown,
+    out: &mut Sheet,
     table: &mut Table,
     typed: &Typed,
     formulas: &[Option<usize>],
 ) -> Result<(), NoMemory> {
     let writes = written(alloc, typed.program())?;
     let names = modified(alloc, typed)?;
-    write_both(alloc, out, table, typed.program(), formulas, &writes, &names)
+    write_both(
+        alloc,
+        out,
+        table,
+        typed.program(),
+        formulas,
+        &writes,
+        &names,
+    )
 }
 
 /// Writes the sequents of a program whose formulas are unfolded.
-fn write_unfolded(alloc: Global, out: &mut Shown, unfolded: Unfolded) -> Result<(), NoMemory> {
+fn write_unfolded(alloc: Global, out: &mut Sheet, unfolded: Unfolded) -> Result<(), NoMemory> {
     let Parts {
         typed,
         mut table,
@@ -185,7 +204,7 @@ fn write_unfolded(alloc: Global, out: &mut Shown, unfolded: Unfolded) -> Result<
 }
 
 /// Writes the sequents of a program that breaks no type rule.
-fn write_checked(alloc: Global, out: &mut Shown, typed: Typed) -> Result<(), NoMemory> {
+fn write_checked(alloc: Global, out: &mut Sheet, typed: Typed) -> Result<(), NoMemory> {
     match unfold(alloc, typed) {
         Ok(unfolded) => write_unfolded(alloc, out, unfolded),
         Err(
@@ -198,7 +217,7 @@ fn write_checked(alloc: Global, out: &mut Shown, typed: Typed) -> Result<(), NoM
 }
 
 /// Writes what comes of the program that tokens spell.
-fn write_tokens(alloc: Global, out: &mut Shown, tokens: &[Token]) -> Result<(), NoMemory> {
+fn write_tokens(alloc: Global, out: &mut Sheet, tokens: &[Token]) -> Result<(), NoMemory> {
     if tokens.is_empty() {
         writeln!(&mut out.text, "no tokens")?;
         return Ok(());
@@ -227,7 +246,7 @@ fn tokens_of(alloc: Global, source: &str) -> Result<Vec<Token>, LexError> {
 
 /// The sequents of the methods of a source, in their order, or why it is refused.
 pub fn shown(alloc: Global, source: &str, is_short: bool) -> Result<String, NoMemory> {
-    let mut out = Shown {
+    let mut out = Sheet {
         text: String::new(alloc),
         count: 0,
         is_short,
@@ -236,7 +255,7 @@ pub fn shown(alloc: Global, source: &str, is_short: bool) -> Result<String, NoMe
         Ok(list) => write_tokens(alloc, &mut out, &list)?,
         Err(_) => writeln!(&mut out.text, "no tokens")?,
     }
-    let Shown {
+    let Sheet {
         text,
         count: _,
         is_short: _,

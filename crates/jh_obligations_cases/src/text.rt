@@ -155,12 +155,7 @@ fn write_fields(
 
 /// Writes the list of fields of a shape that has one.
 #[cycle(written)]
-fn write_list(
-    out: &mut String,
-    table: &Table,
-    shape: Shape,
-    depth: u32,
-) -> Result<(), NoMemory> {
+fn write_list(out: &mut String, table: &Table, shape: Shape, depth: u32) -> Result<(), NoMemory> {
     if depth == 0 {
         return Ok(());
     }
@@ -189,7 +184,11 @@ fn write_parts(
         Own::None => Ok(()),
         Own::One(part) => write_deep(out, table, part, depth - 1),
         Own::Two(left, right) => {
-            let (first, second) = if words.is_turned { (right, left) } else { (left, right) };
+            let (first, second) = if words.is_turned {
+                (right, left)
+            } else {
+                (left, right)
+            };
             write_deep(out, table, first, depth - 1)?;
             write!(out, "{}", words.between)?;
             write_deep(out, table, second, depth - 1)
