@@ -1,5 +1,8 @@
 //! The sequents of a method as text.
 
+ghost use Rattle.std.specs.Prelude.{◌<◌, length};
+ghost use Rattle.jh_obligations_cases.specs.Marked.{HasMark, HaveMarks, StandIn};
+
 use crate::text::{write_name, write_node};
 use jh_name::{Name, NoMemory};
 use jh_sequents::{NodeHyp, NodeSequent, Sequents};
@@ -68,7 +71,9 @@ fn write_mark(out: &mut String, mark: &Mark) -> Result<(), NoMemory> {
 }
 
 /// Writes the label of a sequent by its number.
-fn write_label(out: &mut String, table: &Table, mark: Option<usize>) -> Result<(), NoMemory> {
+fn write_label(out: &mut String, table: &Table, mark: Option<usize>) -> Result<(), NoMemory>
+    requires { HasMark table.now mark }
+{
     match mark {
         None => {
             write!(out, "Assert 0:0 None []")?;
@@ -79,7 +84,9 @@ fn write_label(out: &mut String, table: &Table, mark: Option<usize>) -> Result<(
 }
 
 /// Writes the name of a hypothesis, or a dash where it has none.
-fn write_hyp_name(out: &mut String, table: &Table, mark: Option<usize>) -> Result<(), NoMemory> {
+fn write_hyp_name(out: &mut String, table: &Table, mark: Option<usize>) -> Result<(), NoMemory>
+    requires { HasMark table.now mark }
+{
     if let Some(number) = mark {
         if let Some(name) = &table.mark_at(number).name {
             return write_name(out, name);
@@ -90,7 +97,9 @@ fn write_hyp_name(out: &mut String, table: &Table, mark: Option<usize>) -> Resul
 }
 
 /// Writes a hypothesis.
-fn write_hyp(out: &mut String, table: &Table, hyp: NodeHyp) -> Result<(), NoMemory> {
+fn write_hyp(out: &mut String, table: &Table, hyp: NodeHyp) -> Result<(), NoMemory>
+    requires { HasMark table.now hyp.mark }
+{
     write!(out, "  ")?;
     write_hyp_name(out, table, hyp.mark)?;
     write!(out, " ")?;
@@ -121,7 +130,9 @@ fn write_hyps(
     table: &Table,
     hyps: &[NodeHyp],
     known: usize,
-) -> Result<(), NoMemory> {
+) -> Result<(), NoMemory>
+    requires { HaveMarks table.now hyps.now }
+{
     if known != 0 {
         writeln!(out, "  {known} as before")?;
     }
@@ -138,11 +149,52 @@ fn write_heading(
     heading: Heading<'_>,
     number: usize,
     mark: Option<usize>,
-) -> Result<(), NoMemory> {
+) -> Result<(), NoMemory>
+    requires { HasMark table.now mark }
+{
     write!(out, "{number} {}.{} ", heading.class, heading.method)?;
     write_label(out, table, mark)?;
     writeln!(out)?;
     Ok(())
+}
+
+/// Writes the goal of a sequent.
+fn write_goal(out: &mut String, table: &Table, goal: usize) -> Result<(), NoMemory> {
+    write!(out, "  |- ")?;
+    write_node(out, table, goal)?;
+    writeln!(out)?;
+    Ok(())
+}
+
+/// Writes the sequent at a place of a list, and answers its hypotheses. `before` are those of the sequent before.
+fn write_one(
+    out: &mut String,
+    table: &Table,
+    heading: Heading<'_>,
+    made: &Sequents,
+    place: usize,
+    before: &[NodeHyp],
+) -> Result<Vec<NodeHyp>, NoMemory>
+    requires within { place < length made.now.sequents.items }
+    requires there { StandIn table.now made.now }
+{
+    let sequent = made.sequents[place];
+    let hyps = made.hyps(table.alloc(), sequent.hyps)?;
+    let known = if heading.is_short {
+        shared(before, hyps.as_slice())
+    } else {
+        0
+    };
+    write_heading(
+        out,
+        table,
+        heading,
+        heading.first.saturating_add(place),
+        sequent.mark,
+    )?;
+    write_hyps(out, table, hyps.as_slice(), known)?;
+    write_goal(out, table, sequent.goal)?;
+    Ok(hyps)
 }
 
 /// Writes the sequents of a method.
@@ -151,28 +203,12 @@ pub fn write_sequents(
     table: &Table,
     heading: Heading<'_>,
     made: &Sequents,
-) -> Result<(), NoMemory> {
+) -> Result<(), NoMemory>
+    requires { StandIn table.now made.now }
+{
     let mut before: Vec<NodeHyp> = Vec::new(table.alloc());
-    for number in 0..made.sequents.len() {
-        let sequent = made.sequents[number];
-        let hyps = made.hyps(table.alloc(), sequent.hyps)?;
-        let known = if heading.is_short {
-            shared(before.as_slice(), hyps.as_slice())
-        } else {
-            0
-        };
-        write_heading(
-            out,
-            table,
-            heading,
-            heading.first.saturating_add(number),
-            sequent.mark,
-        )?;
-        write_hyps(out, table, hyps.as_slice(), known)?;
-        write!(out, "  |- ")?;
-        write_node(out, table, sequent.goal)?;
-        writeln!(out)?;
-        before = hyps;
+    for place in 0..made.sequents.len() {
+        before = write_one(out, table, heading, made, place, before.as_slice())?;
     }
     Ok(())
 }

@@ -1,22 +1,25 @@
 //! The sequents of the methods of a source.
 
+ghost use Rattle.std.specs.Prelude.{IfOk};
+ghost use Rattle.jh_asserting.specs.Told.{AreFormulas};
+ghost use Rattle.jh_ast.specs.Bare.{program_tree};
+ghost use Rattle.jh_sound.specs.Laws.{IsAccepted};
+ghost use Rattle.jh_vars.specs.Reading.{IsAcyclic};
+ghost use Rattle.jh_obligations_cases.specs.Lexed.{IsLexed};
+ghost use Rattle.jh_obligations_cases.specs.Marked.{AllStandIn, StandIn};
+
 use crate::sequents::{Heading, write_sequents};
-use jh_ast::{Class, Program};
-use jh_goals::GoalsFault;
-use jh_known::Outline;
-use jh_lex::{LexError, Token, tokens};
-use jh_lower::Context;
-use jh_modified::modified;
+use jh_ast::Program;
+use jh_lex::{LexError, Token, places_rise, shape_of_tokens, tokens};
 use jh_name::{MethodId, NoMemory};
-use jh_obligations::method_sequents;
-use jh_outline::{Draft, draft_of};
+use jh_obligations::{LogicError, obligations};
 use jh_parse::program;
+use jh_sequents::Sequents;
 use jh_spec::ParseError;
+use jh_spelled::spelled_is_accepted;
 use jh_table::Table;
-use jh_tables::lookups_of;
 use jh_type::{TypeError, TypeRefused, Typed, check};
 use jh_unfold::{Parts, Unfolded, VarsError, VarsRefused, unfold};
-use jh_written::{MethodPlaces, written};
 use std::alloc::Global;
 
 /// What is written, how many sequents of it there are so far, and whether it is the short form.
@@ -61,150 +64,101 @@ fn write_cyclic(out: &mut String, fault: &VarsError) -> Result<(), NoMemory> {
     Ok(())
 }
 
-/// Writes why a method has no list of sequents.
-fn write_none(out: &mut String, fault: GoalsFault) -> Result<(), NoMemory> {
-    match fault {
-        GoalsFault::TooMany(count) => writeln!(out, "too many: {count}")?,
-        GoalsFault::Memory => writeln!(out, "no memory")?,
+/// The text of the class of a number.
+fn class_text(program: &Program, number: u32) -> &str {
+    match program.classes.items().get(number as usize) {
+        None => "",
+        Some(class) => class.name.text.text(),
     }
-    Ok(())
 }
 
-/// Writes the sequents of a method, by its class, its name and their numbers.
-fn write_method(
-    out: &mut Sheet,
-    table: &mut Table,
-    outline: &Outline<'_>,
-    class: &str,
-    method: &str,
-    id: MethodId,
-) -> Result<(), NoMemory> {
-    let heading = Heading {
-        class,
-        method,
-        first: out.count,
-        is_short: out.is_short,
-    };
-    match outline.callable(id.class as usize, method) {
-        None => Ok(()),
-        Some(callable) => match method_sequents(table, outline, &callable, id) {
-            Err(fault) => write_none(&mut out.text, fault),
-            Ok(made) => {
-                out.count = out.count.saturating_add(made.sequents.len());
-                write_sequents(&mut out.text, table, heading, &made)
-            }
+/// The own name of a method, by its number.
+fn method_text(program: &Program, id: MethodId) -> &str {
+    match program.classes.items().get(id.class as usize) {
+        None => "",
+        Some(class) => match class.methods.items().get(id.method as usize) {
+            None => "",
+            Some(method) => method.name.text.text(),
         },
     }
 }
 
-/// Writes the sequents of the methods of a class.
-fn write_class(
-    out: &mut Sheet,
-    table: &mut Table,
-    outline: &Outline<'_>,
-    class: &Class,
-    number: u32,
-) -> Result<(), NoMemory> {
-    let mut method = 0;
-    for made in class.methods.items() {
-        let id = MethodId {
-            class: number,
-            method,
-        };
-        write_method(
-            out,
-            table,
-            outline,
-            class.name.text.text(),
-            made.name.text.text(),
-            id,
-        )?;
-        method = method.saturating_add(1);
+/// Writes why a program has no sequents.
+fn write_none(out: &mut String, program: &Program, fault: LogicError) -> Result<(), NoMemory> {
+    match fault {
+        LogicError::TooManySequents { method, n } => {
+            let class = class_text(program, method.class);
+            writeln!(
+                out,
+                "refused 12 {class}.{} {n}",
+                method_text(program, method)
+            )?
+        }
+        LogicError::Memory => writeln!(out, "no memory")?,
     }
     Ok(())
 }
 
-/// Writes the sequents of the methods of classes.
-fn write_classes(
+/// Writes the sequents of a method.
+fn write_method(
     out: &mut Sheet,
-    table: &mut Table,
-    outline: &Outline<'_>,
-    classes: &[Class],
-) -> Result<(), NoMemory> {
-    let mut number: u32 = 0;
-    for class in classes {
-        write_class(out, table, outline, class, number)?;
-        number = number.saturating_add(1);
-    }
-    Ok(())
-}
-
-/// Writes the sequents of a program of which there is a draft.
-fn write_draft(
-    alloc: Global,
-    out: &mut Sheet,
-    table: &mut Table,
-    draft: &Draft,
+    table: &Table,
     program: &Program,
-    formulas: &[Option<usize>],
-) -> Result<(), NoMemory> {
-    let state = draft.state(alloc)?;
-    let outline = draft.outline(program, state.as_slice(), formulas);
-    write_classes(out, table, &outline, program.classes.items())
-}
-
-/// Writes the sequents of a program, from what its methods may write and name.
-fn write_both(
-    alloc: Global,
-    out: &mut Sheet,
-    table: &mut Table,
-    program: &Program,
-    formulas: &[Option<usize>],
-    writes: &MethodPlaces,
-    names: &MethodPlaces,
-) -> Result<(), NoMemory> {
-    let lookups = lookups_of(alloc, program)?;
-    let context = Context {
-        program,
-        lookups: &lookups,
+    made: &Sequents,
+) -> Result<(), NoMemory>
+    requires { StandIn table.now made.now }
+{
+    let heading = Heading {
+        class: class_text(program, made.method.class),
+        method: method_text(program, made.method),
+        first: out.count,
+        is_short: out.is_short,
     };
-    let draft = draft_of(alloc, table, &context, writes, names)?;
-    write_draft(alloc, out, table, &draft, program, formulas)
+    out.count = out.count.saturating_add(made.sequents.len());
+    write_sequents(&mut out.text, table, heading, made)
+}
+
+/// Writes the sequents of all methods.
+fn write_methods(
+    out: &mut Sheet,
+    table: &Table,
+    program: &Program,
+    made: &[Sequents],
+) -> Result<(), NoMemory>
+    requires { AllStandIn table.now made.now }
+{
+    for place in 0..made.len() {
+        write_method(out, table, program, &made[place])?;
+    }
+    Ok(())
 }
 
 /// Writes the sequents of a program whose formulas are nodes of a table.
-fn write_typed(
-    alloc: Global,
-    out: &mut Sheet,
-    table: &mut Table,
-    typed: &Typed,
-    formulas: &[Option<usize>],
-) -> Result<(), NoMemory> {
-    let writes = written(alloc, typed.program())?;
-    let names = modified(alloc, typed)?;
-    write_both(
-        alloc,
-        out,
-        table,
-        typed.program(),
-        formulas,
-        &writes,
-        &names,
-    )
+fn write_parts(alloc: Global, out: &mut Sheet, parts: &mut Parts) -> Result<(), NoMemory>
+    requires accepted { IsAccepted (program_tree parts.old.typed) }
+    requires acyclic { IsAcyclic (program_tree parts.old.typed) }
+    requires formulas { AreFormulas (program_tree parts.old.typed) parts.old.table parts.old.formulas.items }
+{
+    let formulas = parts.formulas.as_slice();
+    match obligations(alloc, &parts.typed, &mut parts.table, formulas) {
+        Err(fault) => write_none(&mut out.text, parts.typed.program(), fault),
+        Ok(made) => write_methods(out, &parts.table, parts.typed.program(), made.as_slice()),
+    }
 }
 
 /// Writes the sequents of a program whose formulas are unfolded.
-fn write_unfolded(alloc: Global, out: &mut Sheet, unfolded: Unfolded) -> Result<(), NoMemory> {
-    let Parts {
-        typed,
-        mut table,
-        formulas,
-    } = unfolded.into_parts(alloc)?;
-    write_typed(alloc, out, &mut table, &typed, formulas.as_slice())
+fn write_unfolded(alloc: Global, out: &mut Sheet, unfolded: Unfolded) -> Result<(), NoMemory>
+    requires accepted { IsAccepted (program_tree unfolded.program) }
+    requires acyclic { IsAcyclic (program_tree unfolded.program) }
+{
+    let mut parts = unfolded.into_parts(alloc)?;
+    write_parts(alloc, out, &mut parts)
 }
 
 /// Writes the sequents of a program that breaks no type rule.
-fn write_checked(alloc: Global, out: &mut Sheet, typed: Typed) -> Result<(), NoMemory> {
+fn write_checked(alloc: Global, out: &mut Sheet, typed: Typed) -> Result<(), NoMemory>
+    requires { IsAccepted (program_tree typed) }
+{
     match unfold(alloc, typed) {
         Ok(unfolded) => write_unfolded(alloc, out, unfolded),
         Err(
@@ -217,11 +171,16 @@ fn write_checked(alloc: Global, out: &mut Sheet, typed: Typed) -> Result<(), NoM
 }
 
 /// Writes what comes of the program that tokens spell.
-fn write_tokens(alloc: Global, out: &mut Sheet, tokens: &[Token]) -> Result<(), NoMemory> {
+fn write_tokens(alloc: Global, out: &mut Sheet, tokens: &[Token]) -> Result<(), NoMemory>
+    requires { IsLexed tokens.now }
+{
     if tokens.is_empty() {
         writeln!(&mut out.text, "no tokens")?;
         return Ok(());
     }
+    shape_of_tokens();
+    places_rise();
+    spelled_is_accepted();
     match program(alloc, tokens) {
         Err(error) => write_unread(&mut out.text, &error),
         Ok(program) => match check(alloc, program) {
@@ -237,7 +196,9 @@ fn write_tokens(alloc: Global, out: &mut Sheet, tokens: &[Token]) -> Result<(), 
 }
 
 /// The tokens of a source.
-fn tokens_of(alloc: Global, source: &str) -> Result<Vec<Token>, LexError> {
+fn tokens_of(alloc: Global, source: &str) -> Result<Vec<Token>, LexError>
+    ensures { IfOk result (λ made. IsLexed made.items) }
+{
     if source.len() >= 1 << 20 {
         return Err(LexError::Memory);
     }

@@ -1,5 +1,8 @@
 //! Terms, fields and formulas of a table as text.
 
+ghost use Rattle.std.specs.Prelude.{◌≡◌, true, is_some, slice_get};
+ghost use Rattle.jh_table.specs.Nodes.{fits_in};
+
 use jh_name::{Name, NoMemory};
 use jh_table::{Own, Shape, Table};
 
@@ -104,12 +107,17 @@ pub fn write_name(out: &mut String, name: &Name) -> Result<(), NoMemory> {
 }
 
 /// Writes a name of the table by its number.
-fn write_named(out: &mut String, table: &Table, number: usize) -> Result<(), NoMemory> {
+fn write_named(out: &mut String, table: &Table, number: usize) -> Result<(), NoMemory>
+    requires { is_some (slice_get table.now.pools.names number) ≡ true }
+{
     write_name(out, table.name_at(number))
 }
 
 /// Writes the shapes that have no parts, and what stands before the parts of a shape with a number.
-fn write_head(out: &mut String, table: &Table, shape: Shape) -> Result<(), NoMemory> {
+#[tactic(auto, unfolding(jh_table::specs::Nodes::fits))]
+fn write_head(out: &mut String, table: &Table, shape: Shape) -> Result<(), NoMemory>
+    requires { fits_in table.now shape ≡ true }
+{
     match shape {
         Shape::Bound(number) => write!(out, "#{number}")?,
         Shape::Null => write!(out, "null")?,
@@ -155,7 +163,10 @@ fn write_fields(
 
 /// Writes the list of fields of a shape that has one.
 #[cycle(written)]
-fn write_list(out: &mut String, table: &Table, shape: Shape, depth: u32) -> Result<(), NoMemory> {
+#[tactic(auto, unfolding(jh_table::specs::Nodes::fits))]
+fn write_list(out: &mut String, table: &Table, shape: Shape, depth: u32) -> Result<(), NoMemory>
+    requires { fits_in table.now shape ≡ true }
+{
     if depth == 0 {
         return Ok(());
     }

@@ -1,0 +1,2 @@
+mod Formulas
+mod Marks
