@@ -1,5 +1,5 @@
 -- The nodes of the formulas of a program, as they come from unfolding and as outlines take them.
-use Rattle.std.proofs.Common.{◌≡◌, ◌<◌, refl, sym, ◌∙◌, ℕ, List, Option, None, Some, length, slice_get}
+use Rattle.std.proofs.Common.{◌≡◌, ◌<◌, refl, ◌∙◌, ℕ, List, Option, None, Some, length, slice_get}
 use Rattle.jh_ast.specs.Programs.{ProgramTree}
 use Rattle.jh_table.specs.Entries.{Listing}
 use Rattle.jh_table.specs.Nodes.{nodes}
