@@ -1,0 +1,4 @@
+pub mod Puts
+pub mod Apart
+pub mod States
+pub mod Writes
