@@ -1,0 +1,5 @@
+pub mod ReadSteps
+pub mod ObjectSteps
+pub mod NumberSteps
+pub mod TruthSteps
+pub mod ValueSteps

@@ -1,0 +1,41 @@
+use Rattle.std.proofs.Common.{rules, ◌≡◌}
+use Rattle.jh_runs.specs.Values.{value, number_of}
+use Rattle.jh_memory.specs.Held.{state_of}
+use Rattle.jh_operands.specs.Exprs.{number_in}
+use Rattle.jh_operands.specs.Faults.{TwoFault}
+use Rattle.jh_operands.proofs.NumberSteps.{two_left, two_right}
+use Rattle.jh_operands.proofs.numbers.two_numbers.Goals as goal
+
+-- src/numbers.rt
+pub returns-in_err-left-clause-fault : goal.returns-in_err-left-clause-fault
+returns-in_err-left-clause-fault c first second =
+    let names = c.args.memory.now.names in
+    let s = state_of c.args.memory.now in
+    let a = number_in names c.args.left.now in
+    let b = number_in names c.args.right.now in
+    let d = c.in_err-left.field-0.0 in
+    let whole : TwoFault a b s d = two_left a b s d (c.in_err-left.ensures.fault first) in
+    search rules
+
+-- src/numbers.rt
+pub returns-in_err-right-clause-fault : goal.returns-in_err-right-clause-fault
+returns-in_err-right-clause-fault c first second =
+    let names = c.args.memory.now.names in
+    let s = state_of c.args.memory.now in
+    let a = number_in names c.args.left.now in
+    let b = number_in names c.args.right.now in
+    let d = c.in_err-right.field-0.0 in
+    let y = c.in_ok-left.left in
+    let whole : TwoFault a b s d = two_right a b s y d (c.in_ok-left.ensures.value first) (c.in_err-right.ensures.fault second) in
+    search rules
+
+-- src/numbers.rt
+pub returns-clause-value : goal.returns-clause-value
+returns-clause-value c first second =
+    let names = c.args.memory.now.names in
+    let s = state_of c.args.memory.now in
+    let a = number_in names c.args.left.now in
+    let b = number_in names c.args.right.now in
+    let one : number_of a s ≡ value c.in_ok-left.left = c.in_ok-left.ensures.value first in
+    let other : number_of b s ≡ value c.in_ok-right.right = c.in_ok-right.ensures.value second in
+    (search rules, search rules)
