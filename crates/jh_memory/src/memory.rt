@@ -67,7 +67,8 @@ impl<'a> Memory<'a> {
 
     /// The names.
     pub fn names(&self) -> &'a Names
-        ensures { result.now ≡ self.now.names }
+        ensures names { result.now ≡ self.now.names }
+        ensures sized { length self.now.cells ≡ length self.now.names }
     {
         self.names
     }
