@@ -1,0 +1,10 @@
+mod QueryExamples
+mod Counts
+mod Bits
+mod Spans
+mod Places
+mod Counted
+mod Tellings
+mod Polarities
+mod Validity
+mod Rooms

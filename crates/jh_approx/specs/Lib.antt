@@ -1,0 +1,6 @@
+pub mod Shown
+pub mod Names
+pub mod Links
+pub mod Told
+pub mod Regions
+pub mod Laws

@@ -1,0 +1,12 @@
+ghost use Rattle.jh_approx.specs.Laws.{QueriesAreWellFormed, TrueQueryIsValid};
+
+/// A sequent is valid where its query is true under all sizes that fit it. It is a law, and does nothing.
+pub fn true_query_is_valid()
+    ensures { TrueQueryIsValid }
+{}
+
+/// The query of a sequent names only its own sets, elements, numbers and flags, has null for element 0, and divides by 1 or
+/// more. It is a law, and does nothing.
+pub fn queries_are_well_formed()
+    ensures { QueriesAreWellFormed }
+{}

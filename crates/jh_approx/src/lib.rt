@@ -1,0 +1,6 @@
+//! What stands for a sequent where it is decided by regions.
+#![tactic(auto)]
+
+mod laws;
+
+pub use laws::{queries_are_well_formed, true_query_is_valid};
