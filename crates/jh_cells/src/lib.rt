@@ -1,0 +1,6 @@
+//! Heaps as lists.
+#![tactic(auto)]
+
+mod cells;
+
+pub use cells::{Args, Cell, Heap};

@@ -1,0 +1,5 @@
+mod Rulings
+mod Settings
+mod Finishings
+mod Readings
+mod Writings
