@@ -1,0 +1,4 @@
+pub mod Liftings
+pub mod Meanings
+pub mod Keeping
+mod Rules
