@@ -18,7 +18,7 @@ from settle import settled
 
 TOP = os.path.dirname(os.path.dirname(os.path.abspath(__file__)))
 # forms and settle write nothing themselves
-SCRIPTS = ('alike', 'carry', 'compare', 'enter', 'makers', 'normal', 'parts', 'premises', 'premises_arms', 'reach', 'rewrite', 'sem', 'several', 'table', 'value', 'walk_code')
+SCRIPTS = ('alike', 'carry', 'compare', 'enter', 'exchange', 'makers', 'normal', 'parts', 'premises', 'premises_arms', 'reach', 'rewrite', 'sem', 'several', 'table', 'value', 'walk_code')
 
 
 def text_of(path):

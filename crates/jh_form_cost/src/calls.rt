@@ -6,7 +6,7 @@ ghost use Rattle.jh_table.specs.Growth.{Extends};
 ghost use Rattle.jh_table.specs.Nodes.{nodes};
 
 use crate::building::balanced;
-use jh_form::{FormFault, Formulas, Table, conjunction, null};
+use jh_form::{FormFault, Formulas, Table, conjunction, null, vary};
 use jh_name::{NoMemory, name};
 
 /// The formula with null for one of its names.
@@ -40,6 +40,14 @@ pub fn opened(table: &mut Table, formula: usize) -> Result<usize, NoMemory>
 {
     let value = null(table)?;
     table.open(formula, value)
+}
+
+/// The formula under one more binder, with the binder's variable for null.
+pub fn varied(table: &mut Table, formula: usize) -> Result<usize, NoMemory>
+    requires { is_truth (slice_get (nodes table.old) formula) ≡ true }
+{
+    let term = null(table)?;
+    vary(table, formula, term)
 }
 
 /// Opens one formula.
