@@ -1,0 +1,4 @@
+mod Foldings
+mod Standing
+mod Arms
+mod Joins

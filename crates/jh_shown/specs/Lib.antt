@@ -1,0 +1,3 @@
+pub mod Memos
+pub mod Folding
+pub mod Showing
