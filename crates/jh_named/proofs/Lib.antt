@@ -1,0 +1,4 @@
+pub mod Onces
+mod PartNames
+mod Findings
+mod Steps
