@@ -8,3 +8,5 @@ mod Tellings
 mod Polarities
 mod Validity
 mod Rooms
+mod Closures
+mod Linkings

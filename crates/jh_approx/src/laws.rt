@@ -1,4 +1,4 @@
-ghost use Rattle.jh_approx.specs.Laws.{QueriesAreWellFormed, TrueQueryIsValid};
+ghost use Rattle.jh_approx.specs.Laws.{LinkedIsLeast, QueriesAreWellFormed, TrueQueryIsValid};
 
 /// A sequent is valid where its query is true under all sizes that fit it. It is a law, and does nothing.
 pub fn true_query_is_valid()
@@ -9,4 +9,10 @@ pub fn true_query_is_valid()
 /// more. It is a law, and does nothing.
 pub fn queries_are_well_formed()
     ensures { QueriesAreWellFormed }
+{}
+
+/// A hypothesis is linked where it shares a linking name with the goal or with a linked hypothesis, and only there. It is a
+/// law, and does nothing.
+pub fn linked_is_least()
+    ensures { LinkedIsLeast }
 {}
