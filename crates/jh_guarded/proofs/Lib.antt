@@ -1,0 +1,3 @@
+pub mod TreeSteps
+mod EnterSteps
+mod BoxSteps
