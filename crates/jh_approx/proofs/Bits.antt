@@ -5,11 +5,11 @@ use Rattle.std.proofs.Math.Nat.{div-add-mod, mod-lt, pow-suc}
 use Rattle.jh_query.specs.Sizing.{spelled}
 use Rattle.jh_query.specs.Truth.{is_in}
 
-powers : (k : ℕ) → 0 < 2 ^ k
+pub powers : (k : ℕ) → 0 < 2 ^ k
 powers zero = omega arith
 powers (suc k) = let h : 0 < 2 ^ k = powers k in omega arith
 
-one-more : (b s p : ℕ) → b < 2 → 0 < p → (b + 2 * s) / (2 * p) ≡ s / p
+pub one-more : (b s p : ℕ) → b < 2 → 0 < p → (b + 2 * s) / (2 * p) ≡ s / p
 one-more b s p h k =
     let whole : p * (s / p) + s % p ≡ s = div-add-mod s p in
     let below : s % p < p = mod-lt s k in
@@ -25,7 +25,7 @@ small : (d : Bool) → (if d then 1 else 0) < 2
 small true = omega arith
 small false = omega arith
 
-doubled : (k : ℕ) → 2 ^ suc k ≡ 2 * 2 ^ k
+pub doubled : (k : ℕ) → 2 ^ suc k ≡ 2 * 2 ^ k
 doubled k = let h : 2 ^ suc k ≡ 2 ^ k * 2 = pow-suc 2 k in omega arith
 
 pub digit-is : (ds : List Bool) (k : ℕ) → k < length ds → is_in (spelled ds) k ≡ get_or ds k false

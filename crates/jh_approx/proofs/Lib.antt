@@ -10,3 +10,10 @@ mod Validity
 mod Rooms
 mod Closures
 mod Linkings
+mod Filters
+mod Rests
+mod Objects
+mod PlainNames
+mod Listings
+mod Refuting
+mod ListedExamples

@@ -124,7 +124,7 @@ module _ (m : Interp) where
   agree_is false false = refl
 
   -- what is said of a formula that a query can say is the formula
-  sayable-same : (a : FormulaTree) (s : Bool) → is_sayable a ≡ true → truth (shown a s) m [] ≡ truth a m []
+  pub sayable-same : (a : FormulaTree) (s : Bool) → is_sayable a ≡ true → truth (shown a s) m [] ≡ truth a m []
   unfolding shown is_sayable
   sayable-same t.true_formula s h = refl
   sayable-same t.false_formula s h = refl

@@ -1,11 +1,16 @@
 -- What the query of a sequent is for.
-use Rattle.std.specs.Prelude.{◌≡◌, ◌⊎◌, Bool, true, List, [], ◌∷◌, filter}
+use Rattle.std.specs.Prelude.{◌≡◌, ◌⊎◌, Bool, true, false, List, [], ◌∷◌, filter}
+use Rattle.std.specs.List.{list_all}
 use Rattle.jh_tree.specs.Tree.{ValueTree, FormulaTree}
 use Rattle.jh_query.specs.Named.{IsWellFormed}
-use Rattle.jh_query.specs.Truth.{IsTrueQuery}
-use Rattle.jh_sequent.specs.Sequents.{HypTree, SequentTree, IsValid}
-use Rattle.jh_approx.specs.Links.{goal_names, is_linking, fact_links, shares, is_linked}
-use Rattle.jh_approx.specs.Regions.{bapa_of}
+use Rattle.jh_query.specs.Truth.{Fits, IsTrueQuery, query_true}
+use Rattle.jh_query.specs.Sizing.{Sizing}
+use Rattle.jh_tree.specs.Meaning.{Interp, InUniverse, truth}
+use Rattle.jh_sequent.specs.Sequents.{HypTree, SequentTree, AllTrue, IsValid}
+use Rattle.jh_approx.specs.Links.{goal_names, is_linking, fact_links, shares, is_linked, is_kept}
+use Rattle.jh_approx.specs.Listed.{listed_in}
+use Rattle.jh_approx.specs.Plain.{is_plain, kept_hyps}
+use Rattle.jh_approx.specs.Regions.{bapa_of, unlabelled}
 
 -- A sequent is valid where its query is true under all sizes that fit it.
 abbrev pub TrueQueryIsValid : Type 0
@@ -36,3 +41,14 @@ pub record LinksRight (s : SequentTree) : Type 0 where
 
 abbrev pub LinkedIsLeast : Type 0
 LinkedIsLeast = (s : SequentTree) → LinksRight s
+
+-- Sizes that refute the query of a plain sequent list an interpretation in which the hypotheses that are kept are true and the goal
+-- is false. Where all are kept, the sequent isn't valid.
+pub record IsFalseIn (s : SequentTree) (m : Interp) : Type 0 where
+  pub inside : InUniverse m
+  pub kept : AllTrue (kept_hyps s) m
+  pub goal : truth s.goal m [] ≡ false
+  pub whole : list_all (is_kept (unlabelled s)) (unlabelled s).hyps ≡ true → AllTrue s.hyps m
+
+abbrev pub RefutedIsFalse : Type 0
+RefutedIsFalse = (s : SequentTree) (z : Sizing) → is_plain s ≡ true → Fits (bapa_of s) z → query_true (bapa_of s) z ≡ false → IsFalseIn s (listed_in s z)

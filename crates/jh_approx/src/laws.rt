@@ -1,4 +1,6 @@
-ghost use Rattle.jh_approx.specs.Laws.{LinkedIsLeast, QueriesAreWellFormed, TrueQueryIsValid};
+ghost use Rattle.jh_approx.specs.Laws.{LinkedIsLeast, QueriesAreWellFormed, RefutedIsFalse, TrueQueryIsValid};
+
+use jh_query::classes_may_be_renamed;
 
 /// A sequent is valid where its query is true under all sizes that fit it. It is a law, and does nothing.
 pub fn true_query_is_valid()
@@ -16,3 +18,11 @@ pub fn queries_are_well_formed()
 pub fn linked_is_least()
     ensures { LinkedIsLeast }
 {}
+
+/// Sizes that refute the query of a plain sequent list an interpretation in which the hypotheses that are kept are true and the goal
+/// is false. It is a law, and does nothing.
+pub fn refuted_is_false()
+    ensures { RefutedIsFalse }
+{
+    classes_may_be_renamed();
+}

@@ -3,4 +3,4 @@
 
 mod laws;
 
-pub use laws::{linked_is_least, queries_are_well_formed, true_query_is_valid};
+pub use laws::{linked_is_least, queries_are_well_formed, refuted_is_false, true_query_is_valid};
