@@ -1,0 +1,3 @@
+pub mod Chosen
+mod Sorts
+pub mod Gathers
