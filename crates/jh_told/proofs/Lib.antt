@@ -1,0 +1,6 @@
+mod SetArms
+mod NumberArms
+mod AtomArms
+mod CondArms
+mod Numbering
+mod Facts
