@@ -1,0 +1,4 @@
+pub mod Listings
+pub mod Growing
+pub mod Gatherings
+mod LinkSorts

@@ -1,0 +1,3 @@
+pub mod Memos
+pub mod Notes
+pub mod Linking
