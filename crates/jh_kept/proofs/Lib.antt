@@ -1,0 +1,5 @@
+mod Lists
+mod Values
+mod Linkings
+mod Readings
+mod Askings
