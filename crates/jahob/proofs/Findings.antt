@@ -1,20 +1,20 @@
 -- From what was due and delivered to the clauses of the top call.
-use Rattle.std.proofs.Common.{◌≡◌, ◌≤◌, ◌<◌, ℕ, List, length, ap, sym, ◌∙◌, Bool, true, false, refl, arith, inl, inr}
+use Rattle.std.proofs.Common.{◌≡◌, ◌≤◌, ◌<◌, ℕ, List, length, ap, sym, subst, ◌∙◌, Bool, true, false, refl, arith, inl, inr}
 use Rattle.std.specs.Prelude.{◌≢◌, Option, None, Some, IfSome, ◌⊎◌, if◌then◌else◌, codes}
 use Rattle.jh_ast.specs.Programs.{ProgramTree}
 use Rattle.jh_sound.specs.Laws.{IsAccepted}
-use Rattle.jh_obligations.specs.Laws.{OwedIsSound, OwedIsLittle, LittleIsNotMuch}
+use Rattle.jh_obligations.specs.Laws.{OwedIsSound, OwedIsLittle, LittleIsNotMuch, OwedIsOne}
 use Rattle.jh_obligations.specs.Sources.{OwesLittle}
-use Rattle.jh_prove.specs.Laws.{ProvedIsValid}
-use Rattle.jh_report.specs.Report.{is_accepted}
+use Rattle.jh_prove.specs.Laws.{ProvedIsValid, ProvableIsProved}
+use Rattle.jh_report.specs.Report.{Reported, is_accepted}
 use Rattle.jh_vars.specs.States.{class_text}
 use Rattle.jahob.specs.Refusals.{Spells, method_text}
 use Rattle.jahob.specs.declared.top.Reply.{Reply}
 use Rattle.jahob.specs.declared.top.Reply.TheVariants as reply
 use Rattle.jahob.specs.Causes.{FilesSeen, SinkSeen, Finding, reported, no_job, refused, mistyped, circular, crowded, file_failed, file_too_long, no_memory, Comes, Due, due, reply_due, Takes, IsTaken, Delivered, HaveNoFault, Answered, IsExcused, Exact, FitsBytes, FitsFile, Fits, IsFault, IsReply, fault_text}
-use Rattle.jahob.specs.Verify.{Tells, Reports, Verifies, source_limit}
+use Rattle.jahob.specs.Verify.{Tells, Judges, OwesProvable, Reports, Verifies, source_limit}
 use Rattle.jahob.specs.Words.{verify_file}
-use Rattle.jahob.proofs.Verifying.{spells-one, refused-parses, ill-spells, loop-spells, crowded-spells, reports-verifies, right-sound}
+use Rattle.jahob.proofs.Verifying.{spells-one, refused-parses, ill-spells, loop-spells, crowded-spells, reports-verifies, right-sound, provable-accepted}
 
 -- a status is the one that is due, or 5
 takes-status : (sink : SinkSeen) (text : List ℕ) (d status : ℕ) → Takes sink text d status → (status ≡ d) ⊎ (status ≡ 5)
@@ -180,6 +180,10 @@ not-long words files file bytes other asked held comes =
     let is : files.holds other ≡ Some bytes = ap files.holds same ∙ held in
     longer (files.holds other) bytes is comes.1
 
+-- the report on a program has the status that is due, or there is an excuse
+abbrev pub Found : ProgramTree → FilesSeen → List ℕ → ℕ → Type 0
+Found p files file status = ((rs : List Reported) × Judges p rs × (status ≡ (if is_accepted rs then 0 else 1))) ⊎ IsExcused files file status
+
 module _ (little : OwedIsLittle) (much : LittleIsNotMuch) where
   -- a file whose bytes are as short as a source may be, and why its bytes spell no program: the status is 3, or it is excused
   refused-of : (words : List (List ℕ)) (files : FilesSeen) (out err : SinkSeen) (status : ℕ) (o : Finding) → Comes words files o → Delivered (due o) out err status
@@ -203,41 +207,60 @@ module _ (little : OwedIsLittle) (much : LittleIsNotMuch) where
   report-due true status is = inl is
   report-due false status is = inr is
 
-  reported-of : (words : List (List ℕ)) (files : FilesSeen) (out err : SinkSeen) (status : ℕ) (o : Finding) → Comes words files o → Delivered (due o) out err status
-      → (file bytes : List ℕ) (p : ProgramTree) → verify_file words ≡ Some file → files.holds file ≡ Some bytes → length bytes ≤ source_limit → Spells bytes p → OwesLittle p → (status ≡ 0) ⊎ (status ≡ 1) ⊎ IsExcused files file status
-  reported-of words files out err status (reported q rs) comes delivered file bytes p asked held short spells few =
+  found-of : (words : List (List ℕ)) (files : FilesSeen) (out err : SinkSeen) (status : ℕ) (o : Finding) → Comes words files o → Delivered (due o) out err status
+      → (file bytes : List ℕ) (p : ProgramTree) → verify_file words ≡ Some file → files.holds file ≡ Some bytes → length bytes ≤ source_limit → Spells bytes p → OwesLittle p → Found p files file status
+  found-of words files out err status (reported q rs) comes delivered file bytes p asked held short spells few =
+      let same : comes.0.bytes ≡ bytes = told-bytes words files.holds file bytes comes.0.file comes.0.bytes asked held comes.0.asked comes.0.told in
+      let one : q ≡ p = spells-one bytes q p (rw (sym same) comes.0.spelled) spells in
       elim (takes-status out _ (if is_accepted rs then 0 else 1) status delivered.0) [
-        | inl is ↦ elim (report-due (is_accepted rs) status is) [ inl zero ↦ inl zero | inr one ↦ inr (inl one) ]
-        | inr five ↦ inr (inr (inr (inl five)))
+        | inl is ↦ inl (rs, subst (λ (t : ProgramTree). Judges t rs) one comes.1, is)
+        | inr five ↦ inr (inr (inl five))
       ]
-  reported-of words files out err status no_job comes delivered file bytes p asked held short spells few = none-some (verify_file words) file comes asked
-  reported-of words files out err status (refused n place) comes delivered file bytes p asked held short spells few =
+  found-of words files out err status no_job comes delivered file bytes p asked held short spells few = none-some (verify_file words) file comes asked
+  found-of words files out err status (refused n place) comes delivered file bytes p asked held short spells few =
       let same : comes.bytes ≡ bytes = told-bytes words files.holds file bytes comes.file comes.bytes asked held comes.asked comes.told in
       absurd (refused-parses bytes n place p (rw (sym same) comes.why) spells.parsed)
-  reported-of words files out err status (mistyped rule place) comes delivered file bytes p asked held short spells few =
+  found-of words files out err status (mistyped rule place) comes delivered file bytes p asked held short spells few =
       let same : comes.bytes ≡ bytes = told-bytes words files.holds file bytes comes.file comes.bytes asked held comes.asked comes.told in
       absurd (ill-spells bytes rule place p (rw (sym same) comes.why) spells)
-  reported-of words files out err status (circular name) comes delivered file bytes p asked held short spells few =
+  found-of words files out err status (circular name) comes delivered file bytes p asked held short spells few =
       let same : comes.bytes ≡ bytes = told-bytes words files.holds file bytes comes.file comes.bytes asked held comes.asked comes.told in
       absurd (loop-spells bytes name p (rw (sym same) comes.why) spells)
-  reported-of words files out err status (crowded class name n) comes delivered file bytes p asked held short spells few =
+  found-of words files out err status (crowded class name n) comes delivered file bytes p asked held short spells few =
       let same : comes.bytes ≡ bytes = told-bytes words files.holds file bytes comes.file comes.bytes asked held comes.asked comes.told in
       absurd (crowded-spells much bytes class name n p (rw (sym same) comes.why) spells few)
-  reported-of words files out err status (file_failed other) comes delivered file bytes p asked held short spells few = inr (inr (excused-failed words files err _ file other status asked comes delivered.0))
-  reported-of words files out err status (file_too_long other) comes delivered file bytes p asked held short spells few =
+  found-of words files out err status (file_failed other) comes delivered file bytes p asked held short spells few = inr (excused-failed words files err _ file other status asked comes delivered.0)
+  found-of words files out err status (file_too_long other) comes delivered file bytes p asked held short spells few =
       let long : source_limit < length bytes = not-long words files file bytes other asked held comes in
       absurd (omega (arith, long, short))
-  reported-of words files out err status no_memory comes delivered file bytes p asked held short spells few = inr (inr (excused-memory files err _ file status delivered.0))
+  found-of words files out err status no_memory comes delivered file bytes p asked held short spells few = inr (excused-memory files err _ file status delivered.0)
 
-  pub answered-exact : (words : List (List ℕ)) (files : FilesSeen) (out err : SinkSeen) (status : ℕ) → Answered words files out err status → Exact words files status
-  answered-exact words files out err status a = record {
+  reported-of : (words : List (List ℕ)) (files : FilesSeen) (out err : SinkSeen) (status : ℕ) → Answered words files out err status
+      → (file bytes : List ℕ) (p : ProgramTree) → verify_file words ≡ Some file → files.holds file ≡ Some bytes → length bytes ≤ source_limit → Spells bytes p → OwesLittle p → (status ≡ 0) ⊎ (status ≡ 1) ⊎ IsExcused files file status
+  reported-of words files out err status a file bytes p asked held short spells few =
+      elim (found-of words files out err status a.finding a.comes a.delivered file bytes p asked held short spells few) [
+        | inl found ↦ elim (report-due (is_accepted found.0) status found.2) [ inl zero ↦ inl zero | inr one ↦ inr (inl one) ]
+        | inr excused ↦ inr (inr excused)
+      ]
+
+  proved-of : OwedIsOne → ProvableIsProved → (words : List (List ℕ)) (files : FilesSeen) (out err : SinkSeen) (status : ℕ) → Answered words files out err status
+      → (file bytes : List ℕ) (p : ProgramTree) → verify_file words ≡ Some file → files.holds file ≡ Some bytes → length bytes ≤ source_limit → Spells bytes p → OwesProvable p → (status ≡ 0) ⊎ IsExcused files file status
+  proved-of one provable words files out err status a file bytes p asked held short spells owes =
+      elim (found-of words files out err status a.finding a.comes a.delivered file bytes p asked held short spells (little p owes.owed owes.owes)) [
+        | inl found ↦ inl (found.2 ∙ ap (λ (b : Bool). if b then 0 else 1) (provable-accepted one provable p found.0 found.1 owes))
+        | inr excused ↦ inr excused
+      ]
+
+  pub answered-exact : OwedIsOne → ProvableIsProved → (words : List (List ℕ)) (files : FilesSeen) (out err : SinkSeen) (status : ℕ) → Answered words files out err status → Exact words files status
+  answered-exact one provable words files out err status a = record {
     usage = usage-of words files out err status a.finding a.comes a.delivered;
     too_long = too_long-of words files out err status a.finding a.comes a.delivered;
     refused = λ file bytes n place asked held short why. refused-of words files out err status a.finding a.comes a.delivered file bytes asked held short (λ p spells few. refused-parses bytes n place p why spells.parsed);
     mistyped = λ file bytes rule place asked held short why. refused-of words files out err status a.finding a.comes a.delivered file bytes asked held short (λ p spells few. ill-spells bytes rule place p why spells);
     circular = λ file bytes name asked held short why. refused-of words files out err status a.finding a.comes a.delivered file bytes asked held short (λ p spells few. loop-spells bytes name p why spells);
     crowded = λ file bytes class name n asked held short why. refused-of words files out err status a.finding a.comes a.delivered file bytes asked held short (λ p spells few. crowded-spells much bytes class name n p why spells few);
-    reported = reported-of words files out err status a.finding a.comes a.delivered;
+    reported = reported-of words files out err status a;
+    proved = proved-of one provable words files out err status a;
   }
 
 -- what came from a file is a finding of the words that ask for it

@@ -8,24 +8,15 @@ use Rattle.jh_table.specs.Growth.{Extends}
 use Rattle.jh_table.specs.Nodes.{nodes}
 use Rattle.jh_vars.specs.Opened.{opened}
 use Rattle.jh_asserting.specs.Told.{AreFormulas, node_of, told_at}
-use Rattle.jh_sequent.specs.Sequents.{SequentTree}
 use Rattle.jh_sequents.specs.Pairs.{ArePaired}
 use Rattle.jh_sequents.specs.declared.splitting.Sequents.{Sequents}
 use Rattle.jh_sequents.proofs.Grown.{sequents-stay}
 use Rattle.jh_written.proofs.Gathering.{some-is, none-some}
 use Rattle.jh_obligations.specs.Owed.{AllStand, Debt, Stand}
-use Rattle.jh_prove.specs.declared.answer.Answer.{Answer}
-use Rattle.jh_prove.specs.Right.{AllRight}
 use Rattle.jh_report.specs.Report.{Reported}
 use Rattle.jahob.specs.Verify.{IsJudged}
 
--- right answers are one for each sequent, and lists in pairs are as long as one another
-pub right-length : (ss : List SequentTree) (answers : List Answer) → AllRight ss answers → length ss ≡ length answers
-right-length [] [] h = refl
-right-length [] (a ∷ answers) h = absurd h
-right-length (s ∷ ss) [] h = absurd h
-right-length (s ∷ ss) (a ∷ answers) h = ap suc (right-length ss answers h.1)
-
+-- lists in pairs are as long as one another
 pub paired-length : {X Y : Type 0} (R : X → Y → Type 0) (xs : List X) (ys : List Y) → ArePaired R xs ys → length xs ≡ length ys
 paired-length R [] [] h = refl
 paired-length R [] (y ∷ ys) h = absurd h

@@ -1,5 +1,5 @@
 -- From what was read and answered to the headline.
-use Rattle.std.proofs.Common.{◌≡◌, ◌<◌, ◌≤◌, ℕ, List, [], ◌∷◌, length, sym, subst, ◌∙◌, Bool, true, false, refl, arith}
+use Rattle.std.proofs.Common.{◌≡◌, ◌<◌, ◌≤◌, ℕ, List, [], ◌∷◌, length, ap, sym, subst, ◌∙◌, ◌&&◌, Bool, true, false, refl, arith}
 use Rattle.std.specs.Prelude.{Option, Err, if◌then◌else◌}
 use Rattle.jh_ast.specs.Programs.{ProgramTree}
 use Rattle.jh_lex.specs.declared.error.LexError.{LexError}
@@ -25,16 +25,17 @@ use Rattle.jh_sound.proofs.Lists.{and-left, and-right}
 use Rattle.jh_type.specs.Refused.{IsRefused}
 use Rattle.jh_type.specs.declared.typed.TypeError.{TypeError}
 use Rattle.jh_type.specs.declared.typed.TypeError.TheVariants as type
-use Rattle.jh_obligations.specs.Laws.{EachValid, OwedIsSound, LittleIsNotMuch}
+use Rattle.jh_obligations.specs.Laws.{EachValid, OwedIsSound, LittleIsNotMuch, OwedIsOne}
 use Rattle.jh_obligations.specs.Owed.{Debt}
 use Rattle.jh_obligations.specs.Sources.{OwesLittle, OwesMuch}
 use Rattle.jh_prove.specs.Answers.{all_proved}
-use Rattle.jh_prove.specs.Laws.{ProvedIsValid}
+use Rattle.jh_prove.specs.Laws.{ProvedIsValid, ProvableIsProved}
+use Rattle.jh_prove.specs.Right.{AllProvable}
 use Rattle.jh_report.specs.Report.{Reported, is_accepted}
 use Rattle.jahob.specs.declared.error.Refusal.{Refusal}
 use Rattle.jahob.specs.declared.error.Refusal.TheVariants as refusal
 use Rattle.jahob.specs.Refusals.{Parses, Spells, RefusedAt, not_utf8, bad_char, open_comment, open_quote, too_wide, syntax, too_deep, IsTyped, IsMistyped, IsCircular, IsCrowded, IsLoopOf, IsWhy, refusal_of}
-use Rattle.jahob.specs.Verify.{IsJudged, Judges, Reports, Verifies}
+use Rattle.jahob.specs.Verify.{EachProvable, IsJudged, Judges, OwesProvable, Reports, Verifies}
 
 -- bytes spell one tree at most
 pub parses-one : (bytes : List ℕ) (t u : ProgramTree) → Parses bytes t → Parses bytes u → t ≡ u
@@ -106,6 +107,19 @@ each-valid law p [] (r ∷ rs) h e = tt
 each-valid law p (d ∷ ds) [] h e = absurd h
 each-valid law p (d ∷ ds) (r ∷ rs) h e =
     (subst (λ (ss : List SequentTree). AllValid ss) h.0.sequents (law r.sequents r.answers h.0.right (and-left (all_proved r.answers) (is_accepted rs) e)), each-valid law p ds rs h.1 (and-right (all_proved r.answers) (is_accepted rs) e))
+
+-- right answers for what is provable leave none Unproved
+each-proved : ProvableIsProved → (p : ProgramTree) (ds : List Debt) (rs : List Reported) → ArePaired (IsJudged p) ds rs → EachProvable ds → is_accepted rs ≡ true
+each-proved law p [] [] h k = refl
+each-proved law p [] (r ∷ rs) h k = absurd h
+each-proved law p (d ∷ ds) [] h k = absurd h
+each-proved law p (d ∷ ds) (r ∷ rs) h k =
+    ap (λ (b : Bool). b && is_accepted rs) (law r.sequents r.answers h.0.right (subst (λ (ss : List SequentTree). AllProvable ss) (sym h.0.sequents) k.0))
+    ∙ each-proved law p ds rs h.1 k.1
+
+-- the report on a program that owes what is provable has no Unproved
+pub provable-accepted : OwedIsOne → ProvableIsProved → (p : ProgramTree) (rs : List Reported) → Judges p rs → OwesProvable p → is_accepted rs ≡ true
+provable-accepted one law p rs judges owes = each-proved law p judges.owed rs judges.judged (subst (λ (ds : List Debt). EachProvable ds) (one p owes.owed judges.owed owes.owes judges.owes) owes.provable)
 
 -- a program whose report has status 0 is sound
 pub right-sound : ProvedIsValid → OwedIsSound → (p : ProgramTree) (rs : List Reported) (status : ℕ) → IsAccepted p → Judges p rs → status ≡ (if is_accepted rs then 0 else 1) → status ≡ 0 → IsSound p

@@ -14,7 +14,7 @@ use Rattle.jahob.specs.declared.error.Unreported.TheVariants as unreported
 use Rattle.jahob.specs.Refusals.{Spells, RefusedAt, IsMistyped, IsCircular, IsCrowded, method_text}
 use Rattle.jh_name.specs.declared.place.MethodId.{MethodId}
 use Rattle.jh_name.specs.declared.place.Place.{Place}
-use Rattle.jahob.specs.Verify.{Tells, IsRead, IsRefused, IsIll, IsLooped, IsLeft, IsReport, Judges, source_limit}
+use Rattle.jahob.specs.Verify.{Tells, IsRead, IsRefused, IsIll, IsLooped, IsOverfull, IsReport, Judges, OwesProvable, source_limit}
 use Rattle.jahob.specs.Words.{verify_file}
 
 -- What there is to see of the files over a call: what they hold, and for each name how many calls had
@@ -52,7 +52,7 @@ Comes words files no_job = verify_file words ≡ None
 Comes words files (refused number place) = IsRefused words files.holds number place
 Comes words files (mistyped rule place) = IsIll words files.holds rule place
 Comes words files (circular name) = IsLooped words files.holds name
-Comes words files (crowded class name n) = IsLeft words files.holds class name n
+Comes words files (crowded class name n) = IsOverfull words files.holds class name n
 Comes words files (file_failed file) = (verify_file words ≡ Some file) × Rose (files.before file) (files.after file)
 Comes words files (file_too_long file) = (verify_file words ≡ Some file) × IfSome (files.holds file) (λ held. source_limit < length held)
 Comes words files no_memory = (file : List ℕ) × (verify_file words ≡ Some file)
@@ -137,7 +137,8 @@ abbrev pub IsExcused : FilesSeen → List ℕ → ℕ → Type 0
 IsExcused files file status = ((status ≡ 4) × Rose (files.before file) (files.after file)) ⊎ (status ≡ 5) ⊎ (status ≡ 6)
 
 -- The answers by their conditions. Without a job it is usage. Else, for what the file holds where it tells: 4
--- where it is too long, 3 where it is refused, breaks a type rule, has a cyclic variable or a method of too many sequents, and else 0 or 1.
+-- where it is too long, 3 where it is refused, breaks a type rule, has a cyclic variable or a method of too many sequents, and else 0 or 1;
+-- 0 where all that is owed is provable.
 pub record Exact (words : List (List ℕ)) (files : FilesSeen) (status : ℕ) : Type 0 where
   pub usage : verify_file words ≡ None → (status ≡ 2) ⊎ (status ≡ 5)
   pub too_long : (file bytes : List ℕ) → verify_file words ≡ Some file → files.holds file ≡ Some bytes → source_limit < length bytes → (status ≡ 4) ⊎ IsExcused files file status
@@ -146,6 +147,7 @@ pub record Exact (words : List (List ℕ)) (files : FilesSeen) (status : ℕ) : 
   pub circular : (file bytes name : List ℕ) → verify_file words ≡ Some file → files.holds file ≡ Some bytes → length bytes ≤ source_limit → IsCircular bytes name → (status ≡ 3) ⊎ IsExcused files file status
   pub crowded : (file bytes class name : List ℕ) (n : ℕ) → verify_file words ≡ Some file → files.holds file ≡ Some bytes → length bytes ≤ source_limit → IsCrowded bytes class name n → (status ≡ 3) ⊎ IsExcused files file status
   pub reported : (file bytes : List ℕ) (p : ProgramTree) → verify_file words ≡ Some file → files.holds file ≡ Some bytes → length bytes ≤ source_limit → Spells bytes p → OwesLittle p → (status ≡ 0) ⊎ (status ≡ 1) ⊎ IsExcused files file status
+  pub proved : (file bytes : List ℕ) (p : ProgramTree) → verify_file words ≡ Some file → files.holds file ≡ Some bytes → length bytes ≤ source_limit → Spells bytes p → OwesProvable p → (status ≡ 0) ⊎ IsExcused files file status
 
 -- what is due for a reply
 abbrev pub reply_due : Reply → Due

@@ -1,5 +1,5 @@
 -- What `verify` reads, what it accepts and what it reports.
-use Rattle.std.specs.Prelude.{ℕ, ◌≡◌, ◌≤◌, Bool, List, length, if◌then◌else◌, Option, Some, IfSome}
+use Rattle.std.specs.Prelude.{ℕ, ◌≡◌, ◌≤◌, Bool, List, [], ◌∷◌, length, if◌then◌else◌, Option, Some, IfSome}
 use Rattle.jh_files.specs.Contents.{Appends}
 use Rattle.jh_ast.specs.Programs.{ProgramTree}
 use Rattle.jh_name.specs.declared.place.Place.{Place}
@@ -8,7 +8,7 @@ use Rattle.jh_runs.specs.LoweredProgram.{IsSound}
 use Rattle.jh_sequents.specs.Pairs.{ArePaired}
 use Rattle.jh_obligations.specs.Owed.{Debt}
 use Rattle.jh_obligations.specs.Sources.{Owes}
-use Rattle.jh_prove.specs.Right.{AllRight}
+use Rattle.jh_prove.specs.Right.{AllRight, AllProvable}
 use Rattle.jh_report.specs.Report.{Reported, report_of, is_accepted}
 use Rattle.jahob.specs.Refusals.{Spells, RefusedAt, IsMistyped, IsCircular, IsCrowded, method_text}
 use Rattle.jahob.specs.Words.{verify_file}
@@ -33,6 +33,17 @@ pub record Judges (p : ProgramTree) (rs : List Reported) : Type 0 where
   pub owed : List Debt
   pub owes : Owes p owed
   pub judged : ArePaired (IsJudged p) owed rs
+
+-- Each sequent of each method is trivial, or has a query that is within the limits and true.
+abbrev pub EachProvable : List Debt → Type 0
+EachProvable [] = Unit {0}
+EachProvable (d ∷ ds) = AllProvable d.sequents × EachProvable ds
+
+-- The sequents that the methods of a program owe are all provable.
+pub record OwesProvable (p : ProgramTree) : Type 0 where
+  pub owed : List Debt
+  pub owes : Owes p owed
+  pub provable : EachProvable owed
 
 -- a text is the report on a program, and says whether no answer is Unproved
 pub record IsReport (p : ProgramTree) (text : List ℕ) (accepted : Bool) : Type 0 where
@@ -79,7 +90,7 @@ pub record IsLooped (words : List (List ℕ)) (holds : List ℕ → Option (List
   pub why : IsCircular bytes name
 
 -- The words ask for a file, whose bytes spell a program with a method of too many sequents.
-pub record IsLeft (words : List (List ℕ)) (holds : List ℕ → Option (List ℕ)) (class name : List ℕ) (n : ℕ) : Type 0 where
+pub record IsOverfull (words : List (List ℕ)) (holds : List ℕ → Option (List ℕ)) (class name : List ℕ) (n : ℕ) : Type 0 where
   pub file : List ℕ
   pub bytes : List ℕ
   pub asked : verify_file words ≡ Some file

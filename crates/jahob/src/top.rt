@@ -14,8 +14,8 @@ use crate::reporting::verify;
 use crate::words::file_of;
 use jh_files::{FileFault, Files, Sink, put_all};
 use jh_name::{Name, NoMemory, Place};
-use jh_obligations::{owed_is_sound, too_many_is_exact};
-use jh_prove::proved_is_valid;
+use jh_obligations::{owed_is_one, owed_is_sound, too_many_is_exact};
+use jh_prove::{provable_is_proved, proved_is_valid};
 use jh_unfold::Unfolded;
 use std::alloc::Global;
 
@@ -288,8 +288,10 @@ pub fn jahob<F: Files, O: Sink, E: Sink>(
 {
     spelled_source_is_accepted();
     owed_is_sound();
+    owed_is_one();
     too_many_is_exact();
     proved_is_valid();
+    provable_is_proved();
     let reply = reply_to(alloc, words, files);
     deliver(&reply, out, err)
 }

@@ -16,7 +16,12 @@ use std::process::ExitCode;
 use std::{fs, io, str};
 
 /// The files of cases, by what they are about.
-const FILES: [&str; 3] = ["statics.cases", "refusals.cases", "methods.cases"];
+const FILES: [&str; 4] = [
+    "statics.cases",
+    "refusals.cases",
+    "methods.cases",
+    "queries.cases",
+];
 
 /// How many cases there were, and how many of them differed.
 #[derive(Clone, Copy)]

@@ -1,3 +1,5 @@
 mod Pairing
 mod Bareness
+mod Asking
+mod Querying
 pub mod Rights

@@ -1,13 +1,49 @@
-ghost use Rattle.std.specs.Prelude.{◌≡◌};
+ghost use Rattle.std.specs.Prelude.{◌≡◌, if◌then◌else◌};
 ghost use Rattle.jh_prove.specs.Answers as spec;
 
+use jh_query::{Query, Sizes};
+
+/// Why regions don't prove a sequent.
+#[derive(Debug, Drop)]
+pub enum BapaCause {
+    /// These sizes fit the query of the sequent, and make its hypotheses true and its goal false.
+    Refuted(Sizes),
+    /// The query has so many sets and elements, and this size, one of which is beyond its limit.
+    TooLarge {
+        sets: u32,
+        elements: u32,
+        size: u128,
+    },
+}
+
 /// What is said of a sequent.
-#[derive(Clone, Copy, Debug, PartialEq, Eq)]
+#[derive(Debug, Drop)]
 pub enum Answer {
     /// It is valid at sight.
     Trivial,
+    /// This is its query, which is true.
+    Bapa(Query),
     /// No proof was found.
+    Unproved { bapa: BapaCause },
+}
+
+/// What is said of a sequent, in one word.
+#[derive(Clone, Copy, Debug, PartialEq, Eq)]
+pub enum Verdict {
+    Trivial,
+    Bapa,
     Unproved,
+}
+
+/// The verdict of an answer.
+pub fn verdict_of(answer: &Answer) -> Verdict
+    ensures { result ≡ spec.verdict_of answer.now }
+{
+    match answer {
+        Answer::Trivial => Verdict::Trivial,
+        Answer::Bapa(_) => Verdict::Bapa,
+        Answer::Unproved { .. } => Verdict::Unproved,
+    }
 }
 
 /// Whether a sequent was left without a proof.
@@ -15,14 +51,21 @@ pub fn is_unproved(answer: &Answer) -> bool
     ensures { result ≡ spec.is_unproved answer.now }
 {
     match answer {
-        Answer::Trivial => false,
-        Answer::Unproved => true,
+        Answer::Unproved { .. } => true,
+        _ => false,
     }
 }
 
 /// Whether no answer is Unproved.
-pub fn all_proved(answers: &[Answer]) -> bool
+fn all_proved(answers: &[Answer]) -> bool
     ensures { result ≡ spec.all_proved answers.now }
 {
     answers.iter().all(|answer| !is_unproved(answer))
+}
+
+/// The exit status for answers: 0 where none is Unproved, else 1.
+pub fn status_of(answers: &[Answer]) -> u8
+    ensures { result ≡ (if spec.all_proved answers.now then 0 else 1) }
+{
+    if all_proved(answers) { 0 } else { 1 }
 }

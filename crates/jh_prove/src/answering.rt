@@ -1,31 +1,43 @@
-ghost use Rattle.std.specs.Prelude.{◌≡◌, ◌<◌, List, length, Some, IfOk, OnOk, slice_get};
+ghost use Rattle.std.specs.Prelude.{◌≡◌, ◌<◌, List, [], length, Some, IfOk, OnOk, slice_get};
 ghost use Rattle.jh_table.specs.Growth.{Extends};
 ghost use Rattle.jh_table.specs.Nodes.{nodes};
 ghost use Rattle.jh_sequent.specs.Sequents.{SequentTree};
 ghost use Rattle.jh_sequents.specs.Standing.{IsSequent, AreSequents};
 ghost use Rattle.jh_prove.specs.Memos.{found};
 ghost use Rattle.jh_prove.specs.Right.{Right, AllRight};
-ghost use Rattle.jh_prove.specs.Unlabelled.{IsUnlabelled, HoldsUnlabelled, IsBareSequent};
+ghost use Rattle.jh_prove.specs.Unlabelled.{IsUnlabelled, HoldsUnlabelled};
+ghost use Rattle.jh_approx.specs.Regions.{unlabelled};
+ghost use Rattle.jh_kept.specs.Asking.{IsAsked};
+ghost use Rattle.jh_mentioned.specs.Notes.{IsRight};
 
 use crate::answer::Answer;
 use crate::memo::Memo;
-use crate::unlabelling::{facts_of, without_labels};
+use crate::regions::{Asked, by_regions};
+use crate::unlabelling::{facts_without_labels, without_labels};
+use jh_mentioned::Memo as Seen;
 use jh_name::NoMemory;
 use jh_sequents::{NodeSequent, Sequents};
 use jh_table::Table;
 use jh_trivial::{is_evident, is_trivial};
 use std::alloc::Global;
 
-/// What is said of a sequent, over the nodes of its facts and its goal without labels.
-fn answer_over(table: &Table, facts: &[usize], goal: usize) -> Answer
-    requires { (s : SequentTree) × IsBareSequent (nodes table.now) facts.now goal s }
-    ensures { (s : SequentTree) → IsBareSequent (nodes table.now) facts.now goal s → Right s result }
+/// What is said of a sequent over nodes without labels: at sight, or else by regions.
+fn answer_over(
+    alloc: Global,
+    table: &mut Table,
+    seen: &mut Seen,
+    asked: Asked<'_>,
+) -> Result<Answer, NoMemory>
+    requires sequent { (s : SequentTree) × IsAsked table.old asked.hyps.now asked.label asked.facts.now asked.goal (unlabelled s) }
+    requires seen { IsRight (nodes table.old) seen.old }
+    ensures right { IfOk result (λ made. (s : SequentTree) → IsAsked table.old asked.entry.hyps.now asked.entry.label asked.entry.facts.now asked.entry.goal (unlabelled s) → Right s made) }
+    ensures seen { OnOk result (IsRight (nodes table.new) seen.new) }
+    ensures grows { Extends table.old table.new }
 {
-    if is_trivial(table, facts, goal) {
-        Answer::Trivial
-    } else {
-        Answer::Unproved
+    if is_trivial(table, asked.facts, asked.goal) {
+        return Ok(Answer::Trivial);
     }
+    by_regions(alloc, table, seen, asked)
 }
 
 /// What is said of a sequent, over the node of its goal without labels.
@@ -33,19 +45,29 @@ fn answer_for_goal(
     alloc: Global,
     table: &mut Table,
     memo: &mut Memo,
+    seen: &mut Seen,
     sequents: &Sequents,
     sequent: NodeSequent,
     goal: usize,
 ) -> Result<Answer, NoMemory>
     requires sequent { (s : SequentTree) × IsSequent table.old sequents.now.hyps sequents.now.method sequent s }
     requires memo { HoldsUnlabelled (nodes table.old) (found memo.old.answers) }
+    requires seen { IsRight (nodes table.old) seen.old }
     requires goal { IsUnlabelled (nodes table.old) sequent.goal goal }
     ensures right { IfOk result (λ made. (s : SequentTree) → IsSequent table.old sequents.now.hyps sequents.now.method sequent s → Right s made) }
     ensures memo { OnOk result (HoldsUnlabelled (nodes table.new) (found memo.new.answers)) }
+    ensures seen { OnOk result (IsRight (nodes table.new) seen.new) }
     ensures grows { Extends table.old table.new }
 {
-    let facts = facts_of(alloc, table, memo, sequents, sequent.hyps)?;
-    Ok(answer_over(table, facts.as_slice(), goal))
+    let hyps = sequents.hyps(alloc, sequent.hyps)?;
+    let facts = facts_without_labels(table, memo, hyps.as_slice())?;
+    let asked = Asked {
+        hyps: hyps.as_slice(),
+        label: sequent.mark,
+        facts: facts.as_slice(),
+        goal,
+    };
+    answer_over(alloc, table, seen, asked)
 }
 
 /// What is said of a sequent. Its hypotheses are looked at where its goal isn't evident.
@@ -53,20 +75,23 @@ fn answer_to(
     alloc: Global,
     table: &mut Table,
     memo: &mut Memo,
+    seen: &mut Seen,
     sequents: &Sequents,
     sequent: NodeSequent,
 ) -> Result<Answer, NoMemory>
     requires sequent { (s : SequentTree) × IsSequent table.old sequents.now.hyps sequents.now.method sequent s }
     requires memo { HoldsUnlabelled (nodes table.old) (found memo.old.answers) }
+    requires seen { IsRight (nodes table.old) seen.old }
     ensures right { IfOk result (λ made. (s : SequentTree) → IsSequent table.old sequents.now.hyps sequents.now.method sequent s → Right s made) }
     ensures memo { OnOk result (HoldsUnlabelled (nodes table.new) (found memo.new.answers)) }
+    ensures seen { OnOk result (IsRight (nodes table.new) seen.new) }
     ensures grows { Extends table.old table.new }
 {
     let goal = without_labels(table, memo, sequent.goal)?;
     if is_evident(table, goal) {
         return Ok(Answer::Trivial);
     }
-    answer_for_goal(alloc, table, memo, sequents, sequent, goal)
+    answer_for_goal(alloc, table, memo, seen, sequents, sequent, goal)
 }
 
 /// The sequent at a place.
@@ -77,10 +102,35 @@ fn sequent_at(sequents: &Sequents, place: usize) -> NodeSequent
     sequents.sequents[place]
 }
 
-/// What is said of each sequent of a method, in their order: as yet by sight alone. What the table held stays in its
-/// place, after any answer. Labels are taken off each node once, however many sequents it stands in; beside that the
-/// time is in proportion to the hypotheses, counted for each sequent whose goal isn't evident. The answer is want of
-/// memory where a formula nests deeper than MOST_LEVELS.
+/// Adds what is said of each sequent of a method, in their order.
+fn add_answers(
+    alloc: Global,
+    table: &mut Table,
+    memo: &mut Memo,
+    seen: &mut Seen,
+    sequents: &Sequents,
+    made: &mut Vec<Answer>,
+) -> Result<(), NoMemory>
+    requires sequents { (ss : List SequentTree) × AreSequents table.old sequents.now.hyps sequents.now.method sequents.now.sequents.items ss }
+    requires memo { HoldsUnlabelled (nodes table.old) (found memo.old.answers) }
+    requires seen { IsRight (nodes table.old) seen.old }
+    requires made { made.old.items ≡ [] }
+    ensures right { OnOk result ((ss : List SequentTree) → AreSequents table.old sequents.now.hyps sequents.now.method sequents.now.sequents.items ss → AllRight ss made.new.items) }
+    ensures grows { Extends table.old table.new }
+{
+    for place in 0..sequents.sequents.len() {
+        let sequent = sequent_at(sequents, place);
+        let answer = answer_to(alloc, table, memo, seen, sequents, sequent)?;
+        made.push(answer)?;
+    }
+    Ok(())
+}
+
+/// What is said of each sequent of a method, in their order: at sight, or else by regions. What the table held stays in its
+/// place, after any answer. Labels are taken off each node once, and what a query can say of a fact, with its names, is found
+/// once, however many sequents it stands in; beside that the time is in proportion to the hypotheses, counted for each sequent
+/// whose goal isn't evident, and to what is decided. The answer is want of memory where a formula nests deeper than
+/// MOST_LEVELS, and where a query has more than 1,048,576 parts.
 pub fn answers(
     alloc: Global,
     table: &mut Table,
@@ -91,11 +141,8 @@ pub fn answers(
     ensures grows { Extends table.old table.new }
 {
     let mut memo = Memo::new(alloc);
+    let mut seen = Seen::new(alloc);
     let mut made = Vec::new(alloc);
-    for place in 0..sequents.sequents.len() {
-        let sequent = sequent_at(sequents, place);
-        let answer = answer_to(alloc, table, &mut memo, sequents, sequent)?;
-        made.push(answer)?;
-    }
+    add_answers(alloc, table, &mut memo, &mut seen, sequents, &mut made)?;
     Ok(made)
 }

@@ -1,5 +1,6 @@
-ghost use Rattle.jh_prove.specs.Laws.{ProvedIsValid};
+ghost use Rattle.jh_prove.specs.Laws.{OneVerdictIsRight, ProvableIsProved, ProvedIsValid};
 
+use jh_approx::true_query_is_valid;
 use jh_trivial::trivial_is_valid;
 
 /// Where all answers are right and are proofs, all sequents are valid. It is a law, and does nothing.
@@ -7,4 +8,16 @@ pub fn proved_is_valid()
     ensures { ProvedIsValid }
 {
     trivial_is_valid();
+    true_query_is_valid();
 }
+
+/// Where all sequents are trivial or have a query that is within the limits and true, all answers that are right are proofs. It is a
+/// law, and does nothing.
+pub fn provable_is_proved()
+    ensures { ProvableIsProved }
+{}
+
+/// Right answers for one sequent have one verdict. It is a law, and does nothing.
+pub fn one_verdict_is_right()
+    ensures { OneVerdictIsRight }
+{}

@@ -5,8 +5,9 @@ mod answer;
 mod answering;
 mod laws;
 mod memo;
+mod regions;
 mod unlabelling;
 
-pub use answer::{Answer, all_proved, is_unproved};
+pub use answer::{Answer, BapaCause, Verdict, is_unproved, status_of, verdict_of};
 pub use answering::answers;
-pub use laws::proved_is_valid;
+pub use laws::{one_verdict_is_right, provable_is_proved, proved_is_valid};

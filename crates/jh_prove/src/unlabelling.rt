@@ -2,17 +2,14 @@ ghost use Rattle.std.specs.Prelude.{◌≡◌, ◌<◌, List, true, length, Some
 ghost use Rattle.jh_table.specs.Entries.{is_truth};
 ghost use Rattle.jh_table.specs.Growth.{Extends};
 ghost use Rattle.jh_table.specs.Nodes.{nodes};
-ghost use Rattle.jh_sequent.specs.Sequents.{HypTree};
-ghost use Rattle.jh_sequents.specs.Standing.{AreHyps};
 ghost use Rattle.jh_prove.specs.Memos.{found};
-ghost use Rattle.jh_prove.specs.Unlabelled.{IsUnlabelled, HoldsUnlabelled, AreFacts, AreUnlabelled, AreBare};
+ghost use Rattle.jh_prove.specs.Unlabelled.{IsUnlabelled, HoldsUnlabelled, AreFacts, AreUnlabelled};
 
 use crate::memo::Memo;
 use jh_name::NoMemory;
 use jh_normal::unlabelled;
-use jh_sequents::{NodeHyp, Sequents};
+use jh_sequents::NodeHyp;
 use jh_table::Table;
-use std::alloc::Global;
 
 /// The node of a formula without labels, made anew.
 fn made_without_labels(table: &mut Table, node: usize) -> Result<usize, NoMemory>
@@ -54,7 +51,7 @@ fn hyp_at(hyps: &[NodeHyp], place: usize) -> NodeHyp
 }
 
 /// The nodes of the facts of hypotheses without labels.
-fn facts_without_labels(
+pub(crate) fn facts_without_labels(
     table: &mut Table,
     memo: &mut Memo,
     hyps: &[NodeHyp],
@@ -72,22 +69,4 @@ fn facts_without_labels(
         facts.push(fact)?;
     }
     Ok(facts)
-}
-
-/// The nodes of the facts of a list of hypotheses without labels.
-pub(crate) fn facts_of(
-    alloc: Global,
-    table: &mut Table,
-    memo: &mut Memo,
-    sequents: &Sequents,
-    list: Option<usize>,
-) -> Result<Vec<usize>, NoMemory>
-    requires list { (hs : List HypTree) × AreHyps table.old sequents.now.hyps list hs }
-    requires memo { HoldsUnlabelled (nodes table.old) (found memo.old.answers) }
-    ensures facts { IfOk result (λ made. (hs : List HypTree) → AreHyps table.old sequents.now.hyps list hs → AreBare (nodes table.new) hs made.items) }
-    ensures memo { OnOk result (HoldsUnlabelled (nodes table.new) (found memo.new.answers)) }
-    ensures grows { Extends table.old table.new }
-{
-    let hyps = sequents.hyps(alloc, list)?;
-    facts_without_labels(table, memo, hyps.as_slice())
 }

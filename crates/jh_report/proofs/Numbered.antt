@@ -4,7 +4,7 @@ use Rattle.std.proofs.lemmas.List.{drop_all}
 use Rattle.jh_sequent.specs.Sequents.{SequentTree}
 use Rattle.jh_sequents.specs.Pairs.{ArePaired}
 use Rattle.jh_prove.specs.declared.answer.Answer.{Answer}
-use Rattle.jh_report.specs.Report.{line_of, lines_from}
+use Rattle.jh_report.specs.Report.{lines_for, lines_from}
 
 -- the item that belongs to one at a place, in front of those behind it
 module _ {X Y : Type 0} (R : X → Y → Type 0) where
@@ -31,11 +31,11 @@ lines-end class name ss answers i k text target long whole =
 -- the line of the sequent at a place is written, and those behind it are left
 pub lines-more : (class name : List ℕ) (ss : List SequentTree) (answers : List Answer) (i : ℕ) (s : SequentTree) (d : Answer) (text more target : List ℕ)
     → drop i ss ≡ s ∷ drop (suc i) ss → i < length answers
-    → more ≡ text ++ line_of class name (i + 1) s.mark (get_or answers i d)
+    → more ≡ text ++ lines_for class name (i + 1) s.mark (get_or answers i d)
     → text ++ lines_from class name (i + 1) (drop i ss) (drop i answers) ≡ target
     → more ++ lines_from class name (i + 1 + 1) (drop (i + 1) ss) (drop (i + 1) answers) ≡ target
 lines-more class name ss answers i s d text more target front inside new so_far =
-    let line : List ℕ = line_of class name (i + 1) s.mark (get_or answers i d) in
+    let line : List ℕ = lines_for class name (i + 1) s.mark (get_or answers i d) in
     let lines : ℕ → List ℕ = λ j. lines_from class name (i + 1 + 1) (drop j ss) (drop j answers) in
     let fronts : drop i answers ≡ get_or answers i d ∷ drop (suc i) answers = drop-cons answers i d inside in
     let whole : text ++ lines_from class name (i + 1) (drop i ss) (drop i answers) ≡ text ++ (line ++ lines (suc i)) =

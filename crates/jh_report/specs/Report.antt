@@ -6,9 +6,14 @@ use Rattle.jh_tree.specs.declared.mark.Mark.{Mark}
 use Rattle.jh_tree.specs.declared.mark.MarkKind.{MarkKind}
 use Rattle.jh_tree.specs.declared.mark.MarkKind.TheVariants as kind
 use Rattle.jh_sequent.specs.Sequents.{SequentTree}
-use Rattle.jh_prove.specs.Answers.{is_unproved, all_proved}
+use Rattle.jh_prove.specs.Answers.{verdict_of, is_unproved, all_proved}
 use Rattle.jh_prove.specs.declared.answer.Answer.{Answer}
 use Rattle.jh_prove.specs.declared.answer.Answer.TheVariants as answer
+use Rattle.jh_prove.specs.declared.answer.BapaCause.{BapaCause}
+use Rattle.jh_prove.specs.declared.answer.BapaCause.TheVariants as cause
+use Rattle.jh_prove.specs.declared.answer.Verdict.{Verdict}
+use Rattle.jh_prove.specs.declared.answer.Verdict.TheVariants as verdict
+use Rattle.jh_causes.specs.Causes.{refuted_line, too_large_line}
 
 abbrev pub kind_word : MarkKind → List ℕ
 kind_word kind.Null = codes "null"
@@ -22,21 +27,36 @@ kind_word kind.Assert = codes "assert"
 kind_word kind.Note = codes "note"
 kind_word kind.Fact = codes "note"
 
-abbrev pub verdict_word : Answer → List ℕ
-verdict_word answer.Trivial = codes "trivial"
-verdict_word answer.Unproved = codes "unproved"
+abbrev pub verdict_word : Verdict → List ℕ
+verdict_word verdict.Trivial = codes "trivial"
+verdict_word verdict.Bapa = codes "bapa"
+verdict_word verdict.Unproved = codes "unproved"
+
+-- why regions don't prove a sequent
+abbrev pub cause_line : BapaCause → List ℕ
+cause_line (cause.Refuted z) = refuted_line z
+cause_line (cause.TooLarge sets elements size) = too_large_line sets elements size
+
+-- the line below that of an unproved sequent
+abbrev pub cause_of : Answer → List ℕ
+cause_of (answer.Unproved bapa) = cause_line bapa
+cause_of a = []
 
 -- the line of a sequent: class and name of its method, its number there, the kind and the place of its label, and the verdict
-unfoldable pub line_of : List ℕ → List ℕ → ℕ → Mark → Answer → List ℕ
-line_of class name n mark a =
+unfoldable pub line_of : List ℕ → List ℕ → ℕ → Mark → Verdict → List ℕ
+line_of class name n mark v =
     class ++ (codes "." ++ (name ++ (codes " " ++ (decimal n ++ (codes " " ++ (kind_word mark.kind
-    ++ (codes " " ++ (decimal mark.place.line ++ (codes ":" ++ (decimal mark.place.column ++ (codes " " ++ (verdict_word a ++ 10 ∷ []))))))))))))
+    ++ (codes " " ++ (decimal mark.place.line ++ (codes ":" ++ (decimal mark.place.column ++ (codes " " ++ (verdict_word v ++ 10 ∷ []))))))))))))
+
+-- what is said of a sequent: its line, and the cause where it is unproved
+unfoldable pub lines_for : List ℕ → List ℕ → ℕ → Mark → Answer → List ℕ
+lines_for class name n mark a = line_of class name n mark (verdict_of a) ++ cause_of a
 
 -- the lines of sequents in turn, the first of which has number n
 abbrev pub lines_from : List ℕ → List ℕ → ℕ → List SequentTree → List Answer → List ℕ
 lines_from class name n [] answers = []
 lines_from class name n (s ∷ ss) [] = []
-lines_from class name n (s ∷ ss) (a ∷ more) = line_of class name n s.mark a ++ lines_from class name (n + 1) ss more
+lines_from class name n (s ∷ ss) (a ∷ more) = lines_for class name n s.mark a ++ lines_from class name (n + 1) ss more
 
 -- a method, by its class and its own name, with its sequents and what is said of each
 pub record Reported : Type 0 where

@@ -1,15 +1,17 @@
-ghost use Rattle.std.specs.Prelude.{◌≡◌, ◌++◌, List, Option, string_bytes, length, OnOk};
+ghost use Rattle.std.specs.Prelude.{◌≡◌, ◌<◌, ◌++◌, List, Option, Some, string_bytes, length, slice_get, OnOk};
 ghost use Rattle.jh_tree.specs.declared.mark.Mark.{Mark as Label};
 ghost use Rattle.jh_sequent.specs.Sequents.{SequentTree};
 ghost use Rattle.jh_split.specs.Split.{mark_of};
 ghost use Rattle.jh_sequents.specs.Standing.{AreSequents, IsLabel};
 ghost use Rattle.jh_report.specs.Report as spec;
 
+use jh_causes::{add_refuted, add_too_large};
 use jh_name::{NoMemory, Place};
-use jh_prove::Answer;
+use jh_prove::{Answer, BapaCause, Verdict, verdict_of};
 use jh_sequents::Sequents;
 use jh_table::Table;
 use jh_tree::MarkKind;
+use std::alloc::Global;
 
 /// The word for the kind of a goal.
 fn kind_word(kind: MarkKind) -> &'static str
@@ -29,12 +31,13 @@ fn kind_word(kind: MarkKind) -> &'static str
     }
 }
 
-fn verdict_word(answer: Answer) -> &'static str
-    ensures { result.now ≡ spec.verdict_word answer }
+fn verdict_word(verdict: Verdict) -> &'static str
+    ensures { result.now ≡ spec.verdict_word verdict }
 {
-    match answer {
-        Answer::Trivial => "trivial",
-        Answer::Unproved => "unproved",
+    match verdict {
+        Verdict::Trivial => "trivial",
+        Verdict::Bapa => "bapa",
+        Verdict::Unproved => "unproved",
     }
 }
 
@@ -74,19 +77,68 @@ fn add_line(
     name: &str,
     number: usize,
     shown: Shown,
-    answer: Answer,
+    verdict: Verdict,
 ) -> Result<(), NoMemory>
-    ensures { OnOk result ((mark : Label) → shown.kind ≡ mark.kind → shown.place ≡ mark.place → string_bytes text.new ≡ string_bytes text.old ++ spec.line_of class.now name.now number mark answer) }
+    ensures { OnOk result ((mark : Label) → shown.kind ≡ mark.kind → shown.place ≡ mark.place → string_bytes text.new ≡ string_bytes text.old ++ spec.line_of class.now name.now number mark verdict) }
 {
     let kind = kind_word(shown.kind);
     let line = shown.place.line;
     let column = shown.place.column;
-    let verdict = verdict_word(answer);
+    let verdict = verdict_word(verdict);
     writeln!(
         text,
         "{class}.{name} {number} {kind} {line}:{column} {verdict}"
     )?;
     Ok(())
+}
+
+/// Adds the line that says why regions don't prove a sequent.
+fn add_cause_line(alloc: Global, text: &mut String, cause: &BapaCause) -> Result<(), NoMemory>
+    ensures { OnOk result (string_bytes text.new ≡ string_bytes text.old ++ spec.cause_line cause.now) }
+{
+    match cause {
+        BapaCause::Refuted(sizes) => add_refuted(alloc, text, sizes),
+        BapaCause::TooLarge {
+            sets,
+            elements,
+            size,
+        } => add_too_large(text, *sets, *elements, *size),
+    }
+}
+
+/// Adds the line below that of an unproved sequent.
+fn add_cause(alloc: Global, text: &mut String, answer: &Answer) -> Result<(), NoMemory>
+    ensures { OnOk result (string_bytes text.new ≡ string_bytes text.old ++ spec.cause_of answer.now) }
+{
+    match answer {
+        Answer::Unproved { bapa } => add_cause_line(alloc, text, bapa),
+        _ => Ok(()),
+    }
+}
+
+/// Adds what is said of a sequent.
+#[tactic(auto, unfolding(crate::specs::Report::lines_for))]
+fn add_answer(
+    alloc: Global,
+    text: &mut String,
+    class: &str,
+    name: &str,
+    number: usize,
+    shown: Shown,
+    answer: &Answer,
+) -> Result<(), NoMemory>
+    ensures { OnOk result ((mark : Label) → shown.kind ≡ mark.kind → shown.place ≡ mark.place → string_bytes text.new ≡ string_bytes text.old ++ spec.lines_for class.now name.now number mark answer.now) }
+{
+    add_line(text, class, name, number, shown, verdict_of(answer))?;
+    add_cause(alloc, text, answer)
+}
+
+/// The answer at a place.
+fn answer_at(answers: &[Answer], place: usize) -> &Answer
+    requires { place < length answers.now }
+    ensures { slice_get answers.now place ≡ Some result.now }
+{
+    &answers[place]
 }
 
 /// Adds the lines of the sequents of a method, with their numbers from 1.
@@ -103,10 +155,12 @@ pub(crate) fn add_lines(
     ensures { OnOk result ((ss : List SequentTree) → AreSequents table.now sequents.now.hyps sequents.now.method sequents.now.sequents.items ss → string_bytes text.new ≡ string_bytes text.old ++ spec.lines_from class.now name.now 1 ss answers.now) }
 {
     let items = sequents.sequents.as_slice();
+    let alloc = table.alloc();
     let mut at = 0;
     'lines: while at < items.len() {
         let label = shown_at(table, items[at].mark);
-        add_line(text, class, name, at + 1, label, answers[at])?;
+        let answer = answer_at(answers, at);
+        add_answer(alloc, text, class, name, at + 1, label, answer)?;
         at += 1;
     }
     Ok(())

@@ -3,7 +3,8 @@ use Rattle.std.proofs.lemmas.Result.{on_ok_weaker}
 use Rattle.jh_prove.specs.declared.answer.Answer.{Answer}
 use Rattle.jh_prove.specs.Right.{AllRight}
 use Rattle.jh_sequents.specs.Standing.{IsSequent}
-use Rattle.jahob.proofs.Judging.{paired-length, right-length, stand-stays}
+use Rattle.jh_prove.proofs.Rights.{right-length}
+use Rattle.jahob.proofs.Judging.{paired-length, stand-stays}
 use Rattle.jahob.proofs.reporting.judge.Goals as goal
 
 -- src/reporting.rt

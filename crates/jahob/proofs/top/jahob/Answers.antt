@@ -11,7 +11,7 @@ pub returns-clause-report : goal.returns-clause-report
 returns-clause-report g c = λ low. answered-reports c.spelled_source_is_accepted.ensures c.owed_is_sound.ensures c.proved_is_valid.ensures _ _ _ _ _ (answered-by _ _ _ _ _ c.reply_to-reply.result c.reply_to-reply.ensures.fits c.deliver.ensures) low
 
 pub returns-clause-exact : goal.returns-clause-exact
-returns-clause-exact g c = answered-exact c.too_many_is_exact.ensures.little c.too_many_is_exact.ensures.much _ _ _ _ _ (answered-by _ _ _ _ _ c.reply_to-reply.result c.reply_to-reply.ensures.fits c.deliver.ensures)
+returns-clause-exact g c = answered-exact c.too_many_is_exact.ensures.little c.too_many_is_exact.ensures.much c.owed_is_one.ensures c.provable_is_proved.ensures _ _ _ _ _ (answered-by _ _ _ _ _ c.reply_to-reply.result c.reply_to-reply.ensures.fits c.deliver.ensures)
 
 pub returns-clause-memory : goal.returns-clause-memory
 returns-clause-memory g c = λ six. answered-memory _ _ _ _ _ (answered-by _ _ _ _ _ c.reply_to-reply.result c.reply_to-reply.ensures.fits c.deliver.ensures) six

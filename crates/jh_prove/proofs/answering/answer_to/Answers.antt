@@ -6,6 +6,7 @@ use Rattle.jh_sequents.proofs.Grown.{sequent-stays}
 use Rattle.jh_table.specs.Nodes.{nodes}
 use Rattle.jh_prove.specs.Right.{Right}
 use Rattle.jh_prove.proofs.Bareness.{formula-there, evident-goal, unlabelled-truth}
+use Rattle.jh_mentioned.proofs.Growing.{mentions-grow}
 use Rattle.jh_prove.proofs.answering.answer_to.Goals as goal
 
 pub without_labels-requires-clause-node : goal.without_labels-requires-clause-node
@@ -17,6 +18,12 @@ is_evident-requires c = unlabelled-truth (nodes c.without_labels.new.table) c.ar
 pub returns-then-is_evident-clause-right : goal.returns-then-is_evident-clause-right
 returns-then-is_evident-clause-right c = λ s h.
     inl (evident-goal c.without_labels.new.table c.args.sequent.goal c.in_ok-goal.goal s.goal (c.without_labels.ensures.grows.nodes.keeps c.args.sequent.goal _ h.goal) c.in_ok-goal.ensures.node (c.is_evident.ensures.0 c.if-is_evident.true))
+
+pub returns-then-is_evident-clause-seen : goal.returns-then-is_evident-clause-seen
+returns-then-is_evident-clause-seen c = mentions-grow (nodes c.args.table.now) (nodes c.without_labels.new.table) c.without_labels.ensures.grows.nodes c.args.seen.now c.requires.seen
+
+pub answer_for_goal-requires-clause-seen : goal.answer_for_goal-requires-clause-seen
+answer_for_goal-requires-clause-seen c = mentions-grow (nodes c.args.table.now) (nodes c.without_labels.new.table) c.without_labels.ensures.grows.nodes c.args.seen.now c.requires.seen
 
 pub answer_for_goal-requires-clause-sequent : goal.answer_for_goal-requires-clause-sequent
 answer_for_goal-requires-clause-sequent c =

@@ -1,8 +1,11 @@
-use Rattle.std.proofs.Common.{◌<◌, ◌≤◌, ◌+◌, ◌∙◌, List, sym, ap, subst, length, arith}
+use Rattle.std.proofs.Common.{◌≡◌, ◌<◌, ◌≤◌, ◌+◌, ◌++◌, ◌∙◌, List, get_or, sym, ap, subst, length, arith}
 use Rattle.std.specs.Prelude.{string_bytes}
 use Rattle.jh_tree.specs.declared.mark.Mark.{Mark}
 use Rattle.jh_sequents.specs.declared.sequent.NodeSequent.{NodeSequent}
 use Rattle.jh_sequents.specs.Standing.{AreSequents, IsSequent}
+use Rattle.std.proofs.lemmas.Option.{get_or_from_slice_get}
+use Rattle.jh_prove.specs.declared.answer.Answer.{Answer}
+use Rattle.jh_report.specs.Report.{lines_for}
 use Rattle.jh_report.proofs.Numbered.{paired-at, lines-end, lines-more}
 use Rattle.jh_report.proofs.line.add_lines.Goals as goal
 
@@ -21,9 +24,11 @@ lines-preserved c = record {
       let q = c.args.sequents.now in
       let there = subst (λ (zs : List NodeSequent). AreSequents c.args.table.now q.hyps q.method zs ss) (sym c.as_slice-items.ensures.value) h in
       let one = paired-at (IsSequent c.args.table.now q.hyps q.method) c.as_slice-items.result.now ss c.lines.at _ there c.lines-test.true in
-      lines-more c.args.class.now c.args.name.now ss c.args.answers.now c.lines.at one.0 _ (string_bytes c.lines.text) (string_bytes c.add_line.new.text) _ one.2 inside
-      (c.in_ok-add_line.ensures one.0.mark (c.shown_at-label.ensures.kind one.1.mark one.1.label ∙ ap (λ (m : Mark). m.kind) (sym one.1.shown))
-      (c.shown_at-label.ensures.place one.1.mark one.1.label ∙ ap (λ (m : Mark). m.place) (sym one.1.shown)))
+      let answer : get_or c.args.answers.now c.lines.at c.answer_at-answer.result.now ≡ c.answer_at-answer.result.now = get_or_from_slice_get c.args.answers.now c.lines.at c.answer_at-answer.result.now c.answer_at-answer.result.now c.answer_at-answer.ensures in
+      lines-more c.args.class.now c.args.name.now ss c.args.answers.now c.lines.at one.0 c.answer_at-answer.result.now (string_bytes c.lines.text) (string_bytes c.add_answer.new.text) _ one.2 inside
+      (c.in_ok-add_answer.ensures one.0.mark (c.shown_at-label.ensures.kind one.1.mark one.1.label ∙ ap (λ (m : Mark). m.kind) (sym one.1.shown))
+      (c.shown_at-label.ensures.place one.1.mark one.1.label ∙ ap (λ (m : Mark). m.place) (sym one.1.shown))
+      ∙ ap (λ (a : Answer). string_bytes c.lines.text ++ lines_for c.args.class.now c.args.name.now (c.lines.at + 1) one.0.mark a) (sym answer))
       (c.lines.invariant.whole ss h);
 }
 

@@ -1,0 +1,102 @@
+ghost use Rattle.std.specs.Prelude.{◌≡◌, IfOk, OnOk};
+ghost use Rattle.jh_approx.specs.Regions.{bapa_of, unlabelled};
+ghost use Rattle.jh_kept.specs.Asking.{IsAsked};
+ghost use Rattle.jh_mentioned.specs.Notes.{IsRight};
+ghost use Rattle.jh_query.specs.Bare.{query_tree};
+ghost use Rattle.jh_query.specs.Named.{IsWellFormed};
+ghost use Rattle.jh_sequent.specs.Sequents.{SequentTree};
+ghost use Rattle.jh_table.specs.Growth.{Extends};
+ghost use Rattle.jh_table.specs.Nodes.{nodes};
+ghost use Rattle.jh_prove.specs.Right.{IsDecided};
+
+use crate::answer::{Answer, BapaCause};
+use jh_approx::queries_are_well_formed;
+use jh_bapa::{Decided, decide};
+use jh_kept::kept_facts;
+use jh_mentioned::Memo;
+use jh_name::NoMemory;
+use jh_query::Query;
+use jh_sequents::NodeHyp;
+use jh_shown::shown;
+use jh_table::Table;
+use jh_told::query_from;
+use std::alloc::Global;
+
+/// A sequent over the nodes of its formulas without labels: its hypotheses with the nodes of their facts, its label by number, and
+/// the node of its goal.
+#[derive(Clone, Copy)]
+pub(crate) struct Asked<'a> {
+    pub(crate) hyps: &'a [NodeHyp],
+    pub(crate) label: Option<usize>,
+    pub(crate) facts: &'a [usize],
+    pub(crate) goal: usize,
+}
+
+/// What regions say of a sequent with this query.
+fn answer_of(alloc: Global, query: Query) -> Result<Answer, NoMemory>
+    requires { IsWellFormed (query_tree query) }
+    ensures { IfOk result (IsDecided (query_tree query)) }
+{
+    match decide(alloc, &query) {
+        Decided::Valid => Ok(Answer::Bapa(query)),
+        Decided::Refuted(sizes) => Ok(Answer::Unproved {
+            bapa: BapaCause::Refuted(sizes),
+        }),
+        Decided::TooLarge {
+            sets,
+            elements,
+            size,
+        } => Ok(Answer::Unproved {
+            bapa: BapaCause::TooLarge {
+                sets,
+                elements,
+                size,
+            },
+        }),
+        Decided::Memory => Err(NoMemory),
+    }
+}
+
+/// The query of a sequent.
+fn query_of(
+    alloc: Global,
+    table: &mut Table,
+    seen: &mut Memo,
+    asked: Asked<'_>,
+) -> Result<Query, NoMemory>
+    requires sequent { (s : SequentTree) × IsAsked table.old asked.hyps.now asked.label asked.facts.now asked.goal (unlabelled s) }
+    requires seen { IsRight (nodes table.old) seen.old }
+    ensures query { IfOk result (λ made. (s : SequentTree) → IsAsked table.old asked.entry.hyps.now asked.entry.label asked.entry.facts.now asked.entry.goal (unlabelled s) → query_tree made ≡ bapa_of s) }
+    ensures seen { OnOk result (IsRight (nodes table.new) seen.new) }
+    ensures grows { Extends table.old table.new }
+{
+    let kept = kept_facts(
+        alloc,
+        table,
+        seen,
+        asked.hyps,
+        asked.label,
+        asked.facts,
+        asked.goal,
+    )?;
+    let goal = shown(table, &mut seen.shown, asked.goal, true)?;
+    query_from(alloc, table, kept.as_slice(), goal)
+}
+
+/// What regions say of a sequent.
+pub(crate) fn by_regions(
+    alloc: Global,
+    table: &mut Table,
+    seen: &mut Memo,
+    asked: Asked<'_>,
+) -> Result<Answer, NoMemory>
+    requires sequent { (s : SequentTree) × IsAsked table.old asked.hyps.now asked.label asked.facts.now asked.goal (unlabelled s) }
+    requires seen { IsRight (nodes table.old) seen.old }
+    ensures decided { IfOk result (λ made. (s : SequentTree) → IsAsked table.old asked.entry.hyps.now asked.entry.label asked.entry.facts.now asked.entry.goal (unlabelled s) → IsDecided (bapa_of s) made) }
+    ensures seen { OnOk result (IsRight (nodes table.new) seen.new) }
+    ensures grows { Extends table.old table.new }
+{
+    queries_are_well_formed();
+    let query = query_of(alloc, table, seen, asked)?;
+    answer_of(alloc, query)
+}
