@@ -35,6 +35,13 @@ impl Table {
         self.names.get_index_of(name)
     }
 
+    /// How many names there are in the pool of names.
+    pub fn name_count(&self) -> usize
+        ensures { result ≡ length self.now.pools.names }
+    {
+        self.names.len()
+    }
+
     /// The number of a label in the pool of labels, to which it is added where it is new.
     pub fn mark(&mut self, mark: &Mark) -> Result<usize, NoMemory>
         ensures number { IfOk result (λ number. slice_get self.new.pools.marks number ≡ Some mark.now) }
