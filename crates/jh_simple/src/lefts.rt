@@ -45,7 +45,7 @@ fn read_left(table: &Table, kind: Kind, field: usize, object: usize) -> Result<L
 }
 
 /// The left side of a ghost assignment, by the node of its value.
-pub(crate) fn left_of(table: &Table, node: usize) -> Result<Left, NoMemory>
+pub fn left_of(table: &Table, node: usize) -> Result<Left, NoMemory>
     requires { node < length (nodes table.now) }
     ensures target { IfOk result (λ made. left_in table.now made ≡ ghost_target (the_value (slice_get (nodes table.now) node))) }
     ensures object { IfOk result (λ made. object_stands table.now made ≡ true) }

@@ -12,5 +12,7 @@ mod values;
 pub use assigning::{push_assign, push_return};
 pub use creating::push_new;
 pub use ghosts::Left;
-pub use setting::push_ghost;
+pub use lefts::left_of;
+pub use setting::{class_before_dot, kind_value, push_ghost};
 pub use testing::push_test;
+pub use values::value_node;

@@ -29,7 +29,7 @@ use jh_table::Table;
 use jh_tree::MarkKind;
 
 /// The class of a member, whose text begins with the class and a dot.
-fn class_before_dot(text: &str) -> &str
+pub fn class_before_dot(text: &str) -> &str
     ensures { result.now ≡ lowered.class_before_dot text.now }
 {
     match text.split_once('.') {
@@ -55,8 +55,8 @@ fn push_member(
     assert_bare(table, commands, MarkKind::Assert, place, fact)
 }
 
-/// The node of the value of a number in the source, of a kind.
-fn kind_value(
+/// The node of the value of a number in the source, of a kind: where the value is of another, anything of the kind.
+pub fn kind_value(
     table: &mut Table,
     formulas: &[Option<usize>],
     kind: Kind,

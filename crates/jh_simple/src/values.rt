@@ -26,7 +26,7 @@ fn node_at(formulas: &[Option<usize>], number: u32) -> Option<usize>
 }
 
 /// The node of the value of a number in the source, True where there is none.
-pub(crate) fn value_node(
+pub fn value_node(
     table: &mut Table,
     formulas: &[Option<usize>],
     number: u32,
