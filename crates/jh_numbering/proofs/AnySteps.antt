@@ -1,9 +1,6 @@
 -- What the arms of codes of any type cite.
-use Rattle.std.proofs.Common.{◌≡◌, refl, subst, sym, ℕ, ℤ, Bool, List}
-use Rattle.std.specs.declared.alloc.Global.{Global}
-use Rattle.std.specs.declared.boxed.Box.{Box}
+use Rattle.std.proofs.Common.{◌≡◌, subst, sym, List}
 use Rattle.jh_name.specs.declared.naming.Name.{Name}
-use Rattle.jh_name.specs.declared.place.Place.{Place}
 use Rattle.jh_runs.specs.Code as c
 use Rattle.jh_lowered.specs.declared.code.ObjectCode.{ObjectCode}
 use Rattle.jh_lowered.specs.declared.code.NumberCode.{NumberCode}
@@ -14,11 +11,10 @@ use Rattle.jh_lowered.specs.Codes.{any_code}
 use Rattle.jh_operands.specs.declared.exprs.ObjectExpr.{ObjectExpr}
 use Rattle.jh_operands.specs.declared.exprs.NumberExpr.{NumberExpr}
 use Rattle.jh_operands.specs.declared.exprs.TruthExpr.{TruthExpr}
-use Rattle.jh_operands.specs.declared.exprs.AnyExpr.{AnyExpr}
 use Rattle.jh_operands.specs.declared.exprs.AnyExpr.TheVariants as x
 use Rattle.jh_operands.specs.Exprs.{any_in, AnyFits}
-use Rattle.jh_numbering.specs.Numbered.{Stands, IsText, IsObject, IsNumber, IsTruth, IsAny}
-use Rattle.jh_numbering.proofs.Standing.{grows_twice, stands_still, boxed}
+use Rattle.jh_numbering.specs.Numbered.{IsObject, IsNumber, IsTruth, IsAny}
+use Rattle.jh_numbering.proofs.Standing.{grows_twice, stands_still}
 
 module _ (names : List Name) where
   object : (u : ObjectCode) (l : ObjectExpr) → IsObject names u l → IsAny names (o.Object u) (x.Object l)

@@ -1,5 +1,5 @@
 -- What the arms of numbers cite.
-use Rattle.std.proofs.Common.{◌≡◌, refl, subst, sym, ℕ, ℤ, Bool, List}
+use Rattle.std.proofs.Common.{◌≡◌, refl, subst, sym, ℕ, ℤ, List}
 use Rattle.std.specs.declared.alloc.Global.{Global}
 use Rattle.std.specs.declared.boxed.Box.{Box}
 use Rattle.jh_name.specs.declared.naming.Name.{Name}
@@ -13,7 +13,7 @@ use Rattle.jh_operands.specs.declared.exprs.ObjectExpr.{ObjectExpr}
 use Rattle.jh_operands.specs.declared.exprs.NumberExpr.{NumberExpr}
 use Rattle.jh_operands.specs.declared.exprs.NumberExpr.TheVariants as x
 use Rattle.jh_operands.specs.Exprs.{number_in, NumberFits}
-use Rattle.jh_numbering.specs.Numbered.{Stands, IsText, IsObject, IsNumber}
+use Rattle.jh_numbering.specs.Numbered.{IsText, IsObject, IsNumber}
 use Rattle.jh_numbering.proofs.Standing.{grows_twice, stands_still, boxed}
 
 module _ (names : List Name) where

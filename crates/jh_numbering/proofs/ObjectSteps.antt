@@ -1,18 +1,18 @@
 -- What the arms of objects cite.
-use Rattle.std.proofs.Common.{◌≡◌, refl, ap, subst, sym, ◌∙◌, ℕ, List, Some, slice_get, codes}
+use Rattle.std.proofs.Common.{◌≡◌, refl, ap, subst, sym, ◌∙◌, ℕ, List, Some, codes}
 use Rattle.std.specs.declared.alloc.Global.{Global}
 use Rattle.std.specs.declared.boxed.Box.{Box}
 use Rattle.jh_name.specs.declared.naming.Name.{Name}
 use Rattle.jh_name.specs.declared.place.Place.{Place}
 use Rattle.jh_runs.specs.Code as c
-use Rattle.jh_runs.specs.State.{named, this_name}
+use Rattle.jh_runs.specs.State.{named}
 use Rattle.jh_lowered.specs.declared.code.ObjectCode.{ObjectCode}
 use Rattle.jh_lowered.specs.declared.code.ObjectCode.TheVariants as o
 use Rattle.jh_lowered.specs.Codes.{object_code}
 use Rattle.jh_operands.specs.declared.exprs.ObjectExpr.{ObjectExpr}
 use Rattle.jh_operands.specs.declared.exprs.ObjectExpr.TheVariants as x
-use Rattle.jh_operands.specs.Exprs.{text_at, IsPlain, object_in, ObjectFits}
-use Rattle.jh_numbering.specs.Numbered.{Stands, IsText, IsObject}
+use Rattle.jh_operands.specs.Exprs.{object_in, ObjectFits}
+use Rattle.jh_numbering.specs.Numbered.{IsText, IsObject}
 use Rattle.jh_numbering.proofs.Standing.{grows_twice, stands_still, boxed}
 
 module _ (names : List Name) where

@@ -1,12 +1,12 @@
 -- What stands for code, while names are added.
-use Rattle.std.proofs.Common.{◌≡◌, refl, ap, subst, sym, ◌∙◌, ℕ, List, [], Some, slice_get}
+use Rattle.std.proofs.Common.{◌≡◌, ap, subst, sym, ◌∙◌, ℕ, List, [], Some, slice_get}
 use Rattle.std.specs.Option.{option_map_or}
 use Rattle.std.specs.declared.alloc.Global.{Global}
 use Rattle.std.specs.declared.boxed.Box.{Box}
 use Rattle.jh_name.specs.declared.naming.Name.{Name}
 use Rattle.jh_runs.specs.Code.{Text}
 use Rattle.jh_runs.specs.State.{named}
-use Rattle.jh_operands.specs.Exprs.{text_at, IsPlain}
+use Rattle.jh_operands.specs.Exprs.{text_at}
 use Rattle.jh_table.specs.Growth.{Grows}
 use Rattle.jh_numbering.specs.Numbered.{Stands, IsText}
 

@@ -1,5 +1,5 @@
 -- What the arms of truths cite.
-use Rattle.std.proofs.Common.{◌≡◌, refl, subst, sym, ℕ, ℤ, Bool, List}
+use Rattle.std.proofs.Common.{◌≡◌, refl, subst, sym, ℕ, Bool, List}
 use Rattle.std.specs.declared.alloc.Global.{Global}
 use Rattle.std.specs.declared.boxed.Box.{Box}
 use Rattle.jh_name.specs.declared.naming.Name.{Name}
@@ -15,7 +15,7 @@ use Rattle.jh_operands.specs.declared.exprs.NumberExpr.{NumberExpr}
 use Rattle.jh_operands.specs.declared.exprs.TruthExpr.{TruthExpr}
 use Rattle.jh_operands.specs.declared.exprs.TruthExpr.TheVariants as x
 use Rattle.jh_operands.specs.Exprs.{truth_in, TruthFits}
-use Rattle.jh_numbering.specs.Numbered.{Stands, IsText, IsObject, IsNumber, IsTruth}
+use Rattle.jh_numbering.specs.Numbered.{IsText, IsObject, IsNumber, IsTruth}
 use Rattle.jh_numbering.proofs.Standing.{grows_twice, stands_still, boxed}
 
 module _ (names : List Name) where
