@@ -20,6 +20,10 @@ place (y ∷ ys) x = if name_equal x y then 0 else suc (place ys x)
 abbrev pub AreApart : List Name → Type 0
 AreApart names = (i : ℕ) (x : Name) → slice_get names i ≡ Some x → place names x ≡ i
 
+-- all names are at turn 0, which no `old` and no instance has changed
+abbrev pub ArePlain : List Name → Type 0
+ArePlain names = (i : ℕ) (x : Name) → slice_get names i ≡ Some x → x.turn ≡ 0
+
 abbrev pub cells_at : List Name → List Cells → Name → Cells
 cells_at names cells x = get_or cells (place names x) no_cells
 

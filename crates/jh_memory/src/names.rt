@@ -19,7 +19,11 @@ impl Model for Names {
 
     ghost Value = { List Name };
 
+    ghost use Rattle.jh_memory.specs.Held.{ArePlain};
+
     ghost view = { λ s. s.names.keys };
+
+    ghost invariant = { λ s. ArePlain s.names.keys };
 }
 
 impl Names {
@@ -55,10 +59,11 @@ impl Names {
         }
     }
 
-    /// The name of a number.
+    /// The name of a number; it is one at turn 0.
     pub fn at(&self, number: usize) -> &Name
         requires { number < length self.now }
-        ensures { slice_get self.now number ≡ Some result.now }
+        ensures name { slice_get self.now number ≡ Some result.now }
+        ensures plain { result.now.turn ≡ 0 }
     {
         &self.names[number]
     }
