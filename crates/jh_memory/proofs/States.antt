@@ -103,7 +103,7 @@ module _ (names : List Name) (last : ℕ) (cells : List Cells) (m : IsMemory nam
       }
 
   -- a field, by what it has
-  field_written : (c : Cells) (f : Fields) → c.object ≡ old.object → c.number ≡ old.number → c.truth ≡ old.truth → c.set ≡ old.set → field_in c ≡ f →
+  pub field_written : (c : Cells) (f : Fields) → c.object ≡ old.object → c.number ≡ old.number → c.truth ≡ old.truth → c.set ≡ old.set → field_in c ≡ f →
       state_in names last (slice_set cells i c) ≡ assigned (state_in names last cells) x (a_field f)
   unfolding state_in
   field_written c f object number truth set same =
@@ -182,6 +182,10 @@ objects_inside last c a v inside lt = record { object = inside.object; objects =
     by : (k : ℕ) (t : Bool) → (if t then v else get_or c.objects k 0) < suc last
     by k true = lt
     by k false = inside.objects k
+
+-- a field may be exchanged whole
+pub field_inside : (last : ℕ) (c d : Cells) → AreInside last c → d.object ≡ c.object → ((a : ℕ) → get_or d.objects a 0 < suc last) → AreInside last d
+field_inside last c d inside one all = record { object = subst (λ z. z < suc last) (sym one) inside.object; objects = all }
 
 -- what stands in cells but objects may be exchanged
 pub others_inside : (last : ℕ) (c d : Cells) → AreInside last c → d.object ≡ c.object → d.objects ≡ c.objects → AreInside last d

@@ -4,9 +4,9 @@ use Rattle.std.specs.Prelude.{Result}
 use Rattle.std.proofs.lemmas.List.{get_or_default}
 use Rattle.std.proofs.lemmas.Option.{slice_get_within}
 use Rattle.jh_name.specs.declared.naming.Name.{Name}
-use Rattle.jh_tree.specs.Meaning.{Interp, an_object, a_number, a_truth, a_set, a_field, updated}
+use Rattle.jh_tree.specs.Meaning.{Interp, Fields, an_object, a_number, a_truth, a_set, a_field, updated}
 use Rattle.jh_tree.specs.Assigned.{assigned}
-use Rattle.jh_memory.specs.Cells.{Cells, no_cells, put}
+use Rattle.jh_memory.specs.Cells.{Cells, no_cells, field_in, put}
 use Rattle.jh_memory.specs.Held.{Held, state_of, state_in, IsNamed, IsMemory, AreInside, cells_at}
 use Rattle.jh_memory.proofs.Puts.{put_reads}
 use Rattle.jh_memory.proofs.States as s
@@ -69,6 +69,17 @@ module _ (m : Held) (is : IsMemory m.names m.last m.cells) (i : ℕ) (x : Name) 
   pub set_put_at : (a : ℕ) (v : List Bool) (new : Cells) → new ≡ record found { sets = put [] found.sets a v } → (test : ℕ → Bool) → ((b : ℕ) → get_or v b false ≡ test b) →
       after new ≡ assigned (state_of m) x (a_field (updated ((state_of m).field x) a (a_set test)))
   set_put_at a v new e test same = ap after (e ∙ ap (λ (c : Cells). record c { sets = put [] c.sets a v }) old_is) ∙ s.set_written_at m.names m.last m.cells is i x at a v test same
+
+  pub field_put : (new : Cells) (f : Fields) → new.object ≡ found.object → new.number ≡ found.number → new.truth ≡ found.truth → new.set ≡ found.set → field_in new ≡ f → after new ≡ assigned (state_of m) x (a_field f)
+  field_put new f object number truth set same =
+      s.field_written m.names m.last m.cells is i x at new f (object ∙ ap (λ (c : Cells). c.object) old_is) (number ∙ ap (λ (c : Cells). c.number) old_is) (truth ∙ ap (λ (c : Cells). c.truth) old_is) (set ∙ ap (λ (c : Cells). c.set) old_is) same
+
+-- what a memory is stays, where a field of the cells that were found is exchanged for one of objects inside
+pub memory_field : (names : List Name) (last : ℕ) (cells : List Cells) (i : ℕ) (found new : Cells) → IsMemory names last cells → i < length cells → found ≡ get_or cells i found → new.object ≡ found.object → ((a : ℕ) → get_or new.objects a 0 < suc last) →
+    IsMemory names last (slice_set cells i new)
+memory_field names last cells i found new is within there one all =
+    let old : found ≡ get_or cells i no_cells = there ∙ get_or_default cells i found no_cells within in
+    s.memory_kept names last cells i new is within (s.field_inside last (get_or cells i no_cells) new (is.inside i) (one ∙ ap (λ (c : Cells). c.object) old) all)
 
 -- what a memory is stays, where the objects of the cells that were found stay
 pub memory_others : (names : List Name) (last : ℕ) (cells : List Cells) (i : ℕ) (found new : Cells) → IsMemory names last cells → i < length cells → found ≡ get_or cells i found → new.object ≡ found.object → new.objects ≡ found.objects →

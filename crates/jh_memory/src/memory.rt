@@ -2,8 +2,10 @@ ghost use Rattle.std.specs.Prelude.{◌≡◌, ◌<◌, ◌==◌, ◌||◌, ℕ,
 ghost use Rattle.jh_name.specs.declared.naming.Name.{Name};
 ghost use Rattle.jh_tree.specs.Meaning.{an_object, a_number, a_truth, a_set, a_field, updated};
 ghost use Rattle.jh_tree.specs.Assigned.{assigned};
+ghost use Rattle.jh_memory.specs.Fields.{field_of};
 ghost use Rattle.jh_memory.specs.Held.{state_of, nothing, IsNamed};
 
+use crate::field::FieldValues;
 use crate::names::Names;
 use crate::slot::Slot;
 use jh_name::NoMemory;
@@ -185,6 +187,17 @@ impl<'a> Memory<'a> {
         ensures state { (x : Name) → IsNamed self.old name x → (test : ℕ → Bool) → ((a : ℕ) → get_or members.items a false ≡ test a) → state_of self.new ≡ assigned (state_of self.old) x (a_set test) }
     {
         self.slots[name].put_set(members);
+    }
+
+    /// Writes the field of a name.
+    pub fn put_field(&mut self, name: usize, values: FieldValues)
+        requires name { name < length self.old.names }
+        requires inside { (a : ℕ) → get_or values.objects.items a 0 < suc self.old.last }
+        ensures names { self.new.names ≡ self.old.names }
+        ensures last { self.new.last ≡ self.old.last }
+        ensures state { (x : Name) → IsNamed self.old name x → state_of self.new ≡ assigned (state_of self.old) x (a_field (field_of values)) }
+    {
+        self.slots[name].put_field(values);
     }
 
     /// Adds an object to the set of a name.

@@ -1,6 +1,8 @@
 ghost use Rattle.std.specs.Prelude.{◌≡◌, pos, true, false, [], IfOk, OnOk, OnErr, get_or};
-ghost use Rattle.jh_memory.specs.Cells.{no_cells, put};
+ghost use Rattle.std.specs.Prelude.{map};
+ghost use Rattle.jh_memory.specs.Cells.{no_cells, put, items_of};
 
+use crate::field::FieldValues;
 use crate::lists::{copy_rows, put_row, put_value, row_has, value_at};
 use jh_name::NoMemory;
 use std::alloc::Global;
@@ -176,5 +178,14 @@ impl Slot {
         ensures objects { (self.new.object ≡ self.old.object) × (self.new.objects ≡ self.old.objects) }
     {
         put_row(alloc, &mut self.sets, at, members)
+    }
+
+    pub(crate) fn put_field(&mut self, values: FieldValues)
+        ensures { self.new ≡ record self.old { objects = values.objects.items; numbers = values.numbers.items; truths = values.truths.items; sets = map items_of values.sets.items } }
+    {
+        self.objects = values.objects;
+        self.numbers = values.numbers;
+        self.truths = values.truths;
+        self.sets = values.sets;
     }
 }
