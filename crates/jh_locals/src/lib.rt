@@ -1,0 +1,6 @@
+//! Parameters and locals in a memory: saved, cleared, given and put back.
+#![tactic(auto)]
+
+mod locals;
+
+pub use locals::{Saved, clear, put_args, put_this, restore, save};
