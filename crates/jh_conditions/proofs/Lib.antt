@@ -1,0 +1,2 @@
+mod EnteredSteps
+mod SequentSteps

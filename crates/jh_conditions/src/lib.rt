@@ -1,0 +1,10 @@
+//! Verification conditions over boxed formulas.
+#![tactic(auto)]
+
+mod conditions;
+mod entered;
+mod hypotheses;
+mod splitting;
+
+pub use conditions::{count, wp};
+pub use splitting::split;
