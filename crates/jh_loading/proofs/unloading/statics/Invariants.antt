@@ -1,0 +1,10 @@
+use Rattle.std.proofs.Common.{◌≡◌, ◌++◌, List, drop, map}
+use Rattle.jh_runs.specs.Program.{Member}
+use Rattle.jh_runs.specs.Heaps as runs
+use Rattle.jh_cells.specs.Cells.{cell_in}
+use Rattle.jh_memory.specs.Held.{state_of}
+use Rattle.jh_loading.specs.Places.{ArePlaces}
+use Rattle.jh_loading.proofs.unloading.statics.Given as goal
+
+abbrev pub invariant-loop-place : goal.invariant-loop-place
+invariant-loop-place l = (xs : List Member) → ArePlaces l.fn.memory.names l.fn.places xs → map cell_in l.made.items ++ map (runs.static_cell (state_of l.fn.memory)) (drop l.place xs) ≡ map (runs.static_cell (state_of l.fn.memory)) xs
