@@ -1,0 +1,3 @@
+pub mod Pushing
+pub mod LocalSteps
+pub mod HomeSteps
