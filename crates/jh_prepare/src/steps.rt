@@ -1,0 +1,92 @@
+#![tactic(auto, using(crate::proofs::StepSteps::step_steps))]
+
+ghost use Rattle.std.specs.Prelude.{true, IfOk};
+ghost use Rattle.jh_ast.specs.Programs.{ProgramTree};
+ghost use Rattle.jh_table.specs.Growth.{Grows, Extends};
+ghost use Rattle.jh_lowered.specs.Statements.{code_in, codes_in};
+ghost use Rattle.jh_asserting.specs.Told.{AreFormulas};
+ghost use Rattle.jh_prepare.specs.Lasting.{Makes, MakesAll};
+ghost use Rattle.jh_prepare.specs.Sources.{numbered_in};
+
+use crate::calls::call_step;
+use crate::formulas::ask_step;
+use crate::ghosts::ghost_step;
+use crate::simple::{assign_step, new_step, return_step};
+use crate::source::Source;
+use jh_lowered::Code;
+use jh_memory::Names;
+use jh_name::{NoMemory, Row};
+use jh_numbered::Step;
+use jh_numbering::truth_expr;
+use jh_table::Table;
+use std::alloc::Global;
+
+/// The steps of statements, one after another.
+#[cycle(step_of)]
+pub(crate) fn steps_of(
+    alloc: Global,
+    source: &Source<'_>,
+    names: &mut Names,
+    table: &mut Table,
+    codes: &[Code],
+) -> Result<Row<Step>, NoMemory>
+    ensures are { IfOk result (λ made. (p : ProgramTree) → AreFormulas p table.old source.now.formulas.now → MakesAll (numbered_in source.now) true names.new table.new (codes_in p codes.now) made) }
+    ensures names { Grows names.old names.new }
+    ensures table { Extends table.old table.new }
+{
+    let mut made = Vec::new(alloc);
+    for code in codes {
+        let step = step_of(alloc, source, names, table, code)?;
+        made.push(step)?;
+    }
+    Ok(Row::of(made))
+}
+
+/// The step of a statement.
+#[cycle(step_of)]
+fn step_of(
+    alloc: Global,
+    source: &Source<'_>,
+    names: &mut Names,
+    table: &mut Table,
+    code: &Code,
+) -> Result<Step, NoMemory>
+    ensures is { IfOk result (λ made. (p : ProgramTree) → AreFormulas p table.old source.now.formulas.now → Makes (numbered_in source.now) true names.new table.new (code_in p code.now) made) }
+    ensures names { Grows names.old names.new }
+    ensures table { Extends table.old table.new }
+{
+    match code {
+        Code::Empty => Ok(Step::Empty),
+        Code::Block(codes) => {
+            let steps = steps_of(alloc, source, names, table, codes.items())?;
+            Ok(Step::Block(steps))
+        }
+        Code::Assign(target, value) => assign_step(alloc, names, target, value),
+        Code::New(place, target, class) => new_step(alloc, names, *place, target, class),
+        Code::Call(call) => call_step(alloc, source, names, call),
+        Code::Branch(_, test, first, second) => {
+            let first = step_of(alloc, source, names, table, first)?;
+            let first = Box::new(alloc, first)?;
+            let second = steps_of(alloc, source, names, table, second.items())?;
+            let test = truth_expr(alloc, names, test)?;
+            Ok(Step::Branch(test, first, second))
+        }
+        Code::Loop(_, _, test, body) => {
+            let body = step_of(alloc, source, names, table, body)?;
+            let body = Box::new(alloc, body)?;
+            let test = truth_expr(alloc, names, test)?;
+            Ok(Step::Loop(test, body))
+        }
+        Code::Return(value) => return_step(alloc, names, value),
+        Code::Assert(claim) => ask_step(table, source.formulas, claim),
+        Code::Note(claim) => ask_step(table, source.formulas, claim),
+        Code::Ghost(left_place, left, place, value) => ghost_step(
+            alloc,
+            names,
+            table,
+            source.formulas,
+            (*left_place, *left),
+            (*place, *value),
+        ),
+    }
+}
