@@ -1,0 +1,10 @@
+//! The machine that runs a method from a memory.
+#![tactic(auto)]
+
+mod advancing;
+mod branching;
+mod run;
+mod statements;
+
+pub use jh_machine::Prepared;
+pub use run::{Ended, free_objects, run_prepared};
