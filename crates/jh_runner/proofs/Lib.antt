@@ -1,0 +1,3 @@
+pub mod Inside
+pub mod Preparing
+pub mod Ending
