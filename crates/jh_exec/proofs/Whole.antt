@@ -7,7 +7,7 @@ use Rattle.jh_tree.specs.Meaning.{Datum}
 use Rattle.jh_vars.specs.Written.{Callee}
 use Rattle.jh_runs.specs.Program.{Program}
 use Rattle.jh_runs.specs.State.{State}
-use Rattle.jh_runs.specs.Objects.{is_free, below, free}
+use Rattle.jh_runs.specs.Objects.{is_free, below}
 use Rattle.jh_runs.specs.Progress.{Configuration, goes_on, Outcome, returned}
 use Rattle.jh_runs.specs.Execution.{call, run}
 use Rattle.jh_memory.specs.Held.{Held, state_of}
