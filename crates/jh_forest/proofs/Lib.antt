@@ -1,0 +1,3 @@
+pub mod Rooting
+pub mod Stamping
+pub mod Turning
