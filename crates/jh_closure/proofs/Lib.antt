@@ -1,0 +1,16 @@
+pub mod Oks
+pub mod Having
+pub mod Signing
+pub mod Merging
+pub mod Waits
+pub mod Using
+pub mod Rows
+pub mod Adding
+pub mod Joining
+pub mod Righting
+pub mod Completing
+pub mod Growing
+pub mod Leveling
+pub mod Answering
+pub mod Starting
+pub mod Stating
