@@ -1,0 +1,71 @@
+-- What a method of an outline reads and answers is what the program of the outline does.
+use Rattle.std.proofs.Common.{◌≡◌, refl, sym, ap, subst, ◌∙◌, ℕ, length, ◌<◌, List, Option, Some, None, option_map, slice_get}
+use Rattle.jh_ast.specs.Programs.{ProgramTree}
+use Rattle.jh_table.specs.Entries.{Listing}
+use Rattle.jh_table.specs.Nodes.{nodes}
+use Rattle.jh_rules.specs.Names.{◌then◌}
+use Rattle.jh_vars.specs.Opened.{opened}
+use Rattle.jh_vars.specs.Written.{Callee}
+use Rattle.jh_runs.specs.Program.{Program, Method}
+use Rattle.jh_runs.specs.Heaps.{Heap, Args, Cell, answered, run_of_heap}
+use Rattle.jh_lowered.specs.Statements.{method_in}
+use Rattle.jh_facts.specs.States.{members_in}
+use Rattle.jh_asserting.specs.Told.{AreFormulas, node_of, told_at}
+use Rattle.jh_known.specs.declared.outline.Callable.{Callable}
+use Rattle.jh_known.specs.declared.outline.Outline.{Outline}
+use Rattle.jh_known.specs.Outlines.{IsCallable, callee_of, program_in, source_of}
+use Rattle.jh_heap.specs.Errors.{IsError}
+use Rattle.jh_heap.specs.Outlines.{outline_of}
+use Rattle.jh_heap.specs.Outlines as heap
+use Rattle.jh_heap.specs.Reading.{reading, read}
+use Rattle.jh_heap.specs.declared.reading.HeapError.{HeapError}
+use Rattle.jh_outcome.specs.Texts.{answered_text}
+use Rattle.jh_outcome.specs.Outcomes.{EndsWith, IsNoHeap, IsWhy, Returned, Starts}
+use Rattle.jh_outcome.specs.declared.unreturned.Unreturned.{Unreturned}
+use Rattle.jh_outcome.specs.declared.unreturned.Unreturned.TheVariants as why
+
+-- a run from a heap that the text spells ends for this reason
+pub ends-why : (p : Program) (m : Callee) (bytes : List ℕ) (h : Heap) (args : Args) (steps : ℕ) → Starts p m bytes h args → (e : Unreturned) → EndsWith p m h args steps e → IsWhy p m bytes steps e
+ends-why p m bytes h args steps starts (why.Stopped stop) stops = record { heap = h; args = args; starts = starts; stops = stops }
+ends-why p m bytes h args steps starts why.Memory stops = tt
+ends-why p m bytes h args steps starts why.NoMethod stops = absurd stops
+ends-why p m bytes h args steps starts (why.NoHeap error) stops = absurd stops
+
+module _ (o : Outline) (x : Callable) (is : IsCallable o x) where
+  abbrev pub code_of : Method
+  code_of = method_in (source_of o) x.code.now
+
+  there : (program_in o).method (callee_of x) ≡ Some code_of
+  unfolding program_in
+  there = ap (option_map (method_in (source_of o))) is.code
+
+  -- what heap texts of the method are read by
+  pub reads-by : (t : heap.Outline) → ((tree : ProgramTree) (p : Program) → p.classes ≡ o.classes.now → p.members ≡ members_in o.classes.now o.members.now → t ≡ outline_of p (method_in tree x.code.now)) → t ≡ outline_of (program_in o) code_of
+  unfolding program_in
+  reads-by t told = told (source_of o) (program_in o) refl refl
+
+  module _ (t : heap.Outline) (told : t ≡ outline_of (program_in o) code_of) (bytes : List ℕ) where
+    pub starts-with : (h : Heap) (args : Args) → reading t bytes ≡ read h args → Starts (program_in o) (callee_of x) bytes h args
+    starts-with h args spelled = record { code = code_of; there = there; spelled = sym (ap (λ u. reading u bytes) told) ∙ spelled }
+
+    pub no-heap : (e : HeapError) → IsError e (reading t bytes) → IsNoHeap (program_in o) (callee_of x) bytes e
+    no-heap e error = record { code = code_of; there = there; error_is = subst (λ u. IsError e (reading u bytes)) told error }
+
+    pub returns-with : (h : Heap) (args : Args) (steps : ℕ) (last : Heap) (value : Option Cell) (text : List ℕ) → reading t bytes ≡ read h args → run_of_heap (program_in o) (callee_of x) h args steps ≡ answered last value → text ≡ answered_text t last value → Returned (program_in o) (callee_of x) bytes steps text
+    returns-with h args steps last value text spelled run is_text = record {
+      heap = h;
+      args = args;
+      starts = starts-with h args spelled;
+      last = last;
+      value = value;
+      run = run;
+      text_is = is_text ∙ ap (λ u. answered_text u last value) told;
+    }
+
+-- the nodes of the parts of an unfolded program are its formulas
+pub formulas-of : (p : ProgramTree) (t : Listing) (ns : List (Option ℕ)) → ((n : ℕ) → (node_of ns n then slice_get (nodes t)) ≡ opened p n) → ((n k : ℕ) → node_of ns n ≡ Some k → k < length (nodes t)) → AreFormulas p t ns
+formulas-of p t ns value inside = record { inside = inside; is = λ n. told (node_of ns n) ∙ value n }
+  where
+    told : (o : Option ℕ) → told_at t o ≡ (o then slice_get (nodes t))
+    told None = refl
+    told (Some k) = refl

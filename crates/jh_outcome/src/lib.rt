@@ -1,0 +1,10 @@
+//! What a run of a method of a source from the heap that a text spells comes to, as text.
+#![tactic(auto)]
+
+mod running;
+mod source;
+mod unreturned;
+mod writing;
+
+pub use source::run_method;
+pub use unreturned::Unreturned;
