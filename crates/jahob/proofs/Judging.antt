@@ -1,13 +1,9 @@
 -- What is reported of the methods of a program, as a loop over them goes on.
-use Rattle.std.proofs.Common.{◌≡◌, refl, sym, ap, subst, ◌∙◌, ℕ, zero, suc, ◌+◌, ◌≤◌, ◌<◌, List, [], ◌∷◌, ◌++◌, drop, length, Option, Some, None, slice_get, add-one}
+use Rattle.std.proofs.Common.{◌≡◌, refl, sym, ap, subst, ℕ, zero, suc, ◌+◌, ◌≤◌, List, [], ◌∷◌, ◌++◌, drop, length, Some, slice_get, add-one}
 use Rattle.std.proofs.lemmas.List.{append_assoc, append-nil, drop_all}
 use Rattle.jh_ast.specs.Programs.{ProgramTree}
-use Rattle.jh_rules.specs.Names.{◌then◌}
 use Rattle.jh_table.specs.Entries.{Listing}
 use Rattle.jh_table.specs.Growth.{Extends}
-use Rattle.jh_table.specs.Nodes.{nodes}
-use Rattle.jh_vars.specs.Opened.{opened}
-use Rattle.jh_asserting.specs.Told.{AreFormulas, node_of, told_at}
 use Rattle.jh_sequents.specs.Pairs.{ArePaired}
 use Rattle.jh_sequents.specs.declared.splitting.Sequents.{Sequents}
 use Rattle.jh_sequents.proofs.Grown.{sequents-stay}
@@ -64,11 +60,3 @@ module _ (p : ProgramTree) (ds : List Debt) where
   leads-end n rs le rest =
       subst (λ (us : List Reported). ArePaired (IsJudged p) ds us) (append-nil rs)
       (rest [] (subst (λ (es : List Debt). ArePaired (IsJudged p) es []) (sym (drop_all n ds le)) tt))
-
--- the nodes of the parts of an unfolded program are its formulas
-pub formulas-of : (p : ProgramTree) (t : Listing) (ns : List (Option ℕ)) → ((n : ℕ) → (node_of ns n then slice_get (nodes t)) ≡ opened p n) → ((n k : ℕ) → node_of ns n ≡ Some k → k < length (nodes t)) → AreFormulas p t ns
-formulas-of p t ns value inside = record { inside = inside; is = λ n. told (node_of ns n) ∙ value n }
-  where
-    told : (o : Option ℕ) → told_at t o ≡ (o then slice_get (nodes t))
-    told None = refl
-    told (Some k) = refl

@@ -12,6 +12,7 @@ use Rattle.jh_tree.specs.Sorts.{tree_sort}
 use Rattle.jh_table.specs.Entries.{Listing, is_truth, the_truth, the_value}
 use Rattle.jh_table.specs.Growth.{Extends}
 use Rattle.jh_table.specs.Nodes.{nodes}
+use Rattle.jh_rules.specs.Names.{◌then◌}
 use Rattle.jh_vars.specs.Resolved.{as_truth}
 use Rattle.jh_vars.specs.Opened.{opened}
 use Rattle.jh_lowered.specs.Statements.{value_of}
@@ -95,3 +96,11 @@ sort-false (Some (of_set a)) s e h = refl
 sort-false (Some (of_field a)) s e h = refl
 
 pub ruleset told_steps = (formula-told)
+
+-- the nodes of the parts of an unfolded program are its formulas
+pub formulas-of : (p : ProgramTree) (t : Listing) (ns : List (Option ℕ)) → ((n : ℕ) → (node_of ns n then slice_get (nodes t)) ≡ opened p n) → ((n k : ℕ) → node_of ns n ≡ Some k → k < length (nodes t)) → AreFormulas p t ns
+formulas-of p t ns value inside = record { inside = inside; is = λ n. told (node_of ns n) ∙ value n }
+  where
+    told : (o : Option ℕ) → told_at t o ≡ (o then slice_get (nodes t))
+    told None = refl
+    told (Some k) = refl

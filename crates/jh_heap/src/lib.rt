@@ -11,4 +11,4 @@ mod writing;
 
 pub use outline::{Holder, Outline};
 pub use reading::{HeapError, read_heap};
-pub use writing::write_heap;
+pub use writing::{add_cell, write_heap};

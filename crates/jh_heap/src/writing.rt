@@ -42,8 +42,8 @@ fn add_set(text: &mut String, objects: &[u32]) -> Result<(), NoMemory>
     Ok(())
 }
 
-/// Adds a value.
-fn add_cell(text: &mut String, cell: &Cell) -> Result<(), NoMemory>
+/// Adds a value as a heap text has it.
+pub fn add_cell(text: &mut String, cell: &Cell) -> Result<(), NoMemory>
     ensures { OnOk result (string_bytes text.new ≡ string_bytes text.old ++ spec.cell_text (cell_in cell.now)) }
 {
     match cell {

@@ -1,5 +1,5 @@
 -- The command of a method over the outline of a source is that of the source.
-use Rattle.std.proofs.Common.{◌≡◌, refl, sym, ap, subst, ◌∙◌, ℕ, List, map, Option, Some, None, option_map, slice_get}
+use Rattle.std.proofs.Common.{◌≡◌, refl, sym, ap, subst, ◌∙◌, Option, Some, None, option_map, slice_get}
 use Rattle.jh_name.specs.declared.place.MethodId.{MethodId}
 use Rattle.jh_ast.specs.Programs.{ClassPart, MethodPart, ProgramTree}
 use Rattle.jh_table.specs.Entries.{Listing}
@@ -13,31 +13,12 @@ use Rattle.jh_known.specs.declared.outline.Callable.{Callable}
 use Rattle.jh_lowered.specs.Statements.{method_in as code_in}
 use Rattle.jh_known.specs.Outlines.{IsCallable, callee_of, method_of, program_in, source_of, writes_in}
 use Rattle.jh_known.proofs.OutlineSteps.{program-method}
-use Rattle.jh_guard.specs.Items.{items, sorted_item}
-use Rattle.jh_facts.specs.States.{members_in}
-use Rattle.jh_changes.specs.declared.names.SortedName.{SortedName}
-use Rattle.jh_changes.specs.Added.{sorted_in}
-use Rattle.jh_asserting.specs.Told.{AreFormulas}
-use Rattle.jh_written.specs.declared.places.MethodPlaces.{MethodPlaces}
-use Rattle.jh_sound.specs.Laws.{IsAccepted}
 use Rattle.jh_sound.proofs.Declared.{method-some}
 use Rattle.std.proofs.lemmas.Option.{same_Some}
 use Rattle.jh_sound.proofs.Lists.{at-has, no-none}
-use Rattle.jh_outline.specs.declared.draft.Draft.{Draft}
-use Rattle.jh_outline.specs.Drafts.{AreModified, AreWritten, IsDraft, Lends, Outlines}
-use Rattle.jh_outline.proofs.Outlining.{outlined}
+use Rattle.jh_outline.specs.Drafts.{Outlines}
 use Rattle.jh_guarded.specs.declared.command.MethodCommand.{MethodCommand}
 use Rattle.jh_methods.specs.Methods.{IsCommandOf, IsMethodCommand, callee_at, callee_with}
-
--- what a draft lends, with the names of all state and the formulas of a source, is an outline of it
-pub draft-outlines : (p : ProgramTree) (written modified : MethodPlaces) (l : Listing) (d : Draft) (o : Outline) (state : List SortedName) (formulas : List (Option ℕ)) →
-    IsDraft p written modified l d → Lends d o → source_of o ≡ p → o.state.now ≡ state → o.formulas.now ≡ formulas →
-    ((q : Program) → q.classes ≡ d.declared.classes.items → q.members ≡ members_in d.declared.classes.items d.declared.members.items → sorted_in state ≡ map sorted_item (items q)) →
-    AreWritten p written → AreModified p modified → IsAccepted p → AreFormulas p l formulas → Outlines p l o
-draft-outlines p written modified l d o state formulas draft lends source names nodes told writes names_all ok are =
-    outlined p written modified l d draft o lends source writes names_all ok
-    (ap sorted_in names ∙ told (program_of p) (sym draft.declared.classes) (sym (ap (λ n. members_in n d.declared.members.items) draft.declared.classes ∙ draft.declared.members)))
-    (subst (λ (ns : List (Option ℕ)). AreFormulas p l ns) (sym nodes) are)
 
 module _ (p : ProgramTree) (id : MethodId) where
   abbrev named : ClassPart → Option Callee

@@ -1,16 +1,11 @@
 -- What a method of an outline reads and answers is what the program of the outline does.
-use Rattle.std.proofs.Common.{◌≡◌, refl, sym, ap, subst, ◌∙◌, ℕ, length, ◌<◌, List, Option, Some, None, option_map, slice_get}
+use Rattle.std.proofs.Common.{◌≡◌, refl, sym, ap, subst, ◌∙◌, ℕ, List, Option, Some, option_map}
 use Rattle.jh_ast.specs.Programs.{ProgramTree}
-use Rattle.jh_table.specs.Entries.{Listing}
-use Rattle.jh_table.specs.Nodes.{nodes}
-use Rattle.jh_rules.specs.Names.{◌then◌}
-use Rattle.jh_vars.specs.Opened.{opened}
 use Rattle.jh_vars.specs.Written.{Callee}
 use Rattle.jh_runs.specs.Program.{Program, Method}
 use Rattle.jh_runs.specs.Heaps.{Heap, Args, Cell, answered, run_of_heap}
 use Rattle.jh_lowered.specs.Statements.{method_in}
 use Rattle.jh_facts.specs.States.{members_in}
-use Rattle.jh_asserting.specs.Told.{AreFormulas, node_of, told_at}
 use Rattle.jh_known.specs.declared.outline.Callable.{Callable}
 use Rattle.jh_known.specs.declared.outline.Outline.{Outline}
 use Rattle.jh_known.specs.Outlines.{IsCallable, callee_of, program_in, source_of}
@@ -61,11 +56,3 @@ module _ (o : Outline) (x : Callable) (is : IsCallable o x) where
       run = run;
       text_is = is_text ∙ ap (λ u. answered_text u last value) told;
     }
-
--- the nodes of the parts of an unfolded program are its formulas
-pub formulas-of : (p : ProgramTree) (t : Listing) (ns : List (Option ℕ)) → ((n : ℕ) → (node_of ns n then slice_get (nodes t)) ≡ opened p n) → ((n k : ℕ) → node_of ns n ≡ Some k → k < length (nodes t)) → AreFormulas p t ns
-formulas-of p t ns value inside = record { inside = inside; is = λ n. told (node_of ns n) ∙ value n }
-  where
-    told : (o : Option ℕ) → told_at t o ≡ (o then slice_get (nodes t))
-    told None = refl
-    told (Some k) = refl

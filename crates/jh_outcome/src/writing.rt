@@ -4,22 +4,18 @@ ghost use Rattle.jh_heap.specs.Held.{outline_in};
 ghost use Rattle.jh_outcome.specs.Texts.{answered_text, result_line};
 
 use jh_cells::Cell;
-use jh_heap::{Outline, write_heap};
+use jh_heap::{Outline, add_cell, write_heap};
 use jh_name::NoMemory;
 use jh_runner::Answered;
 use std::alloc::Global;
 
-/// Adds the line of a result. No method has a set for its result.
+/// Adds the line of a result.
 fn add_result(text: &mut String, cell: &Cell) -> Result<(), NoMemory>
     ensures { OnOk result (string_bytes text.new ≡ string_bytes text.old ++ result_line (cell_in cell.now)) }
 {
-    match cell {
-        Cell::Obj(object) => writeln!(text, "result {object}")?,
-        Cell::Int(number) => writeln!(text, "result {number}")?,
-        Cell::Bool(true) => writeln!(text, "result true")?,
-        Cell::Bool(false) => writeln!(text, "result false")?,
-        Cell::Set(_) => return Err(NoMemory),
-    }
+    text.push_str("result ")?;
+    add_cell(text, cell)?;
+    text.push_str("\n")?;
     Ok(())
 }
 

@@ -19,7 +19,7 @@ use Rattle.jh_written.specs.Methods.{callee_of, places_in}
 use Rattle.jh_written.specs.declared.methods.Listed.{Listed}
 use Rattle.jh_written.specs.declared.places.MethodPlaces.{MethodPlaces}
 use Rattle.jh_runs.specs.Code.{Text}
-use Rattle.jh_runs.specs.Program.{Method}
+use Rattle.jh_runs.specs.Program.{Method, Program}
 use Rattle.jh_runs.specs.LoweredProgram.{program_of, method_code}
 use Rattle.jh_guard.specs.Items.{items, sorted_item}
 use Rattle.jh_lowered.specs.declared.stmts.MethodCode.{MethodCode}
@@ -29,6 +29,7 @@ use Rattle.jh_facts.specs.declared.state.Member.{Member}
 use Rattle.jh_facts.specs.Facts.{AreFacts}
 use Rattle.jh_facts.specs.Formed.{head_facts, tail_facts}
 use Rattle.jh_facts.specs.States.{members_in}
+use Rattle.jh_changes.specs.declared.names.SortedName.{SortedName}
 use Rattle.jh_changes.specs.Added.{sorted_in}
 use Rattle.jh_asserting.specs.Told.{AreFormulas}
 use Rattle.jh_known.specs.declared.outline.Outline.{Outline}
@@ -169,3 +170,13 @@ module _ (p : ProgramTree) (written modified : MethodPlaces) (l : Listing) (d : 
       program = program-is;
       exact = are-exact p ok o program-is state rows-are;
     }
+
+-- what a draft lends, with the names of all state and the formulas of a source, is an outline of it
+pub draft-outlines : (p : ProgramTree) (written modified : MethodPlaces) (l : Listing) (d : Draft) (o : Outline) (state : List SortedName) (formulas : List (Option ℕ)) →
+    IsDraft p written modified l d → Lends d o → source_of o ≡ p → o.state.now ≡ state → o.formulas.now ≡ formulas →
+    ((q : Program) → q.classes ≡ d.declared.classes.items → q.members ≡ members_in d.declared.classes.items d.declared.members.items → sorted_in state ≡ map sorted_item (items q)) →
+    AreWritten p written → AreModified p modified → IsAccepted p → AreFormulas p l formulas → Outlines p l o
+draft-outlines p written modified l d o state formulas draft lends source names nodes told writes names_all ok are =
+    outlined p written modified l d draft o lends source writes names_all ok
+    (ap sorted_in names ∙ told (program_of p) (sym draft.declared.classes) (sym (ap (λ n. members_in n d.declared.members.items) draft.declared.classes ∙ draft.declared.members)))
+    (subst (λ (ns : List (Option ℕ)). AreFormulas p l ns) (sym nodes) are)

@@ -6,7 +6,7 @@ use Rattle.jh_asserting.specs.Told.{AreFormulas}
 use Rattle.jh_vars.specs.Reading.{IsAcyclic}
 use Rattle.jahob.specs.Causes.{IsUnreported}
 use Rattle.jahob.specs.Verify.{IsReport}
-use Rattle.jahob.proofs.Judging.{formulas-of}
+use Rattle.jh_asserting.proofs.ToldSteps.{formulas-of}
 use Rattle.jahob.proofs.reporting.verify.Goals as goal
 
 -- src/reporting.rt

@@ -8,7 +8,8 @@ use Rattle.jh_runs.specs.Program.{Program as Lowered}
 use Rattle.jh_known.specs.Outlines.{source_of}
 use Rattle.jh_outline.specs.Drafts.{IsDraft, Outlines}
 use Rattle.jh_methods.specs.Methods.{callee_at, callee_with}
-use Rattle.jh_methods.proofs.Outlining.{draft-outlines, is-there, of-source}
+use Rattle.jh_outline.proofs.Outlining.{draft-outlines}
+use Rattle.jh_methods.proofs.Outlining.{is-there, of-source}
 use Rattle.jh_methods.proofs.source.of_method.Goals as goal
 
 -- src/source.rt

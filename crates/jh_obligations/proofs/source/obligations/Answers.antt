@@ -12,7 +12,8 @@ use Rattle.jh_runs.specs.LoweredProgram.{program_of}
 use Rattle.jh_obligations.specs.Owed.{AreThere}
 use Rattle.jh_obligations.specs.Owing.{owing_of}
 use Rattle.jh_obligations.proofs.Valid.{all-there}
-use Rattle.jh_obligations.proofs.Outlined.{draft-outlines, owes-source, fault-source}
+use Rattle.jh_outline.proofs.Outlining.{draft-outlines}
+use Rattle.jh_obligations.proofs.Outlined.{owes-source, fault-source}
 use Rattle.jh_obligations.proofs.source.obligations.Goals as goal
 
 -- src/source.rt

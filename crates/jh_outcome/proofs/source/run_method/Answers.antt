@@ -3,7 +3,7 @@ use Rattle.jh_ast.specs.Bare.{program_tree}
 use Rattle.jh_ast.specs.Programs.{ProgramTree}
 use Rattle.jh_asserting.specs.Told.{AreFormulas}
 use Rattle.jh_outcome.specs.Outcomes.{Returns}
-use Rattle.jh_outcome.proofs.Telling.{formulas-of}
+use Rattle.jh_asserting.proofs.ToldSteps.{formulas-of}
 use Rattle.jh_outcome.proofs.source.run_method.Goals as goal
 
 -- src/source.rt
