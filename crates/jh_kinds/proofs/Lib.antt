@@ -1,4 +1,4 @@
 mod Steps
-mod Halves
+mod Halving
 mod Gathering
 mod Repeats

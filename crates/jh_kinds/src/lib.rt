@@ -12,5 +12,5 @@ mod spot;
 
 pub use formulas::{form_kind, truth_faults};
 pub use shapes::equation_fields;
-pub use spelling::{field_named, state_named, state_spelled};
+pub use spelling::{field_named, halves, state_named, state_spelled};
 pub use spot::Spot;

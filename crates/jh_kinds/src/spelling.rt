@@ -11,8 +11,8 @@ use jh_exprs::Lookups;
 use jh_name::Place;
 use jh_rules::{Found, StateEntry, needs, wrong};
 
-/// The two halves of a qualified word.
-pub(crate) fn halves(text: &str) -> Option<(&str, &str)>
+/// The two halves of a text round its first dot, where it has one.
+pub fn halves(text: &str) -> Option<(&str, &str)>
     ensures { parts.pointed result ≡ words.halves text.now }
 {
     text.split_once('.')

@@ -1,5 +1,5 @@
 use Rattle.std.proofs.Common.{arith}
-use Rattle.jh_kinds.proofs.Halves.{halved}
+use Rattle.jh_kinds.proofs.Halving.{halved}
 use Rattle.std.proofs.lemmas.Str.Pattern.{split_parts}
 use Rattle.jh_kinds.proofs.spelling.halves.Goals as goal
 
