@@ -1,5 +1,5 @@
 -- What a run of a method from the heap that a text spells comes to.
-use Rattle.std.specs.Prelude.{◌≡◌, ℕ, List, Option, Some, None}
+use Rattle.std.specs.Prelude.{◌≡◌, ℕ, Bool, false, is_some, List, Option, Some, None}
 use Rattle.jh_ast.specs.Programs.{ProgramTree}
 use Rattle.jh_rules.specs.Names.{declared_in}
 use Rattle.jh_vars.specs.Written.{Callee}
@@ -17,6 +17,15 @@ use Rattle.jh_heap.specs.Reading.{reading, read}
 use Rattle.jh_outcome.specs.Texts.{answered_text}
 use Rattle.jh_outcome.specs.declared.unreturned.Unreturned.{Unreturned}
 use Rattle.jh_outcome.specs.declared.unreturned.Unreturned.TheVariants as why
+
+-- whether the class of a number, where there is one, has a method of this name
+abbrev pub is_method_in : ProgramTree → Text → Option ℕ → Bool
+is_method_in p name None = false
+is_method_in p name (Some n) = is_some ((program_of p).method (record { class = n; name = name }))
+
+-- whether a program has a method of this name in a class of that name
+abbrev pub has_method : ProgramTree → Text → Text → Bool
+has_method p class name = is_method_in p name ((declared_in p).class_named class)
 
 -- The method is there, and the text spells a heap with arguments for it.
 pub record Starts (p : Program) (m : Callee) (bytes : List ℕ) (heap : Heap) (args : Args) : Type 0 where
