@@ -3,11 +3,20 @@ use Rattle.std.specs.Prelude.{ℕ, ◌≡◌, ◌<◌, ◌≤◌, ◌++◌, ◌�
 use Rattle.std.specs.Fmt.{decimal}
 use Rattle.jh_files.specs.Contents.{Appends, AppendsFront}
 use Rattle.jh_files.specs.Counts.{Rose}
+use Rattle.jh_files.specs.declared.fault.FileFault.{FileFault}
+use Rattle.jh_files.specs.declared.fault.FileFault.TheVariants as fault
 use Rattle.jh_ast.specs.Programs.{ProgramTree}
-use Rattle.jahob.specs.declared.top.Reply.{Reply}
-use Rattle.jahob.specs.declared.top.Reply.TheVariants as reply
+use Rattle.jahob.specs.declared.reply.Reply.{Reply}
+use Rattle.jahob.specs.declared.reply.Reply.TheVariants as reply
 use Rattle.jh_vars.specs.States.{class_text}
 use Rattle.jh_obligations.specs.Sources.{OwesLittle, OwesMuch}
+use Rattle.jh_heap.specs.declared.reading.HeapError.{HeapError}
+use Rattle.jh_heap.specs.declared.reading.HeapError.TheVariants as heap
+use Rattle.jh_todo.specs.declared.stop.Stop.{Stop}
+use Rattle.jh_todo.specs.declared.stop.Stop.TheVariants as stop
+use Rattle.jh_outcome.specs.Outcomes.{IsReason, Returns, has_method}
+use Rattle.jh_outcome.specs.declared.unreturned.Unreturned.{Unreturned}
+use Rattle.jh_outcome.specs.declared.unreturned.Unreturned.TheVariants as unreturned_by
 use Rattle.jh_report.specs.Report.{Reported, report_of, is_accepted}
 use Rattle.jahob.specs.declared.error.Unreported.{Unreported}
 use Rattle.jahob.specs.declared.error.Unreported.TheVariants as unreported
@@ -15,7 +24,8 @@ use Rattle.jahob.specs.Refusals.{Spells, RefusedAt, IsMistyped, IsCircular, IsCr
 use Rattle.jh_name.specs.declared.place.MethodId.{MethodId}
 use Rattle.jh_name.specs.declared.place.Place.{Place}
 use Rattle.jahob.specs.Verify.{Tells, IsRead, IsRefused, IsIll, IsLooped, IsOverfull, IsReport, Judges, OwesProvable, source_limit}
-use Rattle.jahob.specs.Words.{verify_file}
+use Rattle.jahob.specs.Run.{IsBegun, IsCalled, IsOverflow, IsSource, ending_of, ending_status, run_steps}
+use Rattle.jahob.specs.Words.{Job, Run, job_of, run, source_of, verify}
 
 -- What there is to see of the files over a call: what they hold, and for each name how many calls had
 -- failed before it and had after it.
@@ -35,7 +45,10 @@ pub record SinkSeen : Type 0 where
 -- What a call finds, before anything is written.
 pub data Finding : Type 0 where
   reported : ProgramTree → List Reported → Finding
+  ran : ProgramTree → List ℕ → Finding
+  unreturned : ProgramTree → Unreturned → Finding
   no_job : Finding
+  no_method : ProgramTree → Finding
   refused : ℕ → Place → Finding
   mistyped : ℕ → Place → Finding
   circular : List ℕ → Finding
@@ -44,18 +57,26 @@ pub data Finding : Type 0 where
   file_too_long : List ℕ → Finding
   no_memory : Finding
 
--- When each finding may come. A program is reported on where the bytes spell it, with right answers for
--- its sequents; a file fails only where its count rose. Want of memory is free where there is a job.
+-- a file is read: that of the source, and that of the heap where a run's method is there
+pub data IsRead_in (words : List (List ℕ)) (holds : List ℕ → Option (List ℕ)) : List ℕ → Type 0 where
+  as_source : (job : Job) → job_of words ≡ Some job → IsRead_in words holds (source_of job)
+  as_heap : (p : ProgramTree) (called : IsCalled words holds p) → IsRead_in words holds called.source.job.heap
+
+-- When each finding may come. A program is reported on where the bytes spell it, with right answers for its sequents; what a run comes to is
+-- exact; a file fails only where its count rose. Want of memory is free where there is a job.
 abbrev pub Comes : List (List ℕ) → FilesSeen → Finding → Type 0
 Comes words files (reported p rs) = IsRead words files.holds p × Judges p rs
-Comes words files no_job = verify_file words ≡ None
+Comes words files (ran p text) = (begun : IsBegun words files.holds p) × Returns p begun.called.source.job.class begun.called.source.job.method begun.text run_steps text
+Comes words files (unreturned p e) = (begun : IsBegun words files.holds p) × IsReason p begun.called.source.job.class begun.called.source.job.method begun.text run_steps e
+Comes words files no_job = job_of words ≡ None
+Comes words files (no_method p) = (source : IsSource words files.holds p) × (has_method p source.job.class source.job.method ≡ false)
 Comes words files (refused number place) = IsRefused words files.holds number place
 Comes words files (mistyped rule place) = IsIll words files.holds rule place
 Comes words files (circular name) = IsLooped words files.holds name
 Comes words files (crowded class name n) = IsOverfull words files.holds class name n
-Comes words files (file_failed file) = (verify_file words ≡ Some file) × Rose (files.before file) (files.after file)
-Comes words files (file_too_long file) = (verify_file words ≡ Some file) × IfSome (files.holds file) (λ held. source_limit < length held)
-Comes words files no_memory = (file : List ℕ) × (verify_file words ≡ Some file)
+Comes words files (file_failed file) = IsRead_in words files.holds file × Rose (files.before file) (files.after file)
+Comes words files (file_too_long file) = IsRead_in words files.holds file × IfSome (files.holds file) (λ held. source_limit < length held)
+Comes words files no_memory = (job : Job) × (job_of words ≡ Some job)
 
 -- What is due: the exit status, and a text, on the first sink or on the second.
 pub record Due : Type 0 where
@@ -64,7 +85,7 @@ pub record Due : Type 0 where
   pub text : List ℕ
 
 abbrev pub usage_text : List ℕ
-usage_text = codes "usage: jahob verify FILE" ++ 10 ∷ []
+usage_text = codes "usage: jahob verify FILE" ++ (10 ∷ (codes "       jahob run FILE CLASS.METHOD HEAP" ++ 10 ∷ []))
 
 -- the line for a source that is refused with a number, at a place
 abbrev pub refused_text : ℕ → Place → List ℕ
@@ -86,12 +107,68 @@ crowded_text class name n = codes "refused 12 " ++ (class ++ (codes "." ++ (name
 abbrev pub fault_text : List ℕ → List ℕ → List ℕ
 fault_text kind file = codes "file " ++ (kind ++ (codes " " ++ (file ++ 10 ∷ [])))
 
+-- the line for a run that stops at a place
+abbrev pub stopped_text : List ℕ → Place → List ℕ
+stopped_text kind place = kind ++ (codes " at " ++ (decimal place.line ++ (codes ":" ++ (decimal place.column ++ 10 ∷ []))))
+
+abbrev pub steps_out_text : List ℕ
+steps_out_text = codes "steps out" ++ 10 ∷ []
+
+-- the lines for a heap text with a line that has no form or stands out of order, and for one with a line that breaks a rule
+abbrev pub bad_line_text : ℕ → List ℕ
+bad_line_text line = codes "heap 9 line " ++ (decimal line ++ 10 ∷ [])
+
+abbrev pub ill_line_text : ℕ → ℕ → List ℕ
+ill_line_text line rule = codes "heap 10 line " ++ (decimal line ++ (codes " rule " ++ (decimal rule ++ 10 ∷ [])))
+
 abbrev pub no_memory_text : List ℕ
 no_memory_text = codes "no memory" ++ 10 ∷ []
 
+-- what is due for a run that doesn't return
+abbrev pub heap_status : HeapError → ℕ
+heap_status (heap.BadLine line) = 15
+heap_status (heap.NotWellFormed line rule) = 15
+heap_status heap.Memory = 6
+
+abbrev pub heap_text : HeapError → List ℕ
+heap_text (heap.BadLine line) = bad_line_text line
+heap_text (heap.NotWellFormed line rule) = ill_line_text line rule
+heap_text heap.Memory = no_memory_text
+
+abbrev pub stop_status : Stop → ℕ
+stop_status (stop.Null place) = 10
+stop_status (stop.AssertFailed place) = 11
+stop_status (stop.NoObject place) = 12
+stop_status stop.StepsOut = 13
+stop_status (stop.Overflow place) = 14
+stop_status stop.Memory = 6
+
+abbrev pub stop_text : Stop → List ℕ
+stop_text (stop.Null place) = stopped_text (codes "null") place
+stop_text (stop.AssertFailed place) = stopped_text (codes "assert") place
+stop_text (stop.NoObject place) = stopped_text (codes "no object") place
+stop_text stop.StepsOut = steps_out_text
+stop_text (stop.Overflow place) = stopped_text (codes "overflow") place
+stop_text stop.Memory = no_memory_text
+
+abbrev pub unreturned_status : Unreturned → ℕ
+unreturned_status unreturned_by.NoMethod = 2
+unreturned_status (unreturned_by.NoHeap error) = heap_status error
+unreturned_status (unreturned_by.Stopped why) = stop_status why
+unreturned_status unreturned_by.Memory = 6
+
+abbrev pub unreturned_text : Unreturned → List ℕ
+unreturned_text unreturned_by.NoMethod = usage_text
+unreturned_text (unreturned_by.NoHeap error) = heap_text error
+unreturned_text (unreturned_by.Stopped why) = stop_text why
+unreturned_text unreturned_by.Memory = no_memory_text
+
 abbrev pub due : Finding → Due
 due (reported p rs) = record { status = if is_accepted rs then 0 else 1; on_out = true; text = report_of rs }
+due (ran p text) = record { status = 0; on_out = true; text = text }
+due (unreturned p e) = record { status = unreturned_status e; on_out = false; text = unreturned_text e }
 due no_job = record { status = 2; on_out = false; text = usage_text }
+due (no_method p) = record { status = 2; on_out = false; text = usage_text }
 due (refused number place) = record { status = 3; on_out = false; text = refused_text number place }
 due (mistyped rule place) = record { status = 3; on_out = false; text = mistyped_text rule place }
 due (circular name) = record { status = 3; on_out = false; text = circular_text name }
@@ -136,29 +213,46 @@ pub record Answered (words : List (List ℕ)) (files : FilesSeen) (out err : Sin
 abbrev pub IsExcused : FilesSeen → List ℕ → ℕ → Type 0
 IsExcused files file status = ((status ≡ 4) × Rose (files.before file) (files.after file)) ⊎ (status ≡ 5) ⊎ (status ≡ 6)
 
--- The answers by their conditions. Without a job it is usage. Else, for what the file holds where it tells: 4
--- where it is too long, 3 where it is refused, breaks a type rule, has a cyclic variable or a method of too many sequents, and else 0 or 1;
--- 0 where all that is owed is provable.
+-- The same for a run, which reads two files.
+abbrev pub IsRunExcused : FilesSeen → Run → ℕ → Type 0
+IsRunExcused files r status = IsExcused files r.file status ⊎ IsExcused files r.heap status
+
+-- a status is that of what a run comes to by the definition of runs, or 14 where something overflows in it
+abbrev pub IsRunStatus : ProgramTree → Run → List ℕ → ℕ → Type 0
+IsRunStatus p r text status = (status ≡ ending_status (ending_of p r.class r.method text run_steps)) ⊎ ((status ≡ 14) × IsOverflow p r.class r.method text run_steps)
+
+-- The answers by their conditions. Without a job it is usage. Else, for what the file of the source holds where it tells: 4 where it is too long,
+-- 3 where it is refused, breaks a type rule or has a cyclic variable. Of a report: 3 where a method has too many sequents, and else 0 or 1; 0 where
+-- all that is owed is provable. Of a run: usage where there is no such method; 4 where the file of the heap is too long; and else the status of what the
+-- run comes to by the definition of runs, or 14 where something overflows in it.
 pub record Exact (words : List (List ℕ)) (files : FilesSeen) (status : ℕ) : Type 0 where
-  pub usage : verify_file words ≡ None → (status ≡ 2) ⊎ (status ≡ 5)
-  pub too_long : (file bytes : List ℕ) → verify_file words ≡ Some file → files.holds file ≡ Some bytes → source_limit < length bytes → (status ≡ 4) ⊎ IsExcused files file status
-  pub refused : (file bytes : List ℕ) (number : ℕ) (place : Place) → verify_file words ≡ Some file → files.holds file ≡ Some bytes → length bytes ≤ source_limit → RefusedAt bytes number place → (status ≡ 3) ⊎ IsExcused files file status
-  pub mistyped : (file bytes : List ℕ) (rule : ℕ) (place : Place) → verify_file words ≡ Some file → files.holds file ≡ Some bytes → length bytes ≤ source_limit → IsMistyped bytes rule place → (status ≡ 3) ⊎ IsExcused files file status
-  pub circular : (file bytes name : List ℕ) → verify_file words ≡ Some file → files.holds file ≡ Some bytes → length bytes ≤ source_limit → IsCircular bytes name → (status ≡ 3) ⊎ IsExcused files file status
-  pub crowded : (file bytes class name : List ℕ) (n : ℕ) → verify_file words ≡ Some file → files.holds file ≡ Some bytes → length bytes ≤ source_limit → IsCrowded bytes class name n → (status ≡ 3) ⊎ IsExcused files file status
-  pub reported : (file bytes : List ℕ) (p : ProgramTree) → verify_file words ≡ Some file → files.holds file ≡ Some bytes → length bytes ≤ source_limit → Spells bytes p → OwesLittle p → (status ≡ 0) ⊎ (status ≡ 1) ⊎ IsExcused files file status
-  pub proved : (file bytes : List ℕ) (p : ProgramTree) → verify_file words ≡ Some file → files.holds file ≡ Some bytes → length bytes ≤ source_limit → Spells bytes p → OwesProvable p → (status ≡ 0) ⊎ IsExcused files file status
+  pub usage : job_of words ≡ None → (status ≡ 2) ⊎ (status ≡ 5)
+  pub too_long : (job : Job) (bytes : List ℕ) → job_of words ≡ Some job → files.holds (source_of job) ≡ Some bytes → source_limit < length bytes → (status ≡ 4) ⊎ IsExcused files (source_of job) status
+  pub refused : (job : Job) (bytes : List ℕ) (number : ℕ) (place : Place) → job_of words ≡ Some job → files.holds (source_of job) ≡ Some bytes → length bytes ≤ source_limit → RefusedAt bytes number place → (status ≡ 3) ⊎ IsExcused files (source_of job) status
+  pub mistyped : (job : Job) (bytes : List ℕ) (rule : ℕ) (place : Place) → job_of words ≡ Some job → files.holds (source_of job) ≡ Some bytes → length bytes ≤ source_limit → IsMistyped bytes rule place → (status ≡ 3) ⊎ IsExcused files (source_of job) status
+  pub circular : (job : Job) (bytes name : List ℕ) → job_of words ≡ Some job → files.holds (source_of job) ≡ Some bytes → length bytes ≤ source_limit → IsCircular bytes name → (status ≡ 3) ⊎ IsExcused files (source_of job) status
+  pub crowded : (file bytes class name : List ℕ) (n : ℕ) → job_of words ≡ Some (verify file) → files.holds file ≡ Some bytes → length bytes ≤ source_limit → IsCrowded bytes class name n → (status ≡ 3) ⊎ IsExcused files file status
+  pub reported : (file bytes : List ℕ) (p : ProgramTree) → job_of words ≡ Some (verify file) → files.holds file ≡ Some bytes → length bytes ≤ source_limit → Spells bytes p → OwesLittle p → (status ≡ 0) ⊎ (status ≡ 1) ⊎ IsExcused files file status
+  pub proved : (file bytes : List ℕ) (p : ProgramTree) → job_of words ≡ Some (verify file) → files.holds file ≡ Some bytes → length bytes ≤ source_limit → Spells bytes p → OwesProvable p → (status ≡ 0) ⊎ IsExcused files file status
+  pub no_method : (r : Run) (bytes : List ℕ) (p : ProgramTree) → job_of words ≡ Some (run r) → files.holds r.file ≡ Some bytes → length bytes ≤ source_limit → Spells bytes p → has_method p r.class r.method ≡ false → (status ≡ 2) ⊎ IsExcused files r.file status
+  pub heap_too_long : (r : Run) (bytes text : List ℕ) (p : ProgramTree) → job_of words ≡ Some (run r) → files.holds r.file ≡ Some bytes → length bytes ≤ source_limit → Spells bytes p → has_method p r.class r.method ≡ true →
+      files.holds r.heap ≡ Some text → source_limit < length text → (status ≡ 4) ⊎ IsRunExcused files r status
+  pub ran : (r : Run) (bytes text : List ℕ) (p : ProgramTree) → job_of words ≡ Some (run r) → files.holds r.file ≡ Some bytes → length bytes ≤ source_limit → Spells bytes p → has_method p r.class r.method ≡ true →
+      files.holds r.heap ≡ Some text → length text ≤ source_limit → IsRunStatus p r text status ⊎ IsRunExcused files r status
 
 -- what is due for a reply
 abbrev pub reply_due : Reply → Due
 reply_due (reply.Report text accepted) = record { status = if accepted then 0 else 1; on_out = true; text = string_bytes text }
+reply_due (reply.Ran text) = record { status = 0; on_out = true; text = string_bytes text }
+reply_due (reply.Line text status) = record { status = status; on_out = false; text = string_bytes text }
 reply_due reply.Usage = record { status = 2; on_out = false; text = usage_text }
-reply_due (reply.Refused text) = record { status = 3; on_out = false; text = string_bytes text }
-reply_due (reply.Mistyped text) = record { status = 3; on_out = false; text = string_bytes text }
-reply_due (reply.Circular text) = record { status = 3; on_out = false; text = string_bytes text }
-reply_due (reply.Crowded text) = record { status = 3; on_out = false; text = string_bytes text }
-reply_due (reply.Fault text) = record { status = 4; on_out = false; text = string_bytes text }
 reply_due reply.NoMemory = record { status = 6; on_out = false; text = no_memory_text }
+
+-- a reply is a line with a status, or want of memory
+abbrev pub Says : ℕ → List ℕ → Reply → Type 0
+Says status text (reply.Line line number) = (number ≡ status) × (string_bytes line ≡ text)
+Says status text reply.NoMemory = Unit {0}
+Says status text _ = ⊥
 
 -- there are too many sequents, and a text says so
 pub record IsCrowd (p : ProgramTree) (text : List ℕ) : Type 0 where
@@ -175,79 +269,76 @@ IsUnreported p unreported.Memory = Unit {0}
 -- a reply is the report on a program, or says that a method has too many sequents, or is want of memory
 abbrev pub IsReply : ProgramTree → Reply → Type 0
 IsReply p (reply.Report text accepted) = IsReport p (string_bytes text) accepted
-IsReply p reply.Usage = ⊥
-IsReply p (reply.Refused text) = ⊥
-IsReply p (reply.Mistyped text) = ⊥
-IsReply p (reply.Circular text) = ⊥
-IsReply p (reply.Crowded text) = IsCrowd p (string_bytes text)
-IsReply p (reply.Fault text) = ⊥
+IsReply p (reply.Line text status) = (status ≡ 3) × IsCrowd p (string_bytes text)
 IsReply p reply.NoMemory = Unit {0}
+IsReply p _ = ⊥
 
--- a reply says that a source is refused with a number, at a place, or is want of memory
-abbrev pub IsRefusal : ℕ → Place → Reply → Type 0
-IsRefusal number place (reply.Report text accepted) = ⊥
-IsRefusal number place reply.Usage = ⊥
-IsRefusal number place (reply.Refused text) = string_bytes text ≡ refused_text number place
-IsRefusal number place (reply.Mistyped text) = ⊥
-IsRefusal number place (reply.Circular text) = ⊥
-IsRefusal number place (reply.Crowded text) = ⊥
-IsRefusal number place (reply.Fault text) = ⊥
-IsRefusal number place reply.NoMemory = Unit {0}
+-- a text is the line for bytes that are refused, break a type rule or have a cyclic variable
+pub data IsRefusal (bytes text : List ℕ) : Type 0 where
+  by_place : (number : ℕ) (place : Place) → RefusedAt bytes number place → text ≡ refused_text number place → IsRefusal bytes text
+  by_rule : (rule : ℕ) (place : Place) → IsMistyped bytes rule place → text ≡ mistyped_text rule place → IsRefusal bytes text
+  by_loop : (name : List ℕ) → IsCircular bytes name → text ≡ circular_text name → IsRefusal bytes text
 
--- A reply is right for the bytes of a source.
+-- A reply is right for the bytes of a source that is refused.
+abbrev pub FitsRefusal : List ℕ → Reply → Type 0
+FitsRefusal bytes (reply.Line text status) = (status ≡ 3) × IsRefusal bytes (string_bytes text)
+FitsRefusal bytes reply.NoMemory = Unit {0}
+FitsRefusal bytes _ = ⊥
+
+-- A reply is right for the bytes of a source that is to be verified.
 abbrev pub FitsBytes : List ℕ → Reply → Type 0
-FitsBytes bytes (reply.Report text accepted) = (p : ProgramTree) × Spells bytes p × IsReport p (string_bytes text) accepted
-FitsBytes bytes reply.Usage = ⊥
-FitsBytes bytes (reply.Refused text) = (number : ℕ) × (place : Place) × RefusedAt bytes number place × (string_bytes text ≡ refused_text number place)
-FitsBytes bytes (reply.Mistyped text) = (rule : ℕ) × (place : Place) × IsMistyped bytes rule place × (string_bytes text ≡ mistyped_text rule place)
-FitsBytes bytes (reply.Circular text) = (name : List ℕ) × IsCircular bytes name × (string_bytes text ≡ circular_text name)
-FitsBytes bytes (reply.Crowded text) = (class : List ℕ) × (name : List ℕ) × (n : ℕ) × IsCrowded bytes class name n × (string_bytes text ≡ crowded_text class name n)
-FitsBytes bytes (reply.Fault text) = ⊥
-FitsBytes bytes reply.NoMemory = Unit {0}
+FitsBytes bytes answer = FitsRefusal bytes answer ⊎ ((p : ProgramTree) × Spells bytes p × IsReply p answer)
 
--- a reply says that a source breaks a type rule, at a place, or is want of memory
-abbrev pub IsIllness : ℕ → Place → Reply → Type 0
-IsIllness rule place (reply.Report text accepted) = ⊥
-IsIllness rule place reply.Usage = ⊥
-IsIllness rule place (reply.Refused text) = ⊥
-IsIllness rule place (reply.Mistyped text) = string_bytes text ≡ mistyped_text rule place
-IsIllness rule place (reply.Circular text) = ⊥
-IsIllness rule place (reply.Crowded text) = ⊥
-IsIllness rule place (reply.Fault text) = ⊥
-IsIllness rule place reply.NoMemory = Unit {0}
-
--- a reply says that a source has a cyclic variable of this name, or is want of memory
-abbrev pub IsLoop : List ℕ → Reply → Type 0
-IsLoop name (reply.Report text accepted) = ⊥
-IsLoop name reply.Usage = ⊥
-IsLoop name (reply.Refused text) = ⊥
-IsLoop name (reply.Mistyped text) = ⊥
-IsLoop name (reply.Circular text) = string_bytes text ≡ circular_text name
-IsLoop name (reply.Crowded text) = ⊥
-IsLoop name (reply.Fault text) = ⊥
-IsLoop name reply.NoMemory = Unit {0}
-
--- a reply says that a file fails in some way, or is want of memory
-abbrev pub IsFault : List ℕ → List ℕ → Reply → Type 0
-IsFault kind file (reply.Report text accepted) = ⊥
-IsFault kind file reply.Usage = ⊥
-IsFault kind file (reply.Refused text) = ⊥
-IsFault kind file (reply.Mistyped text) = ⊥
-IsFault kind file (reply.Circular text) = ⊥
-IsFault kind file (reply.Crowded text) = ⊥
-IsFault kind file (reply.Fault text) = string_bytes text ≡ fault_text kind file
-IsFault kind file reply.NoMemory = Unit {0}
+-- a reply says how a file fails
+abbrev pub IsFaultReply : List ℕ → FileFault → Reply → Type 0
+IsFaultReply file fault.Failed answer = Says 4 (fault_text (codes "failed") file) answer
+IsFaultReply file (fault.TooLong seen) answer = Says 4 (fault_text (codes "too long") file) answer
+IsFaultReply file fault.Memory answer = answer ≡ reply.NoMemory
 
 -- A reply is right for a file whose bytes didn't come.
 abbrev pub FitsFault : FilesSeen → List ℕ → Reply → Type 0
 FitsFault files file answer =
-    (IsFault (codes "failed") file answer × Rose (files.before file) (files.after file))
-    ⊎ (IsFault (codes "too long") file answer × IfSome (files.holds file) (λ held. source_limit < length held))
+    (Says 4 (fault_text (codes "failed") file) answer × Rose (files.before file) (files.after file))
+    ⊎ (Says 4 (fault_text (codes "too long") file) answer × IfSome (files.holds file) (λ held. source_limit < length held))
     ⊎ (answer ≡ reply.NoMemory)
 
--- A reply is right for a file.
+-- A reply is right for a file that is to be verified.
 abbrev pub FitsFile : FilesSeen → List ℕ → Reply → Type 0
 FitsFile files file answer = FitsFault files file answer ⊎ ((bytes : List ℕ) × Tells (files.holds file) bytes × (length bytes ≤ source_limit) × FitsBytes bytes answer)
+
+-- a reply says why a run doesn't return
+abbrev pub IsUnreturnedReply : Unreturned → Reply → Type 0
+IsUnreturnedReply unreturned_by.NoMethod answer = answer ≡ reply.Usage
+IsUnreturnedReply (unreturned_by.NoHeap error) answer = Says (heap_status error) (heap_text error) answer
+IsUnreturnedReply (unreturned_by.Stopped why) answer = Says (stop_status why) (stop_text why) answer
+IsUnreturnedReply unreturned_by.Memory answer = answer ≡ reply.NoMemory
+
+-- A reply is right for a method that is run from the bytes of a heap text.
+abbrev pub FitsOutcome : ProgramTree → Run → List ℕ → Reply → Type 0
+FitsOutcome p r text (reply.Ran printed) = Returns p r.class r.method text run_steps (string_bytes printed)
+FitsOutcome p r text (reply.Line line status) = (e : Unreturned) × IsReason p r.class r.method text run_steps e × (status ≡ unreturned_status e) × (string_bytes line ≡ unreturned_text e)
+FitsOutcome p r text reply.Usage = IsReason p r.class r.method text run_steps unreturned_by.NoMethod
+FitsOutcome p r text reply.NoMemory = Unit {0}
+FitsOutcome p r text _ = ⊥
+
+-- A reply is right for a method that is run from the heap of a file.
+abbrev pub FitsHeap : FilesSeen → ProgramTree → Run → Reply → Type 0
+FitsHeap files p r answer = FitsFault files r.heap answer ⊎ ((text : List ℕ) × Tells (files.holds r.heap) text × (length text ≤ source_limit) × FitsOutcome p r text answer)
+
+-- A reply is right for a method of a program.
+abbrev pub FitsMethod : FilesSeen → ProgramTree → Run → Reply → Type 0
+FitsMethod files p r answer =
+    ((has_method p r.class r.method ≡ true) × FitsHeap files p r answer)
+    ⊎ ((has_method p r.class r.method ≡ false) × (answer ≡ reply.Usage))
+    ⊎ (answer ≡ reply.NoMemory)
+
+-- A reply is right for the bytes of a source that has a method to be run.
+abbrev pub FitsSource : FilesSeen → Run → List ℕ → Reply → Type 0
+FitsSource files r bytes answer = FitsRefusal bytes answer ⊎ ((p : ProgramTree) × Spells bytes p × FitsMethod files p r answer)
+
+-- A reply is right for a run.
+abbrev pub FitsRun : FilesSeen → Run → Reply → Type 0
+FitsRun files r answer = FitsFault files r.file answer ⊎ ((bytes : List ℕ) × Tells (files.holds r.file) bytes × (length bytes ≤ source_limit) × FitsSource files r bytes answer)
 
 -- A reply is right for the words and the files: what is due for it is due for a finding that may come.
 pub record Fits (words : List (List ℕ)) (files : FilesSeen) (answer : Reply) : Type 0 where

@@ -1,4 +1,6 @@
 pub mod Words
+pub mod Held
 pub mod Refusals
 pub mod Verify
+pub mod Run
 pub mod Causes

@@ -1,4 +1,4 @@
--- What `verify` reads, what it accepts and what it reports.
+-- What `verify` reads, what it accepts and what it reports; and why a source is refused, by `verify` and by `run`.
 use Rattle.std.specs.Prelude.{ℕ, ◌≡◌, ◌≤◌, Bool, List, [], ◌∷◌, length, if◌then◌else◌, Option, Some, IfSome}
 use Rattle.jh_files.specs.Contents.{Appends}
 use Rattle.jh_ast.specs.Programs.{ProgramTree}
@@ -11,7 +11,7 @@ use Rattle.jh_obligations.specs.Sources.{Owes}
 use Rattle.jh_prove.specs.Right.{AllRight, AllProvable}
 use Rattle.jh_report.specs.Report.{Reported, report_of, is_accepted}
 use Rattle.jahob.specs.Refusals.{Spells, RefusedAt, IsMistyped, IsCircular, IsCrowded, method_text}
-use Rattle.jahob.specs.Words.{verify_file}
+use Rattle.jahob.specs.Words.{Job, job_of, source_of, verify}
 
 -- the most bytes that a source may have
 abbrev pub source_limit : ℕ
@@ -52,59 +52,59 @@ pub record IsReport (p : ProgramTree) (text : List ℕ) (accepted : Bool) : Type
   pub text_is : text ≡ report_of reported
   pub accepted_is : accepted ≡ is_accepted reported
 
--- The words ask for a file, whose bytes spell one program.
+-- The words ask for the report on a file, whose bytes spell one program.
 pub record IsRead (words : List (List ℕ)) (holds : List ℕ → Option (List ℕ)) (p : ProgramTree) : Type 0 where
   pub file : List ℕ
   pub bytes : List ℕ
-  pub asked : verify_file words ≡ Some file
+  pub asked : job_of words ≡ Some (verify file)
   pub told : Tells (holds file) bytes
   pub within : length bytes ≤ source_limit
   pub spelled : Spells bytes p
   pub only : (q : ProgramTree) → Spells bytes q → q ≡ p
 
--- The words ask for a file, whose bytes are refused with a number, at a place.
+-- The words ask for a job, whose source is refused with a number, at a place.
 pub record IsRefused (words : List (List ℕ)) (holds : List ℕ → Option (List ℕ)) (number : ℕ) (place : Place) : Type 0 where
-  pub file : List ℕ
+  pub job : Job
   pub bytes : List ℕ
-  pub asked : verify_file words ≡ Some file
-  pub told : Tells (holds file) bytes
+  pub asked : job_of words ≡ Some job
+  pub told : Tells (holds (source_of job)) bytes
   pub within : length bytes ≤ source_limit
   pub why : RefusedAt bytes number place
 
--- The words ask for a file, whose bytes spell a tree that breaks a type rule at a place.
+-- The words ask for a job, whose source spells a tree that breaks a type rule at a place.
 pub record IsIll (words : List (List ℕ)) (holds : List ℕ → Option (List ℕ)) (rule : ℕ) (place : Place) : Type 0 where
-  pub file : List ℕ
+  pub job : Job
   pub bytes : List ℕ
-  pub asked : verify_file words ≡ Some file
-  pub told : Tells (holds file) bytes
+  pub asked : job_of words ≡ Some job
+  pub told : Tells (holds (source_of job)) bytes
   pub within : length bytes ≤ source_limit
   pub why : IsMistyped bytes rule place
 
--- The words ask for a file, whose bytes spell a tree with a cyclic variable of this name.
+-- The words ask for a job, whose source spells a tree with a cyclic variable of this name.
 pub record IsLooped (words : List (List ℕ)) (holds : List ℕ → Option (List ℕ)) (name : List ℕ) : Type 0 where
-  pub file : List ℕ
+  pub job : Job
   pub bytes : List ℕ
-  pub asked : verify_file words ≡ Some file
-  pub told : Tells (holds file) bytes
+  pub asked : job_of words ≡ Some job
+  pub told : Tells (holds (source_of job)) bytes
   pub within : length bytes ≤ source_limit
   pub why : IsCircular bytes name
 
--- The words ask for a file, whose bytes spell a program with a method of too many sequents.
+-- The words ask for the report on a file, whose bytes spell a program with a method of too many sequents.
 pub record IsOverfull (words : List (List ℕ)) (holds : List ℕ → Option (List ℕ)) (class name : List ℕ) (n : ℕ) : Type 0 where
   pub file : List ℕ
   pub bytes : List ℕ
-  pub asked : verify_file words ≡ Some file
+  pub asked : job_of words ≡ Some (verify file)
   pub told : Tells (holds file) bytes
   pub within : length bytes ≤ source_limit
   pub why : IsCrowded bytes class name n
 
--- The headline: the words ask for a file whose bytes spell one program, and that program is sound.
+-- The headline: the words ask for the report on a file whose bytes spell one program, and that program is sound.
 pub record Verifies (words : List (List ℕ)) (holds : List ℕ → Option (List ℕ)) : Type 0 where
   pub program : ProgramTree
   pub read : IsRead words holds program
   pub sound : IsSound program
 
--- The words ask for a file whose bytes spell one program, and the report on it was written, with right
+-- The words ask for the report on a file whose bytes spell one program, and the report on it was written, with right
 -- answers for its sequents; the status is 0 where none is Unproved, and else 1. With 0 that program is sound.
 pub record Reports (words : List (List ℕ)) (holds : List ℕ → Option (List ℕ)) (before after : Option (List ℕ)) (status : ℕ) : Type 0 where
   pub program : ProgramTree

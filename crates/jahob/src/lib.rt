@@ -1,11 +1,14 @@
-//! Proves the methods of a program with specifications, and reports each verdict.
+//! Proves the methods of a program with specifications and reports each verdict, and runs methods on heaps.
 #![tactic(auto)]
 
 mod error;
 mod laws;
 mod reading;
+mod reply;
 mod reporting;
+mod running;
 mod top;
+mod verification;
 mod words;
 
 pub use laws::at_most_one_refusal;

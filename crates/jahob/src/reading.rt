@@ -18,6 +18,9 @@ use jh_type::{TypeError, Typed, check};
 use jh_unfold::{Unfolded, VarsError, unfold};
 use std::alloc::Global;
 
+/// The most bytes that a source or a heap text may have.
+pub const SOURCE_LIMIT: u64 = 1_048_576;
+
 /// The tokens of a source.
 fn cut(alloc: Global, bytes: &[u8]) -> Result<Vec<Token>, Refusal>
     requires { length bytes.now < 2 ^ 32 - 1 }

@@ -1,14 +1,18 @@
-use Rattle.jahob.proofs.Findings.{answered-by, answered-exact, answered-memory, answered-no-fault, answered-reports, answered-verifies}
+use Rattle.jahob.proofs.Exactness.{answered-exact}
+use Rattle.jahob.proofs.Findings.{answered-by, answered-memory, answered-no-fault, answered-reports, answered-runs, answered-verifies}
 use Rattle.jahob.proofs.top.jahob.Goals as goal
 
 pub returns-clause-cause : goal.returns-clause-cause
 returns-clause-cause g c = answered-by _ _ _ _ _ c.reply_to-reply.result c.reply_to-reply.ensures.fits c.deliver.ensures
 
 pub returns-clause-headline : goal.returns-clause-headline
-returns-clause-headline g c = λ zero. answered-verifies c.spelled_source_is_accepted.ensures c.owed_is_sound.ensures c.proved_is_valid.ensures _ _ _ _ _ (answered-by _ _ _ _ _ c.reply_to-reply.result c.reply_to-reply.ensures.fits c.deliver.ensures) zero
+returns-clause-headline g c = λ file asked zero. answered-verifies c.spelled_source_is_accepted.ensures c.owed_is_sound.ensures c.proved_is_valid.ensures _ _ _ _ _ (answered-by _ _ _ _ _ c.reply_to-reply.result c.reply_to-reply.ensures.fits c.deliver.ensures) file asked zero
 
 pub returns-clause-report : goal.returns-clause-report
-returns-clause-report g c = λ low. answered-reports c.spelled_source_is_accepted.ensures c.owed_is_sound.ensures c.proved_is_valid.ensures _ _ _ _ _ (answered-by _ _ _ _ _ c.reply_to-reply.result c.reply_to-reply.ensures.fits c.deliver.ensures) low
+returns-clause-report g c = λ file asked low. answered-reports c.spelled_source_is_accepted.ensures c.owed_is_sound.ensures c.proved_is_valid.ensures _ _ _ _ _ (answered-by _ _ _ _ _ c.reply_to-reply.result c.reply_to-reply.ensures.fits c.deliver.ensures) file asked low
+
+pub returns-clause-returned : goal.returns-clause-returned
+returns-clause-returned g c = λ r asked zero. answered-runs _ _ _ _ _ (answered-by _ _ _ _ _ c.reply_to-reply.result c.reply_to-reply.ensures.fits c.deliver.ensures) r asked zero
 
 pub returns-clause-exact : goal.returns-clause-exact
 returns-clause-exact g c = answered-exact c.too_many_is_exact.ensures.little c.too_many_is_exact.ensures.much c.owed_is_one.ensures c.provable_is_proved.ensures _ _ _ _ _ (answered-by _ _ _ _ _ c.reply_to-reply.result c.reply_to-reply.ensures.fits c.deliver.ensures)
