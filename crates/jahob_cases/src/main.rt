@@ -16,11 +16,13 @@ use std::process::ExitCode;
 use std::{fs, io, str};
 
 /// The files of cases, by what they are about.
-const FILES: [&str; 4] = [
+const FILES: [&str; 6] = [
     "statics.cases",
     "refusals.cases",
     "methods.cases",
     "queries.cases",
+    "runs.cases",
+    "heaps.cases",
 ];
 
 /// How many cases there were, and how many of them differed.
