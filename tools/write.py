@@ -4,7 +4,7 @@
 tools/write.py           writes them
 tools/write.py --check   writes nothing, says which differ, and ends with 1 where one does
 
-A file gets a first line that names its script, where no line does. Imports that nothing uses are taken out of proofs
+A file gets a first line that names its script, where no line does, but for those of WITHOUT_HEADS. Imports that nothing uses are taken out of proofs
 and definitions, and imports alone make no difference: a file whose text is the same but for them stays as it is.
 """
 import os
@@ -17,8 +17,11 @@ sys.path.insert(0, os.path.dirname(os.path.abspath(__file__)))
 from settle import settled
 
 TOP = os.path.dirname(os.path.dirname(os.path.abspath(__file__)))
-# forms and settle write nothing themselves
-SCRIPTS = ('alike', 'carry', 'compare', 'enter', 'exchange', 'makers', 'normal', 'parts', 'premises', 'premises_arms', 'reach', 'rewrite', 'sem', 'several', 'table', 'value', 'walk_code')
+# settle writes nothing itself
+SCRIPTS = ('forms', 'alike', 'carry', 'compare', 'enter', 'exchange', 'makers', 'normal', 'parts', 'premises', 'premises_arms', 'reach', 'rewrite', 'sem', 'several', 'table', 'value', 'walk_code')
+# On the files of this script all crates of formulas stand: they get their heads when they are next changed, and their
+# crates' READMEs name the script until then.
+WITHOUT_HEADS = ('forms',)
 
 
 def text_of(path):
@@ -66,7 +69,7 @@ def run_all(room):
         before = {path: os.stat(f'{room}/{path}').st_mtime_ns for path in sources(room)}
         subprocess.run([sys.executable, f'tools/{script}.py', '.'], cwd=room, check=True, stdout=subprocess.DEVNULL)
         for path in list(sources(room)):
-            if os.stat(f'{room}/{path}').st_mtime_ns != before.get(path):
+            if script not in WITHOUT_HEADS and os.stat(f'{room}/{path}').st_mtime_ns != before.get(path):
                 put(f'{room}/{path}', headed(text_of(f'{room}/{path}'), path, script))
 
 
@@ -80,7 +83,7 @@ def laid_out(room, paths):
 
 
 def without_imports(text):
-    return [line for line in (text or '').split('\n') if not line.startswith(('use ', 'ghost use '))]
+    return [line for line in (text or '').rstrip().split('\n') if not line.startswith(('use ', 'ghost use '))]
 
 
 def changed():
