@@ -1,0 +1,17 @@
+pub mod Words
+pub mod Numbers
+pub mod Spelled
+pub mod Turns
+pub mod Classes
+pub mod Values
+pub mod Fields
+pub mod Whole
+pub mod Shown
+pub mod Distinct
+pub mod Formings
+pub mod Written
+pub mod Listings
+pub mod Drafted
+pub mod Arrivals
+pub mod Founded
+pub mod Cases
