@@ -1,0 +1,6 @@
+//! A term for the variable of a binder, where the term may have loose bound variables of its own.
+#![tactic(auto)]
+
+mod laws;
+
+pub use laws::put_keeps_meaning;
