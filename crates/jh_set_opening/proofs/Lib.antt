@@ -1,0 +1,2 @@
+pub mod SetsOpen
+pub mod Standing

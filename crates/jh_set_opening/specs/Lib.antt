@@ -1,0 +1,2 @@
+pub mod SetsOpened
+pub mod Laws
