@@ -1,0 +1,6 @@
+//! Updates that change nothing dropped from formulas.
+#![tactic(auto)]
+
+mod laws;
+
+pub use laws::dropping_keeps_meaning;
