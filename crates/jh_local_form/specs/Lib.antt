@@ -1,0 +1,5 @@
+pub mod Each
+pub mod Chosen
+pub mod Named
+pub mod Chains
+pub mod LocalOf

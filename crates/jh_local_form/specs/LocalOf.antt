@@ -1,0 +1,37 @@
+-- The local form of a sequent: what the local prover decides in its place. Where the local form is valid, so is the sequent.
+-- Derived fields are left in it as yet.
+use Rattle.std.specs.Prelude.{ℕ, List}
+use Rattle.jh_tree.specs.Tree.{ValueTree}
+use Rattle.jh_sequent.specs.Sequents.{SequentTree}
+use Rattle.jh_rebuild.specs.declared.polarity.Polarity.TheVariants as pol
+use Rattle.jh_local_form.specs.Each.{over_each, with_facts, formulas}
+use Rattle.jh_local_form.specs.Chosen.{chosen}
+use Rattle.jh_dropping.specs.Dropped.{dropped}
+use Rattle.jh_local_form.specs.Named.{first_turn, updates, named, update_facts}
+use Rattle.jh_set_opening.specs.SetsOpened.{sets_opened}
+use Rattle.jh_cutting.specs.Cut.{cut}
+use Rattle.jh_local_form.specs.Chains.{changes, reach_axioms}
+
+-- the hypotheses that are chosen and the goal, without updates that change nothing
+abbrev pub begun : SequentTree → SequentTree
+begun s = over_each dropped dropped (chosen s)
+
+-- each update of a list by its name, from turn k on, and what the names stand for
+abbrev pub with_names : List ValueTree → ℕ → SequentTree → SequentTree
+with_names us k s = with_facts (update_facts us k) (over_each (named us k) (named us k) s)
+
+-- sets opened, and what has no local form cut
+abbrev pub cut_down : SequentTree → SequentTree
+cut_down s = over_each (λ a. cut (sets_opened a) pol.Negative) (λ a. cut (sets_opened a) pol.Positive) s
+
+-- the axioms of reachability behind all hypotheses
+abbrev pub with_axioms : List ValueTree → ℕ → SequentTree → SequentTree
+with_axioms us k s = with_facts (reach_axioms (formulas s) (changes us k)) s
+
+abbrev pub local_with : List ValueTree → ℕ → SequentTree → SequentTree
+local_with us k s = with_axioms us k (cut_down (with_names us k s))
+
+-- In this order: hypotheses are chosen, updates named, sets opened, what has no local form cut, axioms added. The names have
+-- turns beyond those of all names that stand in the chosen hypotheses and the goal.
+unfoldable pub local_of : SequentTree → SequentTree
+local_of s = local_with (updates (formulas (begun s))) (first_turn (formulas (chosen s))) (begun s)

@@ -1,0 +1,2 @@
+//! The local form of a sequent: what the local prover decides in its place.
+#![tactic(auto)]
