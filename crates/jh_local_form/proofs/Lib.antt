@@ -1,2 +1,11 @@
+mod Among
+mod PartNames
+mod DroppedNames
+mod Holding
+mod Described
+mod Naming
+mod NamedClosed
+mod Chained
+mod Sound
 mod Examples
 mod Worked

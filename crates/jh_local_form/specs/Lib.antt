@@ -3,3 +3,4 @@ pub mod Chosen
 pub mod Named
 pub mod Chains
 pub mod LocalOf
+pub mod Laws

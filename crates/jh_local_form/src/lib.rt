@@ -1,2 +1,6 @@
 //! The local form of a sequent: what the local prover decides in its place.
 #![tactic(auto)]
+
+mod laws;
+
+pub use laws::local_is_valid;

@@ -1,0 +1,10 @@
+ghost use Rattle.jh_local_form.specs.Laws.{LocalIsValid};
+
+use jh_reach::axioms_are_true;
+
+/// Where the local form of a sequent is valid, so is the sequent. It is a law, and does nothing.
+pub fn local_is_valid()
+    ensures { LocalIsValid }
+{
+    axioms_are_true();
+}
