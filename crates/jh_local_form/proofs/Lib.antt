@@ -7,5 +7,12 @@ mod Naming
 mod NamedClosed
 mod Chained
 mod Sound
+mod Bare
+mod Opens
+mod CutShapes
+mod PartsWithin
+mod Spines
+mod AxiomShapes
+mod Shaped
 mod Examples
 mod Worked

@@ -1,4 +1,4 @@
-ghost use Rattle.jh_local_form.specs.Laws.{LocalIsValid};
+ghost use Rattle.jh_local_form.specs.Laws.{LocalHasShape, LocalIsValid};
 
 use jh_reach::axioms_are_true;
 
@@ -8,3 +8,9 @@ pub fn local_is_valid()
 {
     axioms_are_true();
 }
+
+/// The local form of a sequent has local shape: no updates, no operations on sets, and fields that are names. It is a
+/// law, and does nothing.
+pub fn local_has_shape()
+    ensures { LocalHasShape }
+{}

@@ -3,4 +3,4 @@
 
 mod laws;
 
-pub use laws::local_is_valid;
+pub use laws::{local_has_shape, local_is_valid};
