@@ -1,1 +1,2 @@
 pub mod Puttings
+mod Rules

@@ -2,5 +2,7 @@
 #![tactic(auto)]
 
 mod laws;
+mod putting;
 
 pub use laws::put_keeps_meaning;
+pub use putting::put;
