@@ -1,1 +1,2 @@
 pub mod Droppings
+mod Arms
