@@ -1,0 +1,10 @@
+pub mod Coding
+pub mod Valuing
+pub mod Helping
+pub mod Lowering
+pub mod Keying
+pub mod Lifting
+pub mod Gathering
+pub mod Chains
+pub mod Arms
+pub mod Oks
