@@ -1,0 +1,15 @@
+use Rattle.std.specs.Prelude.{IfSome}
+use Rattle.std.specs.declared.alloc.Global.{Global}
+use Rattle.std.specs.declared.vec.Vec.{Vec}
+use Rattle.std.proofs.Common.{◌++◌, refl, sym, subst, ◌∙◌, ℕ, List, Option}
+use Rattle.jh_table.specs.Nodes.{nodes}
+use Rattle.jh_cong.specs.Saying.{IsUnmet, picked}
+use Rattle.jh_cong.proofs.Oks.{one-conflict}
+use Rattle.jh_cong.proofs.telling.add.Goals as goal
+
+pub returns-in-Ok-Some-clause-conflict : goal.returns-in-Ok-Some-clause-conflict
+returns-in-Ok-Some-clause-conflict c listed e =
+    let ts = nodes c.args.state.now.table in
+    let all = c.args.state.now.said.items ++ c.args.said.now in
+    let found = subst (λ (o : Option (Vec ℕ Global)). IfSome o (λ ks. IsUnmet ts (picked all ks.items))) c.in-Ok-Some.field-0-is c.in-Ok-Some.ensures.unmet in
+    subst (λ (ks : List ℕ). IsUnmet ts (picked all ks)) (sym c.of.ensures ∙ one-conflict _ c.of.result listed refl e) found

@@ -1,0 +1,50 @@
+-- How asserted literals are kept.
+use Rattle.std.specs.Prelude.{◌≡◌, ℕ, Bool, true, false, List, map}
+use Rattle.jh_closure.specs.Cores.{Begins}
+use Rattle.jh_closure.specs.Nodes.{Follows, Has}
+use Rattle.jh_closure.specs.declared.equation.Equation.{Equation}
+use Rattle.jh_closure.specs.declared.node.Node.{Node}
+use Rattle.jh_table.specs.Nodes.{nodes}
+use Rattle.jh_flat.specs.Flattening.{Flattens}
+use Rattle.jh_cong.specs.Constants.{ArePairs}
+use Rattle.jh_cong.specs.Saying.{AreSayable, pair_of}
+use Rattle.jh_cong.specs.declared.literal.Said.{Said}
+use Rattle.jh_cong.specs.declared.state.State.{State}
+
+abbrev pub other_side : Bool → ℕ → ℕ → ℕ
+other_side true a b = b
+other_side false a b = a
+
+-- What the closure is told: the equation; and where one is denied, that a node is equal to itself, so that equations and
+-- literals have the same numbers.
+abbrev pub told : Said → Equation
+told e = pair_of e.left (other_side e.holds e.left e.right)
+
+-- no pair is equal by the equations
+abbrev pub AreSeparate : List Node → List Equation → List Equation → Type 0
+AreSeparate ns said pairs = (e : Equation) → Has pairs e → Follows ns said e.left e.right → ⊥
+
+-- plain nodes stand for the table's, and what the closure was told is what was said
+pub record IsTold (st : State) : Type 0 where
+  pub flattens : Flattens (nodes st.table) st.closure.nodes
+  pub told_all : st.closure.said ≡ map told st.said.items
+  pub pairs : ArePairs (nodes st.table) st.apart.items
+  pub sayable : AreSayable (nodes st.table) st.said.items
+
+-- no pair is equal that is said to differ
+abbrev pub AreDenied : List Node → List Equation → List Said → Type 0
+AreDenied ns said es = (e : Said) → Has es e → e.holds ≡ false → Follows ns said e.left e.right → ⊥
+
+-- and some structure meets it
+pub record IsState (st : State) : Type 0 where
+  pub told : IsTold st
+  pub separate : AreSeparate st.closure.nodes st.closure.said st.apart.items
+  pub differ : AreDenied st.closure.nodes st.closure.said st.said.items
+
+-- more was said, and told
+pub record Continues (old new : State) : Type 0 where
+  pub table : new.table ≡ old.table
+  pub nodes : new.closure.nodes ≡ old.closure.nodes
+  pub apart : new.apart.items ≡ old.apart.items
+  pub said : Begins old.said.items new.said.items
+  pub told : Begins old.closure.said new.closure.said

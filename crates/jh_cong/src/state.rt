@@ -1,0 +1,27 @@
+ghost use Rattle.std.specs.Prelude.{◌≡◌};
+
+use crate::Said;
+use jh_closure::{Closure, Equation};
+use jh_table::Table;
+
+/// A table, the closure of what was said of its nodes, the pairs that are apart from the start, and what was said.
+#[derive(Drop)]
+pub(crate) struct State {
+    pub(crate) table: Table,
+    pub(crate) closure: Closure,
+    pub(crate) apart: Vec<Equation>,
+    pub(crate) said: Vec<Said>,
+}
+
+/// The table of a state that is given up.
+pub(crate) fn into_table(state: State) -> Table
+    ensures { result ≡ state.table }
+{
+    let State {
+        table,
+        closure: _closure,
+        apart: _apart,
+        said: _said,
+    } = state;
+    table
+}

@@ -1,0 +1,151 @@
+ghost use Rattle.std.specs.Prelude.{◌≡◌, ◌<◌, ◌≤◌, ◌++◌, [], ◌∷◌, ℕ, Err, IfNone, IfOk, IfSome, List, OnErr, OnOk, length, take};
+ghost use Rattle.jh_closure.specs.Nodes.{Has};
+ghost use Rattle.jh_table.specs.Nodes.{nodes};
+ghost use Rattle.jh_flat.specs.Flattening.{Flattens};
+ghost use Rattle.jh_cong.specs.Constants.{ArePairs};
+ghost use Rattle.jh_cong.specs.Saying.{AreSayable, CanBeSaid, IsUnmet, picked};
+ghost use Rattle.jh_cong.specs.States.{Continues, IsState, IsTold, told};
+ghost use Rattle.jh_cong.specs.declared.literal.CongError.TheVariants.{Conflict};
+
+use crate::apart::pairs_of;
+use crate::clashing::{reason, said_at};
+use crate::state::State;
+use crate::{CongError, Said};
+use jh_closure::{Closure, Equation};
+use jh_flat::flattened;
+use jh_name::{NoMemory, Row};
+use jh_table::Table;
+use std::alloc::Global;
+
+/// What the closure is told of a literal: its equation, or that its first node is equal to itself where it says that both
+/// differ. So equations and literals have the same numbers.
+fn told_of(said: Said) -> Equation
+    ensures { result ≡ told said }
+{
+    if said.holds {
+        Equation {
+            left: said.left,
+            right: said.right,
+        }
+    } else {
+        Equation {
+            left: said.left,
+            right: said.left,
+        }
+    }
+}
+
+/// Tells the closure of one more literal. Where memory is wanting it may be said and not told.
+fn tell_one(alloc: Global, state: &mut State, said: Said) -> Result<(), NoMemory>
+    requires told { IsTold state.old }
+    requires said { CanBeSaid (nodes state.old.table) said.left said.right }
+    ensures told { OnOk result (IsTold state.new) }
+    ensures said { OnOk result (state.new.said.items ≡ state.old.said.items ++ said ∷ []) }
+    ensures continues { Continues state.old state.new }
+{
+    state.said.push(said)?;
+    let equation = told_of(said);
+    state.closure.assert(alloc, equation.left, equation.right)
+}
+
+/// Tells the closure of literals, one after the other. Where memory is wanting some may be said and told.
+fn tell(alloc: Global, state: &mut State, said: &[Said]) -> Result<(), NoMemory>
+    requires told { IsTold state.old }
+    requires said { AreSayable (nodes state.old.table) said.now }
+    ensures told { OnOk result (IsTold state.new) }
+    ensures said { OnOk result (state.new.said.items ≡ state.old.said.items ++ said.now) }
+    ensures continues { Continues state.old state.new }
+{
+    for place in 0..said.len() {
+        tell_one(alloc, state, said_at(said, place))?;
+    }
+    Ok(())
+}
+
+/// Tells the closure of literals, and looks for a reason why no structure meets all.
+fn settle(alloc: Global, state: &mut State, said: &[Said]) -> Result<Option<Vec<usize>>, NoMemory>
+    requires told { IsTold state.old }
+    requires said { AreSayable (nodes state.old.table) said.now }
+    ensures said { OnOk result (state.new.said.items ≡ state.old.said.items ++ said.now) }
+    ensures continues { Continues state.old state.new }
+    ensures unmet { IfOk result (λ found. IfSome found (λ listed. IsUnmet (nodes state.old.table) (picked (state.old.said.items ++ said.now) listed.items))) }
+    ensures numbers { IfOk result (λ found. IfSome found (λ listed. (i : ℕ) → Has listed.items i → i < length (state.old.said.items ++ said.now))) }
+    ensures met { IfOk result (λ found. IfNone found (IsState state.new)) }
+{
+    tell(alloc, state, said)?;
+    reason(alloc, state)
+}
+
+/// Takes all literals back but the first ones.
+fn cut(state: &mut State, count: usize)
+    requires { count ≤ length state.old.closure.said }
+    ensures said { state.new.said.items ≡ take count state.old.said.items }
+    ensures closure { state.new.closure ≡ record { nodes = state.old.closure.nodes; said = take count state.old.closure.said } }
+    ensures apart { state.new.apart.items ≡ state.old.apart.items }
+    ensures table { state.new.table ≡ state.old.table }
+{
+    state.said.truncate(count);
+    state.closure.undo(count);
+}
+
+/// Asserts literals, unless no structure meets them with what was said before. After a refusal nothing has changed.
+pub(crate) fn add(alloc: Global, state: &mut State, said: &[Said]) -> Result<(), CongError>
+    requires state { IsState state.old }
+    requires said { AreSayable (nodes state.old.table) said.now }
+    ensures state { IsState state.new }
+    ensures table { state.new.table ≡ state.old.table }
+    ensures ok { OnOk result (state.new.said.items ≡ state.old.said.items ++ said.now) }
+    ensures err { OnErr result (state.new.said.items ≡ state.old.said.items) }
+    ensures conflict { (listed : List ℕ) → result ≡ Err (Conflict listed) → IsUnmet (nodes state.old.table) (picked (state.old.said.items ++ said.now) listed) }
+    ensures numbers { (listed : List ℕ) → result ≡ Err (Conflict listed) → (i : ℕ) → Has listed i → i < length (state.old.said.items ++ said.now) }
+{
+    let count = state.said.as_slice().len();
+    match settle(alloc, state, said) {
+        Ok(None) => Ok(()),
+        Ok(Some(listed)) => {
+            cut(state, count);
+            Err(CongError::Conflict(Row::of(listed)))
+        }
+        Err(_) => {
+            cut(state, count);
+            Err(CongError::Memory)
+        }
+    }
+}
+
+/// Takes all literals back but the first ones. What some structure meets it meets with fewer.
+pub(crate) fn back(state: &mut State, count: usize)
+    requires state { IsState state.old }
+    requires count { count ≤ length state.old.said.items }
+    ensures state { IsState state.new }
+    ensures table { state.new.table ≡ state.old.table }
+    ensures said { state.new.said.items ≡ take count state.old.said.items }
+{
+    cut(state, count);
+}
+
+/// The pairs of a table that are apart, and the closure of its plain nodes.
+fn parts_of(alloc: Global, table: &Table) -> Result<(Vec<Equation>, Closure), NoMemory>
+    ensures pairs { IfOk result (λ made. ArePairs (nodes table.now) made.0.items) }
+    ensures flattens { IfOk result (λ made. Flattens (nodes table.now) made.1.nodes) }
+    ensures nothing { IfOk result (λ made. made.1.said ≡ []) }
+{
+    let apart = pairs_of(alloc, table)?;
+    let closure = Closure::new(alloc, flattened(alloc, table)?)?;
+    Ok((apart, closure))
+}
+
+/// A table, of whose nodes nothing is said.
+pub(crate) fn begin(alloc: Global, table: Table) -> Result<State, NoMemory>
+    ensures state { IfOk result (λ state. IsState state) }
+    ensures table { IfOk result (λ state. state.table ≡ table) }
+    ensures said { IfOk result (λ state. state.said.items ≡ []) }
+{
+    let (apart, closure) = parts_of(alloc, &table)?;
+    Ok(State {
+        table,
+        closure,
+        apart,
+        said: Vec::new(alloc),
+    })
+}
