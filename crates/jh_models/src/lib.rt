@@ -1,0 +1,2 @@
+//! Ground models of instances, and what literals decide: definitions, and their laws.
+#![tactic(auto)]
