@@ -1,1 +1,5 @@
+mod Opposites
+mod Propagation
+mod Clashing
+mod Models
 mod Cases

@@ -5,3 +5,5 @@ pub mod Clashes
 pub mod Explanations
 pub mod Branches
 pub mod Budget
+pub mod Making
+pub mod Laws

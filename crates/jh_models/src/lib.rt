@@ -1,2 +1,6 @@
 //! Ground models of instances, and what literals decide: definitions, and their laws.
 #![tactic(auto)]
+
+mod laws;
+
+pub use laws::{clash_is_sound, explained_is_closed, models_hold_propagated, propagation_is_sound};

@@ -1,0 +1,33 @@
+-- What is true of propagation, clashes and explanations.
+use Rattle.std.specs.Prelude.{ℕ, List}
+use Rattle.jh_tree.specs.Tree.{FormulaTree}
+use Rattle.jh_structure.specs.Structures.{Structure}
+use Rattle.jh_structure.specs.Literals.{LiteralTree, IsListed, AreListed, MeetsOne, Meets}
+use Rattle.jh_models.specs.GroundModel.{IsGroundModel}
+use Rattle.jh_models.specs.Clashes.{Clash, Propagated}
+use Rattle.jh_models.specs.Explanations.{Closes}
+use Rattle.jh_models.specs.Making.{MakesAll}
+
+-- A structure that meets the literals of a list and makes the instances true meets what propagation adds.
+abbrev pub PropagationIsSound : Type 0
+PropagationIsSound =
+    (is : List FormulaTree) (ls : List LiteralTree) (l : LiteralTree) → Propagated is ls l →
+    (s : Structure ℕ ℕ ℕ ℕ ℕ) → MakesAll s is → Meets s ls → MeetsOne s l.holds l.atom
+
+-- Where literals clash, no structure meets them and makes the instances true.
+abbrev pub ClashIsSound : Type 0
+ClashIsSound =
+    (is : List FormulaTree) (ls : List LiteralTree) → Clash is ls →
+    (s : Structure ℕ ℕ ℕ ℕ ℕ) → MakesAll s is → Meets s ls → ⊥
+
+-- A ground model that holds the literals of a list holds what propagation adds.
+abbrev pub ModelsHoldPropagated : Type 0
+ModelsHoldPropagated =
+    (is : List FormulaTree) (ls : List LiteralTree) (l : LiteralTree) → Propagated is ls l →
+    (m : List LiteralTree) → IsGroundModel is m → AreListed m ls → IsListed m l
+
+-- No ground model holds the decisions of a branch that an explanation closes.
+abbrev pub ExplainedIsClosed : Type 0
+ExplainedIsClosed =
+    (is : List FormulaTree) (decisions explanation : List LiteralTree) → Closes is decisions explanation →
+    (m : List LiteralTree) → IsGroundModel is m → AreListed m decisions → ⊥

@@ -1,0 +1,22 @@
+ghost use Rattle.jh_models.specs.Laws.{PropagationIsSound, ClashIsSound, ModelsHoldPropagated, ExplainedIsClosed};
+
+/// A structure that meets the literals of a list and makes the instances true meets what propagation adds. It is a law, and
+/// does nothing.
+pub fn propagation_is_sound()
+    ensures { PropagationIsSound }
+{}
+
+/// Where literals clash, no structure meets them and makes the instances true. It is a law, and does nothing.
+pub fn clash_is_sound()
+    ensures { ClashIsSound }
+{}
+
+/// A ground model that holds the literals of a list holds what propagation adds. It is a law, and does nothing.
+pub fn models_hold_propagated()
+    ensures { ModelsHoldPropagated }
+{}
+
+/// No ground model holds the decisions of a branch that an explanation closes. It is a law, and does nothing.
+pub fn explained_is_closed()
+    ensures { ExplainedIsClosed }
+{}
