@@ -1,3 +1,15 @@
+mod Agreements
+mod Closings
+mod Connectives
+mod Passings
+mod Risen
+mod Prenexes
+mod Choosing
+mod Putting
+mod Naming
+mod Following
+mod Normals
+mod Refuting
 mod Examples
 mod ListedCases
 mod CountedCases

@@ -6,3 +6,4 @@ pub mod Entries
 pub mod Rounds
 pub mod Instances
 pub mod Count
+pub mod Laws

@@ -1,0 +1,12 @@
+ghost use Rattle.jh_instances.specs.Laws.{MadeFollows, ClashingInstancesGiveValid};
+
+/// Where the facts of a sequent are true, all that is made of them is, with suitable objects for the constants. It is a law,
+/// and does nothing.
+pub fn made_follows()
+    ensures { MadeFollows }
+{}
+
+/// A sequent is valid where its instances are never true together. It is a law, and does nothing.
+pub fn clashing_instances_give_valid()
+    ensures { ClashingInstancesGiveValid }
+{}
