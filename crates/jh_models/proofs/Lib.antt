@@ -3,3 +3,4 @@ mod Propagation
 mod Clashing
 mod Models
 mod Cases
+mod Leaves

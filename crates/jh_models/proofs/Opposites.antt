@@ -7,7 +7,7 @@ use Rattle.jh_structure.specs.Literals.{LiteralTree, Says, Denies, MeetsOne, Mee
 use Rattle.jh_structure.proofs.Listed.{meets-listed}
 use Rattle.jh_models.specs.Atoms.{literal, opposite}
 
-not-not : (p : Bool) → not (not p) ≡ p
+pub not-not : (p : Bool) → not (not p) ≡ p
 not-not true = refl
 not-not false = refl
 

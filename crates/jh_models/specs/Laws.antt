@@ -1,8 +1,11 @@
 -- What is true of propagation, clashes and explanations.
-use Rattle.std.specs.Prelude.{ℕ, List}
+use Rattle.std.specs.Prelude.{ℕ, ◌<◌, ◌^◌, List, length}
 use Rattle.jh_tree.specs.Tree.{FormulaTree}
 use Rattle.jh_structure.specs.Structures.{Structure}
 use Rattle.jh_structure.specs.Literals.{LiteralTree, IsListed, AreListed, MeetsOne, Meets}
+use Rattle.jh_models.specs.Atoms.{StandsIn, IsGroundAtom}
+use Rattle.jh_models.specs.Branches.{ClosedTree}
+use Rattle.jh_models.specs.Budget.{IsSpent}
 use Rattle.jh_models.specs.GroundModel.{IsGroundModel}
 use Rattle.jh_models.specs.Clashes.{Clash, Propagated}
 use Rattle.jh_models.specs.Explanations.{Closes}
@@ -31,3 +34,10 @@ abbrev pub ExplainedIsClosed : Type 0
 ExplainedIsClosed =
     (is : List FormulaTree) (decisions explanation : List LiteralTree) → Closes is decisions explanation →
     (m : List LiteralTree) → IsGroundModel is m → AreListed m decisions → ⊥
+
+-- A budget that is spent is below 2 to the power of the number of ground atoms, whichever list has them all: of a search that
+-- decides each atom at most once and each side of a decision once, not all leaves are there.
+abbrev pub SpentIsBelow : Type 0
+SpentIsBelow =
+    (is atoms : List FormulaTree) → ((a : FormulaTree) → IsGroundAtom is a → StandsIn atoms a) →
+    (leaves : ℕ) (bs : List ClosedTree) → IsSpent is leaves bs → leaves < 2 ^ length atoms

@@ -1,4 +1,4 @@
-ghost use Rattle.jh_models.specs.Laws.{PropagationIsSound, ClashIsSound, ModelsHoldPropagated, ExplainedIsClosed};
+ghost use Rattle.jh_models.specs.Laws.{PropagationIsSound, ClashIsSound, ModelsHoldPropagated, ExplainedIsClosed, SpentIsBelow};
 
 /// A structure that meets the literals of a list and makes the instances true meets what propagation adds. It is a law, and
 /// does nothing.
@@ -19,4 +19,9 @@ pub fn models_hold_propagated()
 /// No ground model holds the decisions of a branch that an explanation closes. It is a law, and does nothing.
 pub fn explained_is_closed()
     ensures { ExplainedIsClosed }
+{}
+
+/// A budget that is spent is below 2 to the power of the number of ground atoms. It is a law, and does nothing.
+pub fn spent_is_below()
+    ensures { SpentIsBelow }
 {}

@@ -3,4 +3,7 @@
 
 mod laws;
 
-pub use laws::{clash_is_sound, explained_is_closed, models_hold_propagated, propagation_is_sound};
+pub use laws::{
+    clash_is_sound, explained_is_closed, models_hold_propagated, propagation_is_sound,
+    spent_is_below,
+};
