@@ -4,3 +4,4 @@ mod Clashing
 mod Models
 mod Cases
 mod Leaves
+pub mod Growing

@@ -7,7 +7,7 @@ use Rattle.jh_models.specs.Atoms.{StandsIn, IsGroundAtom}
 use Rattle.jh_models.specs.Branches.{ClosedTree}
 use Rattle.jh_models.specs.Budget.{IsSpent}
 use Rattle.jh_models.specs.GroundModel.{IsGroundModel}
-use Rattle.jh_models.specs.Clashes.{Clash, Propagated}
+use Rattle.jh_models.specs.Clashes.{Clash, Propagated, AllPropagated}
 use Rattle.jh_models.specs.Explanations.{Closes}
 use Rattle.jh_models.specs.Making.{MakesAll}
 
@@ -41,3 +41,8 @@ abbrev pub SpentIsBelow : Type 0
 SpentIsBelow =
     (is atoms : List FormulaTree) → ((a : FormulaTree) → IsGroundAtom is a → StandsIn atoms a) →
     (leaves : ℕ) (bs : List ClosedTree) → IsSpent is leaves bs → leaves < 2 ^ length atoms
+
+-- Propagation of more literals adds more, and what it added adds nothing more.
+pub record PropagationGrows : Type 0 where
+  pub more : (is : List FormulaTree) (ls ks : List LiteralTree) → AreListed ks ls → (l : LiteralTree) → Propagated is ls l → Propagated is ks l
+  pub twice : (is : List FormulaTree) (ls had : List LiteralTree) → AllPropagated is ls had → (l : LiteralTree) → Propagated is had l → Propagated is ls l

@@ -1,4 +1,4 @@
-ghost use Rattle.jh_models.specs.Laws.{PropagationIsSound, ClashIsSound, ModelsHoldPropagated, ExplainedIsClosed, SpentIsBelow};
+ghost use Rattle.jh_models.specs.Laws.{PropagationIsSound, ClashIsSound, ModelsHoldPropagated, ExplainedIsClosed, PropagationGrows, SpentIsBelow};
 
 /// A structure that meets the literals of a list and makes the instances true meets what propagation adds. It is a law, and
 /// does nothing.
@@ -24,4 +24,9 @@ pub fn explained_is_closed()
 /// A budget that is spent is below 2 to the power of the number of ground atoms. It is a law, and does nothing.
 pub fn spent_is_below()
     ensures { SpentIsBelow }
+{}
+
+/// Propagation of more literals adds more, and what it added adds nothing more. It is a law, and does nothing.
+pub fn propagation_grows()
+    ensures { PropagationGrows }
 {}
