@@ -10,6 +10,17 @@ mod Naming
 mod Following
 mod Normals
 mod Refuting
+mod Lengths
+mod Shaped
+mod Gathering
+mod Mapping
+mod Stages
+mod Fronting
+mod Shapes
+mod Growth
+mod Comings
+mod Tallies
+mod Counted
 mod Examples
 mod ListedCases
 mod CountedCases

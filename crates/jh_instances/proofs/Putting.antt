@@ -60,7 +60,7 @@ pub fine-both : (k : ℕ) (m : Interp) (xs bs : List FormulaTree) → AllFine k 
 fine-both k m [] bs h g = g
 fine-both k m (a ∷ xs) bs h g = (h.0, fine-both k m xs bs h.1 g)
 
-formulas-both : (es fs : List Entry) → formulas (es ++ fs) ≡ formulas es ++ formulas fs
+pub formulas-both : (es fs : List Entry) → formulas (es ++ fs) ≡ formulas es ++ formulas fs
 formulas-both [] fs = refl
 formulas-both (e ∷ es) fs = ap (λ xs. e.formula ∷ xs) (formulas-both es fs)
 

@@ -1,12 +1,14 @@
 -- What is true of instances.
-use Rattle.std.specs.Prelude.{◌≡◌, ℕ, true}
+use Rattle.std.specs.Prelude.{◌≡◌, ◌+◌, ◌≤◌, ℕ, true, length}
 use Rattle.jh_tree.specs.Agreement.{AgreeOn}
 use Rattle.jh_tree.specs.Meaning.{Interp, InUniverse}
 use Rattle.jh_sequent.specs.Sequents.{SequentTree, IsValid}
+use Rattle.jh_split.specs.Local.{is_local}
 use Rattle.jh_split.specs.Split.{before}
 use Rattle.jh_steps.specs.Closes.{facts_of, AllHold, Clash}
-use Rattle.jh_instances.specs.Entries.{formulas}
-use Rattle.jh_instances.specs.Instances.{is_free, made, instances}
+use Rattle.jh_instances.specs.Entries.{formulas, taken}
+use Rattle.jh_instances.specs.Instances.{is_free, normal_facts, made, instances}
+use Rattle.jh_instances.specs.Count.{count}
 
 -- Where the facts of a sequent are true, all that is made of them is true too, with suitable objects for the constants: in an
 -- interpretation that differs in names from number k on alone.
@@ -18,3 +20,7 @@ MadeFollows =
 -- A sequent is valid where its instances are never true together.
 abbrev pub ClashingInstancesGiveValid : Type 0
 ClashingInstancesGiveValid = (s : SequentTree) (k r : ℕ) → is_free s k ≡ true → Clash (instances s k r) → IsValid s
+
+-- Beside the facts no more is made of a sequent of local shape than is counted.
+abbrev pub MadeAtMostCounted : Type 0
+MadeAtMostCounted = (s : SequentTree) (k r : ℕ) → is_local s ≡ true → length (made s k r) ≤ length (taken (normal_facts s) 0 k) + count s k r

@@ -1,4 +1,4 @@
-ghost use Rattle.jh_instances.specs.Laws.{MadeFollows, ClashingInstancesGiveValid};
+ghost use Rattle.jh_instances.specs.Laws.{MadeFollows, ClashingInstancesGiveValid, MadeAtMostCounted};
 
 /// Where the facts of a sequent are true, all that is made of them is, with suitable objects for the constants. It is a law,
 /// and does nothing.
@@ -9,4 +9,9 @@ pub fn made_follows()
 /// A sequent is valid where its instances are never true together. It is a law, and does nothing.
 pub fn clashing_instances_give_valid()
     ensures { ClashingInstancesGiveValid }
+{}
+
+/// Beside the facts no more is made of a sequent of local shape than is counted. It is a law, and does nothing.
+pub fn made_at_most_counted()
+    ensures { MadeAtMostCounted }
 {}
