@@ -172,7 +172,7 @@ cases_some x (t.or a b) = omega arith
 cases_some x (t.implies a b) = omega arith
 cases_some x (t.iff a b) = omega arith
 
-bound_some : (q : QueryTree) (c : CondTree) → 1 ≤ atom_bound q c
+pub bound_some : (q : QueryTree) (c : CondTree) → 1 ≤ atom_bound q c
 bound_some q t.yes = omega arith
 bound_some q t.no = omega arith
 bound_some q (t.flag f) = omega arith
@@ -192,7 +192,7 @@ bound_some q (t.iff a b) = omega arith
 pub weight-some : (q : QueryTree) (c : CondTree) → 1 ≤ atom_weight q c
 weight-some q c = some_times (cases (demanded q c) c) (atom_bound q c) (cases_some (demanded q c) c) (bound_some q c)
 
-weight_bound : (q : QueryTree) (c : CondTree) → atom_bound q c ≤ atom_weight q c
+pub weight_bound : (q : QueryTree) (c : CondTree) → atom_bound q c ≤ atom_weight q c
 weight_bound q c = some_more (cases (demanded q c) c) (atom_bound q c) (atom_bound q c) (cases_some (demanded q c) c) (omega arith)
 
 pub product-some : (f : CondTree → ℕ) (xs : List CondTree) → ((c : CondTree) → 1 ≤ f c) → 1 ≤ product_by f xs

@@ -17,3 +17,4 @@ mod Choosing
 mod Searches
 mod Placements
 mod Gatherings
+pub mod Bounded

@@ -4,7 +4,7 @@ ghost use Rattle.jh_digits.specs.Solution as system;
 ghost use Rattle.jh_query.specs.Bare.{cond_tree, query_tree};
 ghost use Rattle.jh_query.specs.Named.{IsWellFormed};
 ghost use Rattle.jh_query.specs.Sizing.{sizing_of};
-ghost use Rattle.jh_judge.specs.Judged.{TellsQuery};
+ghost use Rattle.jh_judge.specs.Judged.{TellsQuery, query_told};
 ghost use Rattle.jh_bapa.specs.Lists.{listed};
 ghost use Rattle.jh_bapa.specs.Cases.{conds_of, is_hopeless};
 ghost use Rattle.jh_bapa.specs.Counted.{IsFit};
@@ -94,6 +94,7 @@ fn solve_hopeful(
     requires placement { IsPlacement query.now.sets spots.now }
     requires full { length spots.now ≡ query.now.elements }
     requires untrue { TellsQuery (Some false) spots.now atoms.now (query_tree query.now) }
+    requires told { query_told spots.now atoms.now (query_tree query.now) ≡ Some false }
     requires hopeful { list_any (λ a. is_hopeless atoms.now spots.now (cond_tree a.cond.now) a.case) atoms.now ≡ false }
     requires empty { empty.now ≡ listed (2 ^ query.now.sets) (is_empty atoms.now) }
     ensures none { IfOk result (λ found. IfNone found (NoneLeft (query_tree query.now) spots.now atoms.now)) }
@@ -105,7 +106,9 @@ fn solve_hopeful(
             Ok(Some(sizes_of(alloc, query, atoms, spots, empty, &digits)?))
         }
         Solved::NoSolution => Ok(None),
-        Solved::TooLarge(_) | Solved::Memory => Err(NoMemory),
+        // No system of a query within the limits is too large: this never comes.
+        Solved::TooLarge(_) => Ok(None),
+        Solved::Memory => Err(NoMemory),
     }
 }
 
@@ -122,6 +125,7 @@ pub(crate) fn solve_case(
     requires placement { IsPlacement query.now.sets spots.now }
     requires full { length spots.now ≡ query.now.elements }
     requires untrue { TellsQuery (Some false) spots.now atoms.now (query_tree query.now) }
+    requires told { query_told spots.now atoms.now (query_tree query.now) ≡ Some false }
     ensures none { IfOk result (λ found. IfNone found (NoneLeft (query_tree query.now) spots.now atoms.now)) }
     ensures some { IfOk result (λ found. IfSome found (λ sizes. Refutes (query_tree query.now) (sizing_of sizes))) }
 {

@@ -2,6 +2,7 @@ use Rattle.std.proofs.Common.{arith}
 use Rattle.jh_query.specs.Bare.{query_tree}
 use Rattle.jh_query.specs.Sizing.{sizing_of}
 use Rattle.jh_digits.specs.Solution as system
+use Rattle.jh_bapa.proofs.Bounded.{small-system}
 use Rattle.jh_bapa.proofs.Systematic.{frame-few, frame-fit, length-empty, none-left, solution-refutes, system-formed}
 use Rattle.jh_bapa.proofs.solving.solve_hopeful.Goals as goal
 
@@ -24,3 +25,8 @@ returns-in-Solution-clause-some c =
 
 pub returns-in-NoSolution-clause-none : goal.returns-in-NoSolution-clause-none
 returns-in-NoSolution-clause-none c = none-left (query_tree c.args.query.now) c.args.atoms.now c.args.spots.now c.in_ok-made.made c.requires.full c.in_ok-made.ensures c.in-NoSolution.ensures.no_solution
+
+pub returns-in-TooLarge-clause-none : goal.returns-in-TooLarge-clause-none
+returns-in-TooLarge-clause-none c =
+    let few = small-system (query_tree c.args.query.now) c.args.atoms.now c.args.spots.now c.in_ok-made.made c.requires.within c.requires.casing c.requires.full c.requires.hopeful c.requires.told c.in_ok-made.ensures in
+    absurd (omega (arith, c.in-TooLarge.ensures.too_large.0, few))
