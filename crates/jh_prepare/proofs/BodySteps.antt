@@ -19,9 +19,10 @@ use Rattle.jh_lowered.specs.Statements.{local_in, method_in, codes_in}
 use Rattle.jh_operands.specs.Exprs.{IsPlain, text_at}
 use Rattle.jh_numbered.specs.declared.body.Body.{Body}
 use Rattle.jh_numbered.specs.declared.step.Step.{Step}
-use Rattle.jh_numbered.specs.Steps.{AreParams, MethodIs, AreBodies}
+use Rattle.jh_numbered.specs.Steps.{AreSteps, AreParams, MethodIs, AreBodies}
 use Rattle.jh_numbering.specs.Numbered.{IsText}
 use Rattle.jh_numbering.proofs.Standing.{grows_same, grows_twice}
+use Rattle.jh_recall.specs.Now.{steps_now, NothingRecalled}
 use Rattle.jh_prepare.specs.declared.source.Source.{Source}
 use Rattle.jh_prepare.specs.Sources.{numbered_in, HasMethods}
 use Rattle.jh_prepare.specs.Lasting.{HasParams, MakesAll, MakesBody, MakesBodies}
@@ -44,8 +45,14 @@ params_more {locals = locals} {ks = ks} {k = k} l params grows number = record {
 pub params_still : {old new : List Name} {locals : List Local} {ks : List ℕ} → Grows old new → HasParams old locals ks → HasParams new locals ks
 params_still grows params = record { are = λ later more. params.are later (grows_twice grows more) }
 
-pub body_made : {numbered : Callee → Option ℕ} {names : List Name} {t : Listing} {ks : List ℕ} {xs : List Step} → (p : ProgramTree) (m : MethodCode) → HasParams names m.params ks → MakesAll numbered true names t (codes_in p m.body) xs → MakesBody numbered names t (method_in p m) (record { params = ks; steps = xs; keeps_entry = true })
-body_made p m params steps = record { is = λ later u more much. record { params = params.are later more; steps = steps.are later u more much } }
+-- Steps that are made where the state at entry is kept are made where it is kept as far as they recall it.
+all-kept : (numbered : Callee → Option ℕ) (keeps : Bool) (names : List Name) (t : Listing) (ss : c.Stmts) (xs : List Step) → NothingRecalled → MakesAll numbered true names t ss xs → (keeps ≡ false → steps_now t xs ≡ true) →
+    (later : List Name) (u : Listing) → Grows names later → Extends t u → AreSteps later u numbered keeps xs ss
+all-kept numbered true names t ss xs law all now later u more much = all.are later u more much
+all-kept numbered false names t ss xs law all now later u more much = law later t u numbered xs ss much (now refl) (all.are later u more much)
+
+pub body_made : {numbered : Callee → Option ℕ} {names : List Name} {t : Listing} {ks : List ℕ} {xs : List Step} → (p : ProgramTree) (m : MethodCode) (keeps : Bool) → NothingRecalled → HasParams names m.params ks → MakesAll numbered true names t (codes_in p m.body) xs → (keeps ≡ false → steps_now t xs ≡ true) → MakesBody numbered names t (method_in p m) (record { params = ks; steps = xs; keeps_entry = keeps })
+body_made {numbered} {names} {t} {ks} {xs} p m keeps law params steps now = record { is = λ later u more much. record { params = params.are later more; steps = all-kept numbered keeps names t (codes_in p m.body) xs law steps now later u more much } }
 
 pub bodies-still : (numbered : Callee → Option ℕ) (old new : List Name) (t u : Listing) (ms : List Method) (xs : List Body) → Grows old new → Extends t u → MakesBodies numbered old t ms xs → MakesBodies numbered new u ms xs
 unfolding MakesBodies

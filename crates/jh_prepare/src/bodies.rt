@@ -19,6 +19,7 @@ use jh_memory::Names;
 use jh_name::{NoMemory, Row};
 use jh_numbered::Body;
 use jh_numbering::name_number;
+use jh_recall::{steps_recall, steps_that_recall_nothing};
 use jh_table::Table;
 use std::alloc::Global;
 
@@ -35,7 +36,7 @@ fn params_of(alloc: Global, names: &mut Names, params: &[Local]) -> Result<Row<u
     Ok(Row::of(made))
 }
 
-/// The body of a method, which keeps the state at its entry.
+/// The body of a method, which keeps the state at its entry where its formulas may read it.
 fn body_of(
     alloc: Global,
     source: &Source<'_>,
@@ -49,10 +50,12 @@ fn body_of(
 {
     let params = params_of(alloc, names, method.params.items())?;
     let steps = steps_of(alloc, source, names, table, method.body.items())?;
+    let keeps_entry = steps_recall(table, steps.items());
+    steps_that_recall_nothing();
     Ok(Body {
         params,
         steps,
-        keeps_entry: true,
+        keeps_entry,
     })
 }
 

@@ -1,0 +1,4 @@
+pub mod PartPasses
+pub mod Hanging
+pub mod Unkept
+pub mod RecallSteps
