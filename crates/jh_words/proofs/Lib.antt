@@ -1,0 +1,5 @@
+mod Cases
+mod Cuts
+mod Lists
+mod Numbers
+mod Resuming

@@ -1,0 +1,4 @@
+pub mod CommandLine
+pub mod Held
+pub mod Reading
+pub mod Usage
