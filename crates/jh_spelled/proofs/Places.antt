@@ -2,6 +2,7 @@
 use Rattle.std.proofs.Common.{◌≡◌, refl, sym, ap, subst, ◌∙◌, ◌⊎◌, inl, inr, ⊎_elim, ℕ, zero, suc, ◌+◌, ◌<◌, ◌≤◌, Bool, true, false, List, [], ◌∷◌, ◌++◌, map, Option, Some, slice_get, arith}
 use Rattle.std.specs.List.{Contains, flat_map}
 use Rattle.std.proofs.lemmas.Bool.{false≢true}
+use Rattle.std.proofs.lemmas.Grind.{flat_map-append}
 use Rattle.std.proofs.lemmas.List.Elements.{Contains-append_cases}
 use Rattle.jh_name.specs.declared.place.Place.{Place}
 use Rattle.jh_lex.specs.Rising.{IsBefore, Rises}
@@ -28,8 +29,8 @@ use Rattle.jh_parse.specs.Separated as separated
 use Rattle.jh_parse.specs.Members.{One, Fields, Result, Parameter, Parameters, Promised, Method, Member, MemberTree, Heads, Class, Spells, of_fields, of_method, of_items, fields_of, methods_of, items_of, variables_of, class_of}
 use Rattle.jh_parse.specs.Members as grammar
 use Rattle.jh_parse.proofs.PartEnds.{clause-end, declared-end, item-end, contracted-end}
-use Rattle.jh_sound.proofs.Lists.{has-none, has-first, has-cases, map-from, map-has, flat-from, flat-has, some-same, no-none}
-use Rattle.jh_spelled.specs.Laws.{SpelledIsPlaced}
+use Rattle.jh_sound.proofs.Lists.{has-none, has-first, has-later, has-cases, map-from, map-has, flat-from, flat-has, some-same, no-none}
+use Rattle.jh_spelled.specs.Laws.{SpelledIsPlaced, SpelledIsWritten, IsWordOf, AreOnce, field_name, var_name, IsWritten}
 use Rattle.jh_spelled.proofs.Tokens.{word-token}
 
 -- what a specification and a member declare
@@ -70,6 +71,23 @@ order (suc i) (suc j) = next (order i j)
     next (inr (inl l)) = inr (inl (omega arith))
     next (inr (inr e)) = inr (inr (ap suc e))
 
+-- lists of which no thing stands at the place of one of the other list
+append-once : {A : Type 0} (word : A → Word) (xs ys : List A) → AreOnce word xs → AreOnce word ys → ((a b : A) → Contains xs a → Contains ys b → (word b).place ≡ (word a).place → ⊥) → AreOnce word (xs ++ ys)
+unfolding AreOnce
+append-once word [] ys a b f = b
+append-once word (x ∷ xs) ys a b f = (
+  λ y i e. ⊎_elim (λ h. a.0 y h e) (λ h. f x y (has-first x xs) h e) (Contains-append_cases xs ys y i),
+  append-once word xs ys a.1 b (λ c d i j. f c d (has-later x xs c i) j),
+)
+
+none-once : {A : Type 0} (word : A → Word) → AreOnce word []
+unfolding AreOnce
+none-once word = tt
+
+one-once : {A : Type 0} (word : A → Word) (x : A) → AreOnce word (x ∷ [])
+unfolding AreOnce
+one-once word x = (λ y i. absurd (has-none y i), tt)
+
 module _ (ts : List Token) (rises : Rises ts) where
   -- words at two indexes have two places
   apart : (i j : ℕ) (v w : Word) → i < j → word_at ts i ≡ Some v → word_at ts j ≡ Some w → v.place ≡ w.place → ⊥
@@ -108,16 +126,18 @@ module _ (ts : List Token) (rises : Rises ts) where
     goes : i ≤ j
     sit : (a : A) → Contains xs a → Sits i j (word a)
     once : (a b : A) → Contains xs a → Contains xs b → (word a).place ≡ (word b).place → a ≡ b
+    each : AreOnce word xs
 
   module _ {A : Type 0} (word : A → Word) where
     none-apart : (i j : ℕ) → i ≤ j → AreApart word i j []
-    none-apart i j l = record { goes = l; sit = λ a h. absurd (has-none a h); once = λ a b h k e. absurd (has-none a h) }
+    none-apart i j l = record { goes = l; sit = λ a h. absurd (has-none a h); once = λ a b h k e. absurd (has-none a h); each = none-once word }
 
     one-apart : (i j k : ℕ) (x : A) → i ≤ k → k < j → word_at ts k ≡ Some (word x) → AreApart word i j (x ∷ [])
     one-apart i j k x l m e = record {
       goes = weak i k j l m;
       sit = λ a h. subst (λ (y : A). Sits i j (word y)) (only a h) (record { at = k; from = l; below = m; is = e });
       once = λ a b h g e. sym (only a h) ∙ only b g;
+      each = one-once word x;
     }
       where
         weak : (i k j : ℕ) → i ≤ k → k < j → i ≤ j
@@ -134,6 +154,7 @@ module _ (ts : List Token) (rises : Rises ts) where
           (λ p. ⊎_elim (λ q. f.once a b p q e) (λ q. absurd (across a b (f.sit a p) (g.sit b q) e)) (Contains-append_cases xs ys b l))
           (λ p. ⊎_elim (λ q. absurd (across b a (f.sit b q) (g.sit a p) (sym e))) (λ q. g.once a b p q e) (Contains-append_cases xs ys b l))
           (Contains-append_cases xs ys a h);
+      each = append-once word xs ys f.each g.each (λ a b h l e. across a b (f.sit a h) (g.sit b l) (sym e));
     }
       where
         through : (i k j : ℕ) → i ≤ k → k ≤ j → i ≤ j
@@ -150,6 +171,7 @@ module _ (ts : List Token) (rises : Rises ts) where
       goes = through k i j l a f.goes b;
       sit = λ x h. wider i j k l (word x) a b (f.sit x h);
       once = f.once;
+      each = f.each;
     }
       where
         through : (k i j l : ℕ) → k ≤ i → i ≤ j → j ≤ l → k ≤ l
@@ -205,6 +227,47 @@ module _ (ts : List Token) (rises : Rises ts) where
   members {i = i} none = none-apart member_word i i (omega arith)
   members {i = i} {j = j} (more {j = k} {x = x} {xs = xs} p q) = both-apart member_word i k j (tree_members x) (flat_map tree_members xs) (member p) (members q)
 
+  -- the fields alone, and the variables alone
+  one-of-fields : {t : JType} {fixed : Bool} (i : ℕ) {j : ℕ} (x : FieldPart) → One ts t fixed i x j → AreApart field_name i j (x ∷ [])
+  one-of-fields i x (grammar.plain h) = one-apart field_name i (i + 1) i x (omega arith) (omega arith) h
+  one-of-fields i x (grammar.initial h q l) = one-apart field_name i (i + 1 + 1 + 1) i x (omega arith) (omega arith) h
+
+  declared-fields : {t : JType} {fixed : Bool} {i j : ℕ} {fs : List FieldPart} → Separated ts (One ts t fixed) i fs j → AreApart field_name i j fs
+  declared-fields {i = i} (separated.last {x = x} p) = one-of-fields i x p
+  declared-fields {i = i} {j = k} (separated.further {j = j} {x = x} {xs = xs} p c q) =
+      both-apart field_name i (j + 1) k (x ∷ []) xs (wide-apart field_name i j i (j + 1) (x ∷ []) (omega arith) (omega arith) (one-of-fields i x p)) (declared-fields q)
+
+  member-fields : {n i j m : ℕ} {x : MemberTree} → Member ts n i x j m → AreApart field_name i j (fields_of x)
+  member-fields {i = i} (grammar.a_field (grammar.fields {a = a} {b = b} {j = j} {fs = fs} p t q s)) =
+      wide-apart field_name b j i (j + 1) fs (omega (arith, modifiers-end p, typed-end ts t)) (omega arith) (declared-fields q)
+  member-fields {i = i} {j = j} (grammar.a_method h) = none-apart field_name i j (member (grammar.a_method h)).goes
+  member-fields {i = i} {j = j} (grammar.some_items o p) = none-apart field_name i j (member (grammar.some_items o p)).goes
+
+  all-fields : {n i j m : ℕ} {xs : List MemberTree} → Many (Member ts) n i xs j m → AreApart field_name i j (flat_map fields_of xs)
+  all-fields {i = i} none = none-apart field_name i i (omega arith)
+  all-fields {i = i} {j = j} (more {j = k} {x = x} {xs = xs} p q) = both-apart field_name i k j (fields_of x) (flat_map fields_of xs) (member-fields p) (all-fields q)
+
+  item-vars : {n i j m : ℕ} {x : ItemTree} → Item ts n i x j m → AreApart var_name i j (variables_of x)
+  item-vars {i = i} (part.a_variable {a = a} {b = b} {j = j} {ms = ms} {w = w} {k = k} {init = init} p s (part.declared h c q) r d) =
+      one-apart var_name i (j + 1) (a + 1) (record { name = w; kind = k; fixed = has ms symbol.Static; is_ghost = has ms symbol.Ghost; init = init }) (omega (arith, modifiers-end p)) (omega (arith, declared-end ts (part.declared h c q), clause-end ts r)) h
+  item-vars {i = i} {j = j} (part.a_definition v p d) = none-apart var_name i j (item-end ts (part.a_definition v p d))
+  item-vars {i = i} {j = j} (part.an_invariant v s p d) = none-apart var_name i j (item-end ts (part.an_invariant v s p d))
+
+  items-vars : {n i j m : ℕ} {xs : List ItemTree} → Many (Item ts) n i xs j m → AreApart var_name i j (flat_map variables_of xs)
+  items-vars {i = i} none = none-apart var_name i i (omega arith)
+  items-vars {i = i} {j = j} (more {j = k} {x = x} {xs = xs} p q) = both-apart var_name i k j (variables_of x) (flat_map variables_of xs) (item-vars p) (items-vars q)
+
+  member-vars : {n i j m : ℕ} {x : MemberTree} → Member ts n i x j m → AreApart var_name i j (flat_map variables_of (items_of x))
+  member-vars {n = n} {i = i} {j = j} (grammar.a_field h) = none-apart var_name i j (member {n = n} (grammar.a_field h)).goes
+  member-vars {i = i} {j = j} (grammar.a_method h) = none-apart var_name i j (member (grammar.a_method h)).goes
+  member-vars {i = i} (grammar.some_items {j = j} {xs = xs} o p) = wide-apart var_name (i + 1) j i (j + 1) (flat_map variables_of xs) (omega arith) (omega arith) (items-vars p.0)
+
+  all-vars : {n i j m : ℕ} {xs : List MemberTree} → Many (Member ts) n i xs j m → AreApart var_name i j (flat_map variables_of (flat_map items_of xs))
+  all-vars {i = i} none = none-apart var_name i i (omega arith)
+  all-vars {i = i} {j = j} (more {j = k} {x = x} {xs = xs} p q) =
+      subst (AreApart var_name i j) (sym (flat_map-append variables_of (items_of x) (flat_map items_of xs)))
+      (both-apart var_name i k j (flat_map variables_of (items_of x)) (flat_map variables_of (flat_map items_of xs)) (member-vars p) (all-vars q))
+
   -- the members of a class are those of its parts
   in-tree : (x : MemberTree) (xs : List MemberTree) (a : MemberPart) → Contains xs x → Contains (tree_members x) a → Contains (flat_map tree_members xs) a
   in-tree x xs a i h = flat-has tree_members xs x a i h
@@ -259,6 +322,7 @@ module _ (ts : List Token) (rises : Rises ts) where
     name : Sits i j c.name
     goes : i ≤ j
     members : (a b : MemberPart) → Contains (members_of c) a → Contains (members_of c) b → (member_word a).place ≡ (member_word b).place → a ≡ b
+    written : IsWritten ts c
 
   class : {n i j m : ℕ} {c : ClassPart} → Class ts n i c j m → ClassSits i j c
   class {i = i} (grammar.class {a = a} {j = j} {w = w} {xs = xs} h s g o p c) =
@@ -267,6 +331,12 @@ module _ (ts : List Token) (rises : Rises ts) where
         name = record { at = a + 1; from = omega (arith, heads-end h); below = before inside.goes; is = g };
         goes = through (heads-end h) inside.goes;
         members = λ x y k l e. inside.once x y (class-members w xs x k) (class-members w xs y l) e;
+        written = record {
+          name = (a + 1, g);
+          members = λ x k. let s = inside.sit x (class-members w xs x k) in (s.at, s.is);
+          fields = (all-fields p).each;
+          vars = (all-vars p).each;
+        };
       }
     where
       before : a + 1 + 1 + 1 ≤ j → a + 1 < j + 1
@@ -280,9 +350,10 @@ module _ (ts : List Token) (rises : Rises ts) where
     at : (n : ℕ) (c : ClassPart) → slice_get cs n ≡ Some c → Sits i j c.name
     members : (c : ClassPart) → Contains cs c → (a b : MemberPart) → Contains (members_of c) a → Contains (members_of c) b → (member_word a).place ≡ (member_word b).place → a ≡ b
     once : (m n : ℕ) (c d : ClassPart) → slice_get cs m ≡ Some c → slice_get cs n ≡ Some d → c.name.place ≡ d.name.place → m ≡ n
+    written : (c : ClassPart) → Contains cs c → IsWritten ts c
 
   classes : {n i j m : ℕ} {cs : List ClassPart} → Many (Class ts) n i cs j m → ClassesSit i j cs
-  classes none = record { goes = omega arith; at = λ n c e. absurd (no-none c e); members = λ c h. absurd (has-none c h); once = λ m n c d e f g. absurd (no-none c e) }
+  classes none = record { goes = omega arith; at = λ n c e. absurd (no-none c e); members = λ c h. absurd (has-none c h); once = λ m n c d e f g. absurd (no-none c e); written = λ c h. absurd (has-none c h) }
   classes {i = i} {j = j} (more {j = k} {x = x} {xs = xs} p q) =
       let one = class p in
       let rest = classes q in
@@ -291,6 +362,7 @@ module _ (ts : List Token) (rises : Rises ts) where
         at = at one rest;
         members = λ c h. ⊎_elim (λ e. subst (λ (z : ClassPart). (a b : MemberPart) → Contains (members_of z) a → Contains (members_of z) b → (member_word a).place ≡ (member_word b).place → a ≡ b) e one.members) (rest.members c) (has-cases x xs c h);
         once = once one rest;
+        written = λ c h. ⊎_elim (λ e. subst (IsWritten ts) e one.written) (rest.written c) (has-cases x xs c h);
       }
     where
       through : i ≤ k → k ≤ j → i ≤ j
@@ -314,3 +386,6 @@ module _ (ts : List Token) (rises : Rises ts) where
 
 pub is-placed : SpelledIsPlaced
 is-placed ts p rises (grammar.program {cs = cs} q end long) = let all = classes ts rises q in record { classes = all.once; members = all.members }
+
+pub is-written : SpelledIsWritten
+is-written ts p rises (grammar.program {cs = cs} q end long) = (classes ts rises q).written

@@ -1,4 +1,4 @@
-ghost use Rattle.jh_spelled.specs.Laws.{SpelledHasShape, SpelledIsAccepted, SpelledIsPlaced};
+ghost use Rattle.jh_spelled.specs.Laws.{SpelledHasShape, SpelledIsAccepted, SpelledIsPlaced, SpelledIsWritten};
 
 /// A program that tokens spell has the shape of a source, where the tokens are as the lexer makes them. It is a law, and
 /// does nothing.
@@ -10,6 +10,12 @@ pub fn spelled_has_shape()
 /// nothing.
 pub fn spelled_is_placed()
     ensures { SpelledIsPlaced }
+{}
+
+/// The names that it declares are words of the tokens, and those of the fields of a class, as those of its variables, stand at places
+/// of their own. It is a law, and does nothing.
+pub fn spelled_is_written()
+    ensures { SpelledIsWritten }
 {}
 
 /// It is accepted where it breaks no type rule. It is a law, and does nothing.

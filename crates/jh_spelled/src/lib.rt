@@ -3,4 +3,4 @@
 
 mod laws;
 
-pub use laws::{spelled_has_shape, spelled_is_accepted, spelled_is_placed};
+pub use laws::{spelled_has_shape, spelled_is_accepted, spelled_is_placed, spelled_is_written};
