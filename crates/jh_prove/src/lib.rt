@@ -5,9 +5,11 @@ mod answer;
 mod answering;
 mod laws;
 mod memo;
+mod queries;
 mod regions;
 mod unlabelling;
 
 pub use answer::{Answer, BapaCause, Verdict, is_unproved, status_of, verdict_of};
 pub use answering::answers;
 pub use laws::{one_verdict_is_right, provable_is_proved, proved_is_valid};
+pub use queries::query_of_sequent;

@@ -58,7 +58,7 @@ fn answer_of(alloc: Global, query: Query) -> Result<Answer, NoMemory>
 }
 
 /// The query of a sequent.
-fn query_of(
+pub(crate) fn query_of(
     alloc: Global,
     table: &mut Table,
     seen: &mut Memo,
