@@ -1,8 +1,10 @@
-//! What is said of a boxed sequent.
+//! What is said of a boxed sequent, and its query.
 #![tactic(auto)]
 
 mod entering;
 mod proving;
+mod querying;
 
 pub use jh_prove::{Answer, BapaCause, Verdict};
 pub use proving::prove;
+pub use querying::bapa_of;
