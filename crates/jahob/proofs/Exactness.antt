@@ -11,9 +11,10 @@ use Rattle.jh_prove.specs.Laws.{ProvableIsProved}
 use Rattle.jh_report.specs.Report.{Reported, is_accepted}
 use Rattle.jahob.specs.Refusals.{Spells, RefusedAt, IsMistyped, IsCircular, IsCrowded}
 use Rattle.jahob.specs.Causes.{FilesSeen, SinkSeen, Finding, reported, ran, unreturned, no_job, no_method, refused, mistyped, circular, crowded, file_failed, file_too_long, no_memory, IsRead_in, as_source, as_heap, Comes, due, unreturned_status, Takes, Delivered, Answered, IsExcused, IsRunStatus, Exact}
-use Rattle.jahob.specs.Run.{IsBegun, IsSource, ending_of, ending_status, run_steps}
+use Rattle.jahob.specs.Run.{IsBegun, IsSource, ending_of, ending_status}
 use Rattle.jahob.specs.Verify.{Tells, Judges, OwesProvable, source_limit}
-use Rattle.jahob.specs.Words.{Job, Run, job_of, run, source_of, verify}
+use Rattle.jahob.specs.Words.{source_of}
+use Rattle.jh_words.specs.CommandLine.{Job, Run, Verify, job_of, run, verify}
 use Rattle.jahob.proofs.Endings.{reason-status, returns-zero}
 use Rattle.jahob.proofs.Findings.{takes-status}
 use Rattle.jahob.proofs.Jobs.{longer, none-job, not-both, one-job, one-run, tells-same, told-bytes}
@@ -41,8 +42,8 @@ data Seen (files : FilesSeen) (job : Job) (bytes : List ℕ) (status : ℕ) : Ty
   is_long : source_limit < length bytes → (status ≡ 4) ⊎ IsExcused files (source_of job) status → Seen files job bytes status
   is_excused : IsExcused files (source_of job) status → Seen files job bytes status
   is_refused : length bytes ≤ source_limit → ((p : ProgramTree) → Spells bytes p → ⊥) → (status ≡ 3) ⊎ IsExcused files (source_of job) status → Seen files job bytes status
-  is_crowded : (file : List ℕ) → job ≡ verify file → length bytes ≤ source_limit → ((p : ProgramTree) → Spells bytes p → OwesLittle p → ⊥) → (status ≡ 3) ⊎ IsExcused files (source_of job) status → Seen files job bytes status
-  is_reported : (file : List ℕ) → job ≡ verify file → length bytes ≤ source_limit → (p : ProgramTree) (rs : List Reported) → Spells bytes p → Judges p rs → (status ≡ (if is_accepted rs then 0 else 1)) ⊎ IsExcused files (source_of job) status → Seen files job bytes status
+  is_crowded : (v : Verify) → job ≡ verify v → length bytes ≤ source_limit → ((p : ProgramTree) → Spells bytes p → OwesLittle p → ⊥) → (status ≡ 3) ⊎ IsExcused files (source_of job) status → Seen files job bytes status
+  is_reported : (v : Verify) → job ≡ verify v → length bytes ≤ source_limit → (p : ProgramTree) (rs : List Reported) → Spells bytes p → Judges p rs → (status ≡ (if is_accepted rs then 0 else 1)) ⊎ IsExcused files (source_of job) status → Seen files job bytes status
   is_run : (r : Run) → job ≡ run r → length bytes ≤ source_limit → (p : ProgramTree) → Spells bytes p → RunSeen files p r status → Seen files job bytes status
 
 module _ (much : LittleIsNotMuch) (words : List (List ℕ)) (files : FilesSeen) (out err : SinkSeen) (status : ℕ) (job : Job) (asked : job_of words ≡ Some job) (bytes : List ℕ) (held : files.holds (source_of job) ≡ Some bytes) where
@@ -72,21 +73,21 @@ module _ (much : LittleIsNotMuch) (words : List (List ℕ)) (files : FilesSeen) 
   long-seen file (as_heap p called) long text takes =
       run-seen p called.source (holds_much called.has (λ there is. longer (files.holds called.source.job.heap) there is long) (due-or files err text called.source.job.heap 4 status takes))
 
-  ended-as : (p : ProgramTree) (r : Run) (text : List ℕ) (d : ℕ) → (d ≡ ending_status (ending_of p r.class r.method text run_steps)) → (status ≡ d) ⊎ (status ≡ 5) → IsRunStatus p r text status ⊎ IsExcused files r.heap status
+  ended-as : (p : ProgramTree) (r : Run) (text : List ℕ) (d : ℕ) → (d ≡ ending_status (ending_of p r.class r.method text r.steps)) → (status ≡ d) ⊎ (status ≡ 5) → IsRunStatus p r text status ⊎ IsExcused files r.heap status
   ended-as p r text d is end = elim end [ inl whole ↦ inl (inl (whole ∙ is)) | inr five ↦ inr (inr (inl five)) ]
 
   seen : (o : Finding) → Comes words files o → Delivered (due o) out err status → Seen files job bytes status
   seen (reported p rs) comes delivered =
-      let same : comes.0.bytes ≡ bytes = came-same (verify comes.0.file) comes.0.asked comes.0.bytes comes.0.told in
-      is_reported comes.0.file (one-job (job_of words) job (verify comes.0.file) asked comes.0.asked) (subst (λ (b : List ℕ). length b ≤ source_limit) same comes.0.within) p rs (subst (λ (b : List ℕ). Spells b p) same comes.0.spelled) comes.1
+      let same : comes.0.bytes ≡ bytes = came-same (verify comes.0.job) comes.0.asked comes.0.bytes comes.0.told in
+      is_reported comes.0.job (one-job (job_of words) job (verify comes.0.job) asked comes.0.asked) (subst (λ (b : List ℕ). length b ≤ source_limit) same comes.0.within) p rs (subst (λ (b : List ℕ). Spells b p) same comes.0.spelled) comes.1
       (due-or files out _ (source_of job) (if is_accepted rs then 0 else 1) status delivered.0)
   seen (ran p printed) comes delivered =
       let r : Run = comes.0.called.source.job in
-      begun-seen p comes.0 (ended-as p r comes.0.text 0 (sym (returns-zero p r.class r.method comes.0.text run_steps printed comes.1)) (takes-status out printed 0 status delivered.0))
+      begun-seen p comes.0 (ended-as p r comes.0.text 0 (sym (returns-zero p r.class r.method comes.0.text r.steps printed comes.1)) (takes-status out printed 0 status delivered.0))
   seen (unreturned p e) comes delivered =
       let r : Run = comes.0.called.source.job in
       begun-seen p comes.0 (elim (takes-status err _ (unreturned_status e) status delivered.0) [
-        | inl whole ↦ elim (reason-status p r.class r.method comes.0.text run_steps e comes.1) [
+        | inl whole ↦ elim (reason-status p r.class r.method comes.0.text r.steps e comes.1) [
           | inl is ↦ inl (inl (whole ∙ is))
           | inr rest ↦ elim rest [
             | inl over ↦ inl (inr (whole ∙ over.0, over.1))
@@ -95,8 +96,8 @@ module _ (much : LittleIsNotMuch) (words : List (List ℕ)) (files : FilesSeen) 
         ]
         | inr five ↦ inr (inr (inl five))
       ])
-  seen no_job comes delivered = none-job (job_of words) job comes asked
-  seen (no_method p) comes delivered = run-seen p comes.0 (lacks comes.1 (due-or files err _ comes.0.job.file 2 status delivered.0))
+  seen (no_job text) comes delivered = none-job (job_of words) job comes.0 asked
+  seen (no_method p text) comes delivered = run-seen p comes.0 (lacks comes.1 (due-or files err _ comes.0.job.file 2 status delivered.0))
   seen (refused n place) comes delivered =
       let same : comes.bytes ≡ bytes = came-same comes.job comes.asked comes.bytes comes.told in
       is_refused (subst (λ (b : List ℕ). length b ≤ source_limit) same comes.within) (λ p spells. refused-parses bytes n place p (subst (λ (b : List ℕ). RefusedAt b n place) same comes.why) spells.parsed) (due-or files err _ (source_of job) 3 status delivered.0)
@@ -107,8 +108,8 @@ module _ (much : LittleIsNotMuch) (words : List (List ℕ)) (files : FilesSeen) 
       let same : comes.bytes ≡ bytes = came-same comes.job comes.asked comes.bytes comes.told in
       is_refused (subst (λ (b : List ℕ). length b ≤ source_limit) same comes.within) (λ p spells. loop-spells bytes name p (subst (λ (b : List ℕ). IsCircular b name) same comes.why) spells) (due-or files err _ (source_of job) 3 status delivered.0)
   seen (crowded class name n) comes delivered =
-      let same : comes.bytes ≡ bytes = came-same (verify comes.file) comes.asked comes.bytes comes.told in
-      is_crowded comes.file (one-job (job_of words) job (verify comes.file) asked comes.asked) (subst (λ (b : List ℕ). length b ≤ source_limit) same comes.within)
+      let same : comes.bytes ≡ bytes = came-same (verify comes.job) comes.asked comes.bytes comes.told in
+      is_crowded comes.job (one-job (job_of words) job (verify comes.job) asked comes.asked) (subst (λ (b : List ℕ). length b ≤ source_limit) same comes.within)
       (λ p spells few. crowded-spells much bytes class name n p (subst (λ (b : List ℕ). IsCrowded b class name n) same comes.why) spells few) (due-or files err _ (source_of job) 3 status delivered.0)
   seen (file_failed file) comes delivered = failed-seen file comes.0 comes.1 _ delivered.0
   seen (file_too_long file) comes delivered = long-seen file comes.0 comes.1 _ delivered.0
@@ -122,8 +123,8 @@ long-of : (files : FilesSeen) (job : Job) (bytes : List ℕ) (status : ℕ) → 
 long-of files job bytes status (is_long there is) long = is
 long-of files job bytes status (is_excused is) long = inr is
 long-of files job bytes status (is_refused short none is) long = never bytes long short
-long-of files job bytes status (is_crowded file same short none is) long = never bytes long short
-long-of files job bytes status (is_reported file same short p rs spells judges is) long = never bytes long short
+long-of files job bytes status (is_crowded v same short none is) long = never bytes long short
+long-of files job bytes status (is_reported v same short p rs spells judges is) long = never bytes long short
 long-of files job bytes status (is_run r same short p spells run_is) long = never bytes long short
 
 -- a source that spells no program
@@ -131,50 +132,50 @@ none-of : (files : FilesSeen) (job : Job) (bytes : List ℕ) (status : ℕ) → 
 none-of files job bytes status (is_long long is) short none = never bytes long short
 none-of files job bytes status (is_excused is) short none = inr is
 none-of files job bytes status (is_refused there empty is) short none = is
-none-of files job bytes status (is_crowded file same there empty is) short none = is
-none-of files job bytes status (is_reported file same there p rs spells judges is) short none = absurd (none p spells)
+none-of files job bytes status (is_crowded v same there empty is) short none = is
+none-of files job bytes status (is_reported v same there p rs spells judges is) short none = absurd (none p spells)
 none-of files job bytes status (is_run r same there p spells run_is) short none = absurd (none p spells)
 
 -- a report on a source of which some method has too many sequents
-crowd-of : OwedIsLittle → (files : FilesSeen) (file bytes : List ℕ) (status : ℕ) → Seen files (verify file) bytes status → length bytes ≤ source_limit → ((p : ProgramTree) → Spells bytes p → OwesLittle p → ⊥) → (status ≡ 3) ⊎ IsExcused files file status
-crowd-of little files file bytes status (is_long long is) short none = never bytes long short
-crowd-of little files file bytes status (is_excused is) short none = inr is
-crowd-of little files file bytes status (is_refused there empty is) short none = is
-crowd-of little files file bytes status (is_crowded other same there empty is) short none = is
-crowd-of little files file bytes status (is_reported other same there p rs spells judges is) short none = absurd (none p spells (little p judges.owed judges.owes))
-crowd-of little files file bytes status (is_run r same there p spells run_is) short none = not-both file r same
+crowd-of : OwedIsLittle → (files : FilesSeen) (v : Verify) (bytes : List ℕ) (status : ℕ) → Seen files (verify v) bytes status → length bytes ≤ source_limit → ((p : ProgramTree) → Spells bytes p → OwesLittle p → ⊥) → (status ≡ 3) ⊎ IsExcused files v.file status
+crowd-of little files v bytes status (is_long long is) short none = never bytes long short
+crowd-of little files v bytes status (is_excused is) short none = inr is
+crowd-of little files v bytes status (is_refused there empty is) short none = is
+crowd-of little files v bytes status (is_crowded other same there empty is) short none = is
+crowd-of little files v bytes status (is_reported other same there p rs spells judges is) short none = absurd (none p spells (little p judges.owed judges.owes))
+crowd-of little files v bytes status (is_run r same there p spells run_is) short none = not-both v r same
 
 -- the report on a program has the status that is due, or there is an excuse
 abbrev pub Found : ProgramTree → FilesSeen → List ℕ → ℕ → Type 0
 Found p files file status = ((rs : List Reported) × Judges p rs × (status ≡ (if is_accepted rs then 0 else 1))) ⊎ IsExcused files file status
 
-found-of : (files : FilesSeen) (file bytes : List ℕ) (status : ℕ) → Seen files (verify file) bytes status → (p : ProgramTree) → length bytes ≤ source_limit → Spells bytes p → OwesLittle p → Found p files file status
-found-of files file bytes status (is_long long is) p short spells few = never bytes long short
-found-of files file bytes status (is_excused is) p short spells few = inr is
-found-of files file bytes status (is_refused there empty is) p short spells few = absurd (empty p spells)
-found-of files file bytes status (is_crowded other same there empty is) p short spells few = absurd (empty p spells few)
-found-of files file bytes status (is_reported other same there q rs spelled judges is) p short spells few =
+found-of : (files : FilesSeen) (v : Verify) (bytes : List ℕ) (status : ℕ) → Seen files (verify v) bytes status → (p : ProgramTree) → length bytes ≤ source_limit → Spells bytes p → OwesLittle p → Found p files v.file status
+found-of files v bytes status (is_long long is) p short spells few = never bytes long short
+found-of files v bytes status (is_excused is) p short spells few = inr is
+found-of files v bytes status (is_refused there empty is) p short spells few = absurd (empty p spells)
+found-of files v bytes status (is_crowded other same there empty is) p short spells few = absurd (empty p spells few)
+found-of files v bytes status (is_reported other same there q rs spelled judges is) p short spells few =
     elim is [
       | inl due_is ↦ inl (rs, subst (λ (t : ProgramTree). Judges t rs) (spells-one bytes q p spelled spells) judges, due_is)
       | inr excused ↦ inr excused
     ]
-found-of files file bytes status (is_run r same there q spelled run_is) p short spells few = not-both file r same
+found-of files v bytes status (is_run r same there q spelled run_is) p short spells few = not-both v r same
 
 -- what is due for a report is 0 or 1
 report-due : (b : Bool) (status : ℕ) → status ≡ (if b then 0 else 1) → (status ≡ 0) ⊎ (status ≡ 1)
 report-due true status is = inl is
 report-due false status is = inr is
 
-reported-of : (files : FilesSeen) (file bytes : List ℕ) (status : ℕ) → Seen files (verify file) bytes status → (p : ProgramTree) → length bytes ≤ source_limit → Spells bytes p → OwesLittle p → (status ≡ 0) ⊎ (status ≡ 1) ⊎ IsExcused files file status
-reported-of files file bytes status s p short spells few =
-    elim (found-of files file bytes status s p short spells few) [
+reported-of : (files : FilesSeen) (v : Verify) (bytes : List ℕ) (status : ℕ) → Seen files (verify v) bytes status → (p : ProgramTree) → length bytes ≤ source_limit → Spells bytes p → OwesLittle p → (status ≡ 0) ⊎ (status ≡ 1) ⊎ IsExcused files v.file status
+reported-of files v bytes status s p short spells few =
+    elim (found-of files v bytes status s p short spells few) [
       | inl found ↦ elim (report-due (is_accepted found.0) status found.2) [ inl zero ↦ inl zero | inr one ↦ inr (inl one) ]
       | inr excused ↦ inr (inr excused)
     ]
 
-proved-of : OwedIsLittle → OwedIsOne → ProvableIsProved → (files : FilesSeen) (file bytes : List ℕ) (status : ℕ) → Seen files (verify file) bytes status → (p : ProgramTree) → length bytes ≤ source_limit → Spells bytes p → OwesProvable p → (status ≡ 0) ⊎ IsExcused files file status
-proved-of little one provable files file bytes status s p short spells owes =
-    elim (found-of files file bytes status s p short spells (little p owes.owed owes.owes)) [
+proved-of : OwedIsLittle → OwedIsOne → ProvableIsProved → (files : FilesSeen) (v : Verify) (bytes : List ℕ) (status : ℕ) → Seen files (verify v) bytes status → (p : ProgramTree) → length bytes ≤ source_limit → Spells bytes p → OwesProvable p → (status ≡ 0) ⊎ IsExcused files v.file status
+proved-of little one provable files v bytes status s p short spells owes =
+    elim (found-of files v bytes status s p short spells (little p owes.owed owes.owes)) [
       | inl found ↦ inl (found.2 ∙ ap (λ (b : Bool). if b then 0 else 1) (provable-accepted one provable p found.0 found.1 owes))
       | inr excused ↦ inr excused
     ]
@@ -184,8 +185,8 @@ run-of : (files : FilesSeen) (r : Run) (bytes : List ℕ) (status : ℕ) → See
 run-of files r bytes status (is_long long is) p short spells = never bytes long short
 run-of files r bytes status (is_excused is) p short spells = inr is
 run-of files r bytes status (is_refused there empty is) p short spells = absurd (empty p spells)
-run-of files r bytes status (is_crowded file same there empty is) p short spells = not-both file r (sym same)
-run-of files r bytes status (is_reported file same there q rs spelled judges is) p short spells = not-both file r (sym same)
+run-of files r bytes status (is_crowded v same there empty is) p short spells = not-both v r (sym same)
+run-of files r bytes status (is_reported v same there q rs spelled judges is) p short spells = not-both v r (sym same)
 run-of files r bytes status (is_run s same there q spelled run_is) p short spells =
     inl (subst (λ (t : ProgramTree). RunSeen files t r status) (spells-one bytes q p spelled spells) (subst (λ (t : Run). RunSeen files q t status) (one-run s r (sym same)) run_is))
 
@@ -214,24 +215,27 @@ ended-of files p r status (comes_to there came told within is) has text held sho
     let same : came ≡ text = tells-same (files.holds r.heap) came text held told in
     subst (λ (b : List ℕ). IsRunStatus p r b status ⊎ IsExcused files r.heap status) same is
 
--- without a job it is usage
+-- without a job it is usage, want of memory aside
 read-job : (words : List (List ℕ)) (holds : List ℕ → Option (List ℕ)) (file : List ℕ) → IsRead_in words holds file → (job : Job) × (job_of words ≡ Some job)
 read-job words holds file (as_source job asked) = (job, asked)
 read-job words holds file (as_heap p called) = (run called.source.job, called.source.asked)
 
-usage-of : (words : List (List ℕ)) (files : FilesSeen) (out err : SinkSeen) (status : ℕ) (o : Finding) → Comes words files o → Delivered (due o) out err status → job_of words ≡ None → (status ≡ 2) ⊎ (status ≡ 5)
-usage-of words files out err status (reported p rs) comes delivered none = none-job (job_of words) (verify comes.0.file) none comes.0.asked
+is-usage : (sink : SinkSeen) (text : List ℕ) (status : ℕ) → Takes sink text 2 status → (status ≡ 2) ⊎ (status ≡ 5) ⊎ (status ≡ 6)
+is-usage sink text status takes = elim (takes-status sink text 2 status takes) [ inl two ↦ inl two | inr five ↦ inr (inl five) ]
+
+usage-of : (words : List (List ℕ)) (files : FilesSeen) (out err : SinkSeen) (status : ℕ) (o : Finding) → Comes words files o → Delivered (due o) out err status → job_of words ≡ None → (status ≡ 2) ⊎ (status ≡ 5) ⊎ (status ≡ 6)
+usage-of words files out err status (reported p rs) comes delivered none = none-job (job_of words) (verify comes.0.job) none comes.0.asked
 usage-of words files out err status (ran p text) comes delivered none = none-job (job_of words) (run comes.0.called.source.job) none comes.0.called.source.asked
 usage-of words files out err status (unreturned p e) comes delivered none = none-job (job_of words) (run comes.0.called.source.job) none comes.0.called.source.asked
-usage-of words files out err status no_job comes delivered none = takes-status err _ 2 status delivered.0
-usage-of words files out err status (no_method p) comes delivered none = takes-status err _ 2 status delivered.0
+usage-of words files out err status (no_job text) comes delivered none = is-usage err text status delivered.0
+usage-of words files out err status (no_method p text) comes delivered none = is-usage err text status delivered.0
 usage-of words files out err status (refused n place) comes delivered none = none-job (job_of words) comes.job none comes.asked
 usage-of words files out err status (mistyped n place) comes delivered none = none-job (job_of words) comes.job none comes.asked
 usage-of words files out err status (circular name) comes delivered none = none-job (job_of words) comes.job none comes.asked
-usage-of words files out err status (crowded class name n) comes delivered none = none-job (job_of words) (verify comes.file) none comes.asked
+usage-of words files out err status (crowded class name n) comes delivered none = none-job (job_of words) (verify comes.job) none comes.asked
 usage-of words files out err status (file_failed file) comes delivered none = let job = read-job words files.holds file comes.0 in none-job (job_of words) job.0 none job.1
 usage-of words files out err status (file_too_long file) comes delivered none = let job = read-job words files.holds file comes.0 in none-job (job_of words) job.0 none job.1
-usage-of words files out err status no_memory comes delivered none = none-job (job_of words) comes.0 none comes.1
+usage-of words files out err status no_memory comes delivered none = elim (takes-status err _ 6 status delivered.0) [ inl six ↦ inr (inr six) | inr five ↦ inr (inl five) ]
 
 module _ (little : OwedIsLittle) (much : LittleIsNotMuch) (one : OwedIsOne) (provable : ProvableIsProved) (words : List (List ℕ)) (files : FilesSeen) (out err : SinkSeen) (status : ℕ) (a : Answered words files out err status) where
   at : (job : Job) (bytes : List ℕ) → job_of words ≡ Some job → files.holds (source_of job) ≡ Some bytes → Seen files job bytes status
@@ -247,9 +251,9 @@ module _ (little : OwedIsLittle) (much : LittleIsNotMuch) (one : OwedIsOne) (pro
     refused = λ job bytes n place asked held short why. none-of files job bytes status (at job bytes asked held) short (λ p spells. refused-parses bytes n place p why spells.parsed);
     mistyped = λ job bytes rule place asked held short why. none-of files job bytes status (at job bytes asked held) short (λ p spells. ill-spells bytes rule place p why spells);
     circular = λ job bytes name asked held short why. none-of files job bytes status (at job bytes asked held) short (λ p spells. loop-spells bytes name p why spells);
-    crowded = λ file bytes class name n asked held short why. crowd-of little files file bytes status (at (verify file) bytes asked held) short (λ p spells few. crowded-spells much bytes class name n p why spells few);
-    reported = λ file bytes p asked held short spells few. reported-of files file bytes status (at (verify file) bytes asked held) p short spells few;
-    proved = λ file bytes p asked held short spells owes. proved-of little one provable files file bytes status (at (verify file) bytes asked held) p short spells owes;
+    crowded = λ v bytes class name n asked held short why. crowd-of little files v bytes status (at (verify v) bytes asked held) short (λ p spells few. crowded-spells much bytes class name n p why spells few);
+    reported = λ v bytes p asked held short spells few. reported-of files v bytes status (at (verify v) bytes asked held) p short spells few;
+    proved = λ v bytes p asked held short spells owes. proved-of little one provable files v bytes status (at (verify v) bytes asked held) p short spells owes;
     no_method = λ r bytes p asked held short spells none. elim (run-at r bytes p asked held short spells) [
       | inl is ↦ lacks-of files p r status is none
       | inr excused ↦ inr excused

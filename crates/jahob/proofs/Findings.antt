@@ -17,7 +17,7 @@ use Rattle.jahob.specs.declared.reply.Reply.{Reply}
 use Rattle.jahob.specs.Causes.{FilesSeen, SinkSeen, Finding, reported, ran, unreturned, no_job, no_method, refused, mistyped, circular, crowded, file_failed, file_too_long, no_memory, Comes, Due, due, reply_due, unreturned_status, Takes, IsTaken, Delivered, HaveNoFault, Answered, Fits}
 use Rattle.jahob.specs.Run.{Runs}
 use Rattle.jahob.specs.Verify.{Reports, Verifies}
-use Rattle.jahob.specs.Words.{Run, job_of, run, verify}
+use Rattle.jh_words.specs.CommandLine.{Run, Verify, job_of, run, verify}
 use Rattle.jahob.proofs.Jobs.{apart-jobs}
 use Rattle.jahob.proofs.Verifying.{reports-verifies, right-sound}
 
@@ -63,42 +63,42 @@ SpelledIsAccepted = (bytes : List ℕ) (tree : ProgramTree) → Spells bytes tre
 
 -- a report with status 0 or 1 was written whole
 module _ (accepted : SpelledIsAccepted) (sound : OwedIsSound) (proved : ProvedIsValid) where
-  reports-of : (words : List (List ℕ)) (files : FilesSeen) (out err : SinkSeen) (status : ℕ) (o : Finding) → Comes words files o → Delivered (due o) out err status → (file : List ℕ) → job_of words ≡ Some (verify file) → (status ≡ 0) ⊎ (status ≡ 1) → Reports words files.holds out.before out.after status
-  reports-of words files out err status (reported p rs) comes delivered file asked low =
+  reports-of : (words : List (List ℕ)) (files : FilesSeen) (out err : SinkSeen) (status : ℕ) (o : Finding) → Comes words files o → Delivered (due o) out err status → (v : Verify) → job_of words ≡ Some (verify v) → (status ≡ 0) ⊎ (status ≡ 1) → Reports words files.holds out.before out.after status
+  reports-of words files out err status (reported p rs) comes delivered v asked low =
       elim delivered.0 [
         | inl whole ↦ record { program = p; read = comes.0; reported = rs; judges = comes.1; written = whole.1; status_is = whole.0; sound = right-sound proved sound p rs status (accepted comes.0.bytes p comes.0.spelled) comes.1 whole.0 }
         | inr front ↦ not-low 5 status (omega arith) (inr front.0) low
       ]
-  reports-of words files out err status (ran p text) comes delivered file asked low = apart-jobs (job_of words) file comes.0.called.source.job asked comes.0.called.source.asked
-  reports-of words files out err status (unreturned p e) comes delivered file asked low = apart-jobs (job_of words) file comes.0.called.source.job asked comes.0.called.source.asked
-  reports-of words files out err status no_job comes delivered file asked low = high-of words files out err status 2 _ (omega arith) delivered low
-  reports-of words files out err status (no_method p) comes delivered file asked low = high-of words files out err status 2 _ (omega arith) delivered low
-  reports-of words files out err status (refused n place) comes delivered file asked low = high-of words files out err status 3 _ (omega arith) delivered low
-  reports-of words files out err status (mistyped n place) comes delivered file asked low = high-of words files out err status 3 _ (omega arith) delivered low
-  reports-of words files out err status (circular name) comes delivered file asked low = high-of words files out err status 3 _ (omega arith) delivered low
-  reports-of words files out err status (crowded class name n) comes delivered file asked low = high-of words files out err status 3 _ (omega arith) delivered low
-  reports-of words files out err status (file_failed other) comes delivered file asked low = high-of words files out err status 4 _ (omega arith) delivered low
-  reports-of words files out err status (file_too_long other) comes delivered file asked low = high-of words files out err status 4 _ (omega arith) delivered low
-  reports-of words files out err status no_memory comes delivered file asked low = high-of words files out err status 6 _ (omega arith) delivered low
+  reports-of words files out err status (ran p text) comes delivered v asked low = apart-jobs (job_of words) v comes.0.called.source.job asked comes.0.called.source.asked
+  reports-of words files out err status (unreturned p e) comes delivered v asked low = apart-jobs (job_of words) v comes.0.called.source.job asked comes.0.called.source.asked
+  reports-of words files out err status (no_job text) comes delivered v asked low = high-of words files out err status 2 _ (omega arith) delivered low
+  reports-of words files out err status (no_method p text) comes delivered v asked low = high-of words files out err status 2 _ (omega arith) delivered low
+  reports-of words files out err status (refused n place) comes delivered v asked low = high-of words files out err status 3 _ (omega arith) delivered low
+  reports-of words files out err status (mistyped n place) comes delivered v asked low = high-of words files out err status 3 _ (omega arith) delivered low
+  reports-of words files out err status (circular name) comes delivered v asked low = high-of words files out err status 3 _ (omega arith) delivered low
+  reports-of words files out err status (crowded class name n) comes delivered v asked low = high-of words files out err status 3 _ (omega arith) delivered low
+  reports-of words files out err status (file_failed other) comes delivered v asked low = high-of words files out err status 4 _ (omega arith) delivered low
+  reports-of words files out err status (file_too_long other) comes delivered v asked low = high-of words files out err status 4 _ (omega arith) delivered low
+  reports-of words files out err status no_memory comes delivered v asked low = high-of words files out err status 6 _ (omega arith) delivered low
 
-  pub answered-reports : (words : List (List ℕ)) (files : FilesSeen) (out err : SinkSeen) (status : ℕ) → Answered words files out err status → (file : List ℕ) → job_of words ≡ Some (verify file) → (status ≡ 0) ⊎ (status ≡ 1) → Reports words files.holds out.before out.after status
-  answered-reports words files out err status a file asked low = reports-of words files out err status a.finding a.comes a.delivered file asked low
+  pub answered-reports : (words : List (List ℕ)) (files : FilesSeen) (out err : SinkSeen) (status : ℕ) → Answered words files out err status → (v : Verify) → job_of words ≡ Some (verify v) → (status ≡ 0) ⊎ (status ≡ 1) → Reports words files.holds out.before out.after status
+  answered-reports words files out err status a v asked low = reports-of words files out err status a.finding a.comes a.delivered v asked low
 
   -- the headline
-  pub answered-verifies : (words : List (List ℕ)) (files : FilesSeen) (out err : SinkSeen) (status : ℕ) → Answered words files out err status → (file : List ℕ) → job_of words ≡ Some (verify file) → status ≡ 0 → Verifies words files.holds
-  answered-verifies words files out err status a file asked zero = reports-verifies words files.holds out.before out.after status (answered-reports words files out err status a file asked (inl zero)) zero
+  pub answered-verifies : (words : List (List ℕ)) (files : FilesSeen) (out err : SinkSeen) (status : ℕ) → Answered words files out err status → (v : Verify) → job_of words ≡ Some (verify v) → status ≡ 0 → Verifies words files.holds
+  answered-verifies words files out err status a v asked zero = reports-verifies words files.holds out.before out.after status (answered-reports words files out err status a v asked (inl zero)) zero
 
 -- a run with status 0 returned, and what is printed of it was written whole
 runs-of : (words : List (List ℕ)) (files : FilesSeen) (out err : SinkSeen) (status : ℕ) (o : Finding) → Comes words files o → Delivered (due o) out err status → (r : Run) → job_of words ≡ Some (run r) → status ≡ 0 → Runs words files.holds out.before out.after
-runs-of words files out err status (reported p rs) comes delivered r asked zero = apart-jobs (job_of words) comes.0.file r comes.0.asked asked
+runs-of words files out err status (reported p rs) comes delivered r asked zero = apart-jobs (job_of words) comes.0.job r comes.0.asked asked
 runs-of words files out err status (ran p text) comes delivered r asked zero =
     elim delivered.0 [
       | inl whole ↦ record { program = p; begun = comes.0; printed = text; returns = comes.1; written = whole.1 }
       | inr front ↦ not-low 5 status (omega arith) (inr front.0) (inl zero)
     ]
 runs-of words files out err status (unreturned p e) comes delivered r asked zero = high-of words files out err status (unreturned_status e) _ (unreturned-high e) delivered (inl zero)
-runs-of words files out err status no_job comes delivered r asked zero = high-of words files out err status 2 _ (omega arith) delivered (inl zero)
-runs-of words files out err status (no_method p) comes delivered r asked zero = high-of words files out err status 2 _ (omega arith) delivered (inl zero)
+runs-of words files out err status (no_job text) comes delivered r asked zero = high-of words files out err status 2 _ (omega arith) delivered (inl zero)
+runs-of words files out err status (no_method p text) comes delivered r asked zero = high-of words files out err status 2 _ (omega arith) delivered (inl zero)
 runs-of words files out err status (refused n place) comes delivered r asked zero = high-of words files out err status 3 _ (omega arith) delivered (inl zero)
 runs-of words files out err status (mistyped n place) comes delivered r asked zero = high-of words files out err status 3 _ (omega arith) delivered (inl zero)
 runs-of words files out err status (circular name) comes delivered r asked zero = high-of words files out err status 3 _ (omega arith) delivered (inl zero)
@@ -135,8 +135,8 @@ memory-of words files out err status (ran p text) delivered six =
       | inr front ↦ absurd (omega (arith, front, six))
     ]
 memory-of words files out err status (unreturned p e) delivered six = delivered.1.written
-memory-of words files out err status no_job delivered six = delivered.1.written
-memory-of words files out err status (no_method p) delivered six = delivered.1.written
+memory-of words files out err status (no_job text) delivered six = delivered.1.written
+memory-of words files out err status (no_method p text) delivered six = delivered.1.written
 memory-of words files out err status (refused n place) delivered six = delivered.1.written
 memory-of words files out err status (mistyped n place) delivered six = delivered.1.written
 memory-of words files out err status (circular name) delivered six = delivered.1.written

@@ -13,10 +13,12 @@ use Rattle.jh_outcome.specs.declared.unreturned.Unreturned.TheVariants as why
 use Rattle.jahob.specs.Refusals.{Spells, method_text}
 use Rattle.jahob.specs.declared.reply.Reply.{Reply}
 use Rattle.jahob.specs.declared.reply.Reply.TheVariants as reply
-use Rattle.jahob.specs.Causes.{FilesSeen, Finding, reported, ran, unreturned, no_method, refused, mistyped, circular, crowded, file_failed, file_too_long, no_memory, IsRead_in, as_source, as_heap, Comes, Due, due, unreturned_status, unreturned_text, fault_text, Says, IsReply, IsRefusal, by_place, by_rule, by_loop, FitsRefusal, FitsBytes, FitsFault, IsFaultReply, IsUnreturnedReply, FitsFile, FitsOutcome, FitsHeap, FitsMethod, FitsSource, FitsRun, Fits}
-use Rattle.jahob.specs.Run.{IsCalled, IsSource, run_steps}
+use Rattle.jahob.specs.Causes.{FilesSeen, Finding, reported, ran, unreturned, no_job, no_method, refused, mistyped, circular, crowded, file_failed, file_too_long, no_memory, IsRead_in, as_source, as_heap, Comes, Due, due, unreturned_status, unreturned_text, fault_text, Says, IsReply, IsRefusal, by_place, by_rule, by_loop, FitsRefusal, FitsBytes, FitsFault, IsFaultReply, IsUsageReply, IsPageReply, IsUnreturnedReply, FitsFile, FitsOutcome, FitsHeap, FitsMethod, FitsSource, FitsRun, FitsWords, Fits}
+use Rattle.jahob.specs.Run.{IsCalled, IsSource}
 use Rattle.jahob.specs.Verify.{Tells, source_limit}
-use Rattle.jahob.specs.Words.{Job, Run, job_of, run, source_of, verify}
+use Rattle.jahob.specs.Words.{source_of}
+use Rattle.jh_words.specs.CommandLine.{Job, Run, Verify, job_of, run, verify}
+use Rattle.jh_words.specs.Usage.{usage_page}
 use Rattle.jahob.proofs.Verifying.{spells-one}
 
 -- a line is due with its status
@@ -28,7 +30,7 @@ pub says-refusal : (bytes text : List ℕ) (answer : Reply) → ((line : List �
 says-refusal bytes text (reply.Report line accepted) why h = absurd h
 says-refusal bytes text (reply.Ran line) why h = absurd h
 says-refusal bytes text (reply.Line line status) why h = (h.0, why (string_bytes line) h.1)
-says-refusal bytes text reply.Usage why h = absurd h
+says-refusal bytes text (reply.Usage said) why h = absurd h
 says-refusal bytes text reply.NoMemory why h = tt
 
 -- how a file fails
@@ -43,15 +45,22 @@ says-fault files file fault.Memory answer rose long says = inr (inr says)
 
 -- why a run doesn't return
 module _ (p : ProgramTree) (r : Run) (text : List ℕ) where
-  says-outcome : (e : Unreturned) (answer : Reply) → IsReason p r.class r.method text run_steps e → Says (unreturned_status e) (unreturned_text e) answer → FitsOutcome p r text answer
+  says-outcome : (e : Unreturned) (answer : Reply) → IsReason p r.class r.method text r.steps e → Says (unreturned_status e) (unreturned_text e) answer → FitsOutcome p r text answer
   says-outcome e (reply.Report line accepted) reason h = absurd h
   says-outcome e (reply.Ran line) reason h = absurd h
   says-outcome e (reply.Line line status) reason h = (e, reason, h.0, h.1)
-  says-outcome e reply.Usage reason h = absurd h
+  says-outcome e (reply.Usage said) reason h = absurd h
   says-outcome e reply.NoMemory reason h = tt
 
-  pub says-unreturned : (e : Unreturned) (answer : Reply) → IsReason p r.class r.method text run_steps e → IsUnreturnedReply e answer → FitsOutcome p r text answer
-  says-unreturned why.NoMethod answer reason h = subst (λ a. FitsOutcome p r text a) (sym h) reason
+  page-outcome : (answer : Reply) → IsReason p r.class r.method text r.steps why.NoMethod → IsPageReply answer → FitsOutcome p r text answer
+  page-outcome (reply.Report line accepted) reason h = absurd h
+  page-outcome (reply.Ran line) reason h = absurd h
+  page-outcome (reply.Line line status) reason h = absurd h
+  page-outcome (reply.Usage said) reason h = (reason, h)
+  page-outcome reply.NoMemory reason h = tt
+
+  pub says-unreturned : (e : Unreturned) (answer : Reply) → IsReason p r.class r.method text r.steps e → IsUnreturnedReply e answer → FitsOutcome p r text answer
+  says-unreturned why.NoMethod answer reason h = page-outcome answer reason h
   says-unreturned (why.NoHeap e) answer reason h = says-outcome (why.NoHeap e) answer reason h
   says-unreturned (why.Stopped s) answer reason h = says-outcome (why.Stopped s) answer reason h
   says-unreturned why.Memory answer reason h = subst (λ a. FitsOutcome p r text a) (sym h) tt
@@ -102,17 +111,25 @@ module _ (holds held : List ℕ → Option (List ℕ)) (before counted after : L
         | inr came ↦ inr (came.0, came.1, earlier-method came.0 r answer came.2)
       ]
 
+-- words that ask for nothing
+pub words-fits : (words : List (List ℕ)) (files : FilesSeen) (answer : Reply) → FitsWords words answer → Fits words files answer
+words-fits words files (reply.Report line accepted) h = absurd h
+words-fits words files (reply.Ran line) h = absurd h
+words-fits words files (reply.Line line status) h = absurd h
+words-fits words files (reply.Usage text) h = record { finding = no_job text; comes = h; is_due = refl }
+words-fits words files reply.NoMemory h = record { finding = no_memory; comes = tt; is_due = refl }
+
 module _ (words : List (List ℕ)) (files : FilesSeen) (job : Job) (asked : job_of words ≡ Some job) where
   -- want of memory
   pub memory-fits : Fits words files reply.NoMemory
-  memory-fits = record { finding = no_memory; comes = (job, asked); is_due = refl }
+  memory-fits = record { finding = no_memory; comes = tt; is_due = refl }
 
   -- a line for a finding
   says-fits : (status : ℕ) (text : List ℕ) (o : Finding) (answer : Reply) → Comes words files o → due o ≡ record { status = status; on_out = false; text = text } → Says status text answer → Fits words files answer
   says-fits status text o (reply.Report line accepted) comes is h = absurd h
   says-fits status text o (reply.Ran line) comes is h = absurd h
   says-fits status text o (reply.Line line number) comes is h = record { finding = o; comes = comes; is_due = is ∙ line-due status number text (string_bytes line) h.0 h.1 }
-  says-fits status text o reply.Usage comes is h = absurd h
+  says-fits status text o (reply.Usage said) comes is h = absurd h
   says-fits status text o reply.NoMemory comes is h = memory-fits
 
   fault-fits : (file : List ℕ) (answer : Reply) → IsRead_in words files.holds file → FitsFault files file answer → Fits words files answer
@@ -138,31 +155,31 @@ module _ (words : List (List ℕ)) (files : FilesSeen) (job : Job) (asked : job_
     refusal-fits (reply.Line line status) h =
         let found = refusal-found (string_bytes line) h.1 in
         says-fits 3 (string_bytes line) found.0 (reply.Line line status) found.1 found.2 (h.0, refl)
-    refusal-fits reply.Usage h = absurd h
+    refusal-fits (reply.Usage said) h = absurd h
     refusal-fits reply.NoMemory h = memory-fits
 
-module _ (words : List (List ℕ)) (files : FilesSeen) (file : List ℕ) (asked : job_of words ≡ Some (verify file)) where
-  program-fits : (bytes : List ℕ) (p : ProgramTree) (answer : Reply) → Tells (files.holds file) bytes → length bytes ≤ source_limit → Spells bytes p → IsReply p answer → Fits words files answer
+module _ (words : List (List ℕ)) (files : FilesSeen) (v : Verify) (asked : job_of words ≡ Some (verify v)) where
+  program-fits : (bytes : List ℕ) (p : ProgramTree) (answer : Reply) → Tells (files.holds v.file) bytes → length bytes ≤ source_limit → Spells bytes p → IsReply p answer → Fits words files answer
   program-fits bytes p (reply.Report text accepted) told within spells h = record {
     finding = reported p h.reported;
-    comes = (record { file = file; bytes = bytes; asked = asked; told = told; within = within; spelled = spells; only = λ q other. spells-one bytes q p other spells }, h.judges);
+    comes = (record { job = v; bytes = bytes; asked = asked; told = told; within = within; spelled = spells; only = λ q other. spells-one bytes q p other spells }, h.judges);
     is_due = λ i. record { status = if sym h.accepted_is i then 0 else 1; on_out = true; text = sym h.text_is i };
   }
   program-fits bytes p (reply.Ran text) told within spells h = absurd h
   program-fits bytes p (reply.Line line status) told within spells h = record {
     finding = crowded (class_text p h.1.id.class) (method_text p h.1.id) h.1.n;
-    comes = record { file = file; bytes = bytes; asked = asked; told = told; within = within; why = record { tree = p; spelled = spells; id = h.1.id; much = h.1.much; class_is = refl; name_is = refl } };
+    comes = record { job = v; bytes = bytes; asked = asked; told = told; within = within; why = record { tree = p; spelled = spells; id = h.1.id; much = h.1.much; class_is = refl; name_is = refl } };
     is_due = line-due 3 status _ (string_bytes line) h.0 h.1.text_is;
   }
-  program-fits bytes p reply.Usage told within spells h = absurd h
-  program-fits bytes p reply.NoMemory told within spells h = memory-fits words files (verify file) asked
+  program-fits bytes p (reply.Usage said) told within spells h = absurd h
+  program-fits bytes p reply.NoMemory told within spells h = memory-fits words files (verify v) asked
 
-  pub file-fits : (answer : Reply) → FitsFile files file answer → Fits words files answer
+  pub file-fits : (answer : Reply) → FitsFile files v.file answer → Fits words files answer
   file-fits answer fits =
       elim fits [
-        | inl failed ↦ fault-fits words files (verify file) asked file answer (as_source (verify file) asked) failed
+        | inl failed ↦ fault-fits words files (verify v) asked v.file answer (as_source (verify v) asked) failed
         | inr came ↦ elim came.3 [
-          | inl refusal ↦ refusal-fits words files (verify file) asked came.0 came.1 came.2 answer refusal
+          | inl refusal ↦ refusal-fits words files (verify v) asked came.0 came.1 came.2 answer refusal
           | inr there ↦ program-fits came.0 there.0 answer came.1 came.2 there.1 there.2
         ]
       ]
@@ -188,10 +205,10 @@ module _ (words : List (List ℕ)) (files : FilesSeen) (r : Run) (asked : job_of
         comes = (record { called = called; text = text; told = held; within = short }, h.1);
         is_due = line-due (unreturned_status h.0) status (unreturned_text h.0) (string_bytes line) h.2 h.3;
       }
-      outcome-fits text held short reply.Usage h = record {
+      outcome-fits text held short (reply.Usage said) h = record {
         finding = unreturned p why.NoMethod;
-        comes = (record { called = called; text = text; told = held; within = short }, h);
-        is_due = refl;
+        comes = (record { called = called; text = text; told = held; within = short }, h.0);
+        is_due = line-due 2 2 usage_page said refl h.1;
       }
       outcome-fits text held short reply.NoMemory h = memory-fits words files (run r) asked
 
@@ -202,12 +219,19 @@ module _ (words : List (List ℕ)) (files : FilesSeen) (r : Run) (asked : job_of
             | inr came ↦ outcome-fits came.0 came.1 came.2 answer came.3
           ]
 
+    none-fits : (answer : Reply) → has_method p r.class r.method ≡ false → IsUsageReply answer → Fits words files answer
+    none-fits (reply.Report line accepted) none h = absurd h
+    none-fits (reply.Ran line) none h = absurd h
+    none-fits (reply.Line line status) none h = absurd h
+    none-fits (reply.Usage said) none h = record { finding = no_method p said; comes = (source, none, h); is_due = refl }
+    none-fits reply.NoMemory none h = memory-fits words files (run r) asked
+
     method-fits : (answer : Reply) → FitsMethod files p r answer → Fits words files answer
     method-fits answer fits =
         elim fits [
           | inl has ↦ heap-fits has.0 answer has.1
           | inr rest ↦ elim rest [
-            | inl none ↦ subst (λ a. Fits words files a) (sym none.1) (record { finding = no_method p; comes = (source, none.0); is_due = refl })
+            | inl none ↦ none-fits answer none.0 none.1
             | inr short ↦ subst (λ a. Fits words files a) (sym short) (memory-fits words files (run r) asked)
           ]
         ]

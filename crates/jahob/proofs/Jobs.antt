@@ -2,7 +2,8 @@
 use Rattle.std.proofs.Common.{◌≡◌, ◌<◌, ℕ, List, length, ap, sym, ◌∙◌}
 use Rattle.std.specs.Prelude.{Option, None, Some, IfSome}
 use Rattle.jahob.specs.Verify.{Tells, source_limit}
-use Rattle.jahob.specs.Words.{Job, Run, run, source_of, verify}
+use Rattle.jahob.specs.Words.{source_of}
+use Rattle.jh_words.specs.CommandLine.{Job, Run, Verify, run, verify}
 
 pub one-job : (o : Option Job) (j k : Job) → o ≡ Some j → o ≡ Some k → j ≡ k
 one-job o j k first second = let both : Some j ≡ Some k = sym first ∙ second in cc
@@ -11,11 +12,11 @@ pub none-job : {P : Type 0} (o : Option Job) (j : Job) → o ≡ None → o ≡ 
 none-job o j none some = let both : None ≡ Some j = sym none ∙ some in cc
 
 -- it isn't both
-pub not-both : {P : Type 0} (file : List ℕ) (r : Run) → verify file ≡ run r → P
-not-both file r e = cc
+pub not-both : {P : Type 0} (v : Verify) (r : Run) → verify v ≡ run r → P
+not-both v r e = cc
 
-pub apart-jobs : {P : Type 0} (o : Option Job) (file : List ℕ) (r : Run) → o ≡ Some (verify file) → o ≡ Some (run r) → P
-apart-jobs o file r first second = not-both file r (one-job o (verify file) (run r) first second)
+pub apart-jobs : {P : Type 0} (o : Option Job) (v : Verify) (r : Run) → o ≡ Some (verify v) → o ≡ Some (run r) → P
+apart-jobs o v r first second = not-both v r (one-job o (verify v) (run r) first second)
 
 pub one-run : (r s : Run) → run r ≡ run s → r ≡ s
 one-run r s e = cc

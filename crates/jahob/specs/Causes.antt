@@ -24,8 +24,10 @@ use Rattle.jahob.specs.Refusals.{Spells, RefusedAt, IsMistyped, IsCircular, IsCr
 use Rattle.jh_name.specs.declared.place.MethodId.{MethodId}
 use Rattle.jh_name.specs.declared.place.Place.{Place}
 use Rattle.jahob.specs.Verify.{Tells, IsRead, IsRefused, IsIll, IsLooped, IsOverfull, IsReport, Judges, OwesProvable, source_limit}
-use Rattle.jahob.specs.Run.{IsBegun, IsCalled, IsOverflow, IsSource, ending_of, ending_status, run_steps}
-use Rattle.jahob.specs.Words.{Job, Run, job_of, run, source_of, verify}
+use Rattle.jahob.specs.Run.{IsBegun, IsCalled, IsOverflow, IsSource, ending_of, ending_status}
+use Rattle.jahob.specs.Words.{source_of}
+use Rattle.jh_words.specs.CommandLine.{Job, Run, Verify, job_of, run, verify}
+use Rattle.jh_words.specs.Usage.{IsUsage, usage_page}
 
 -- What there is to see of the files over a call: what they hold, and for each name how many calls had
 -- failed before it and had after it.
@@ -47,8 +49,8 @@ pub data Finding : Type 0 where
   reported : ProgramTree → List Reported → Finding
   ran : ProgramTree → List ℕ → Finding
   unreturned : ProgramTree → Unreturned → Finding
-  no_job : Finding
-  no_method : ProgramTree → Finding
+  no_job : List ℕ → Finding
+  no_method : ProgramTree → List ℕ → Finding
   refused : ℕ → Place → Finding
   mistyped : ℕ → Place → Finding
   circular : List ℕ → Finding
@@ -63,29 +65,27 @@ pub data IsRead_in (words : List (List ℕ)) (holds : List ℕ → Option (List 
   as_heap : (p : ProgramTree) (called : IsCalled words holds p) → IsRead_in words holds called.source.job.heap
 
 -- When each finding may come. A program is reported on where the bytes spell it, with right answers for its sequents; what a run comes to is
--- exact; a file fails only where its count rose. Want of memory is free where there is a job.
+-- exact; a file fails only where its count rose; what is said where nothing is asked for, or a method isn't there, ends with the page that says what may
+-- be asked for. Want of memory is free.
 abbrev pub Comes : List (List ℕ) → FilesSeen → Finding → Type 0
 Comes words files (reported p rs) = IsRead words files.holds p × Judges p rs
-Comes words files (ran p text) = (begun : IsBegun words files.holds p) × Returns p begun.called.source.job.class begun.called.source.job.method begun.text run_steps text
-Comes words files (unreturned p e) = (begun : IsBegun words files.holds p) × IsReason p begun.called.source.job.class begun.called.source.job.method begun.text run_steps e
-Comes words files no_job = job_of words ≡ None
-Comes words files (no_method p) = (source : IsSource words files.holds p) × (has_method p source.job.class source.job.method ≡ false)
+Comes words files (ran p text) = (begun : IsBegun words files.holds p) × Returns p begun.called.source.job.class begun.called.source.job.method begun.text begun.called.source.job.steps text
+Comes words files (unreturned p e) = (begun : IsBegun words files.holds p) × IsReason p begun.called.source.job.class begun.called.source.job.method begun.text begun.called.source.job.steps e
+Comes words files (no_job text) = (job_of words ≡ None) × IsUsage text
+Comes words files (no_method p text) = (source : IsSource words files.holds p) × (has_method p source.job.class source.job.method ≡ false) × IsUsage text
 Comes words files (refused number place) = IsRefused words files.holds number place
 Comes words files (mistyped rule place) = IsIll words files.holds rule place
 Comes words files (circular name) = IsLooped words files.holds name
 Comes words files (crowded class name n) = IsOverfull words files.holds class name n
 Comes words files (file_failed file) = IsRead_in words files.holds file × Rose (files.before file) (files.after file)
 Comes words files (file_too_long file) = IsRead_in words files.holds file × IfSome (files.holds file) (λ held. source_limit < length held)
-Comes words files no_memory = (job : Job) × (job_of words ≡ Some job)
+Comes words files no_memory = Unit {0}
 
 -- What is due: the exit status, and a text, on the first sink or on the second.
 pub record Due : Type 0 where
   pub status : ℕ
   pub on_out : Bool
   pub text : List ℕ
-
-abbrev pub usage_text : List ℕ
-usage_text = codes "usage: jahob verify FILE" ++ (10 ∷ (codes "       jahob run FILE CLASS.METHOD HEAP" ++ 10 ∷ []))
 
 -- the line for a source that is refused with a number, at a place
 abbrev pub refused_text : ℕ → Place → List ℕ
@@ -158,7 +158,7 @@ unreturned_status (unreturned_by.Stopped why) = stop_status why
 unreturned_status unreturned_by.Memory = 6
 
 abbrev pub unreturned_text : Unreturned → List ℕ
-unreturned_text unreturned_by.NoMethod = usage_text
+unreturned_text unreturned_by.NoMethod = usage_page
 unreturned_text (unreturned_by.NoHeap error) = heap_text error
 unreturned_text (unreturned_by.Stopped why) = stop_text why
 unreturned_text unreturned_by.Memory = no_memory_text
@@ -167,8 +167,8 @@ abbrev pub due : Finding → Due
 due (reported p rs) = record { status = if is_accepted rs then 0 else 1; on_out = true; text = report_of rs }
 due (ran p text) = record { status = 0; on_out = true; text = text }
 due (unreturned p e) = record { status = unreturned_status e; on_out = false; text = unreturned_text e }
-due no_job = record { status = 2; on_out = false; text = usage_text }
-due (no_method p) = record { status = 2; on_out = false; text = usage_text }
+due (no_job text) = record { status = 2; on_out = false; text = text }
+due (no_method p text) = record { status = 2; on_out = false; text = text }
 due (refused number place) = record { status = 3; on_out = false; text = refused_text number place }
 due (mistyped rule place) = record { status = 3; on_out = false; text = mistyped_text rule place }
 due (circular name) = record { status = 3; on_out = false; text = circular_text name }
@@ -219,21 +219,21 @@ IsRunExcused files r status = IsExcused files r.file status ⊎ IsExcused files 
 
 -- a status is that of what a run comes to by the definition of runs, or 14 where something overflows in it
 abbrev pub IsRunStatus : ProgramTree → Run → List ℕ → ℕ → Type 0
-IsRunStatus p r text status = (status ≡ ending_status (ending_of p r.class r.method text run_steps)) ⊎ ((status ≡ 14) × IsOverflow p r.class r.method text run_steps)
+IsRunStatus p r text status = (status ≡ ending_status (ending_of p r.class r.method text r.steps)) ⊎ ((status ≡ 14) × IsOverflow p r.class r.method text r.steps)
 
--- The answers by their conditions. Without a job it is usage. Else, for what the file of the source holds where it tells: 4 where it is too long,
+-- The answers by their conditions. Without a job it is usage, want of memory aside. Else, for what the file of the source holds where it tells: 4 where it is too long,
 -- 3 where it is refused, breaks a type rule or has a cyclic variable. Of a report: 3 where a method has too many sequents, and else 0 or 1; 0 where
 -- all that is owed is provable. Of a run: usage where there is no such method; 4 where the file of the heap is too long; and else the status of what the
 -- run comes to by the definition of runs, or 14 where something overflows in it.
 pub record Exact (words : List (List ℕ)) (files : FilesSeen) (status : ℕ) : Type 0 where
-  pub usage : job_of words ≡ None → (status ≡ 2) ⊎ (status ≡ 5)
+  pub usage : job_of words ≡ None → (status ≡ 2) ⊎ (status ≡ 5) ⊎ (status ≡ 6)
   pub too_long : (job : Job) (bytes : List ℕ) → job_of words ≡ Some job → files.holds (source_of job) ≡ Some bytes → source_limit < length bytes → (status ≡ 4) ⊎ IsExcused files (source_of job) status
   pub refused : (job : Job) (bytes : List ℕ) (number : ℕ) (place : Place) → job_of words ≡ Some job → files.holds (source_of job) ≡ Some bytes → length bytes ≤ source_limit → RefusedAt bytes number place → (status ≡ 3) ⊎ IsExcused files (source_of job) status
   pub mistyped : (job : Job) (bytes : List ℕ) (rule : ℕ) (place : Place) → job_of words ≡ Some job → files.holds (source_of job) ≡ Some bytes → length bytes ≤ source_limit → IsMistyped bytes rule place → (status ≡ 3) ⊎ IsExcused files (source_of job) status
   pub circular : (job : Job) (bytes name : List ℕ) → job_of words ≡ Some job → files.holds (source_of job) ≡ Some bytes → length bytes ≤ source_limit → IsCircular bytes name → (status ≡ 3) ⊎ IsExcused files (source_of job) status
-  pub crowded : (file bytes class name : List ℕ) (n : ℕ) → job_of words ≡ Some (verify file) → files.holds file ≡ Some bytes → length bytes ≤ source_limit → IsCrowded bytes class name n → (status ≡ 3) ⊎ IsExcused files file status
-  pub reported : (file bytes : List ℕ) (p : ProgramTree) → job_of words ≡ Some (verify file) → files.holds file ≡ Some bytes → length bytes ≤ source_limit → Spells bytes p → OwesLittle p → (status ≡ 0) ⊎ (status ≡ 1) ⊎ IsExcused files file status
-  pub proved : (file bytes : List ℕ) (p : ProgramTree) → job_of words ≡ Some (verify file) → files.holds file ≡ Some bytes → length bytes ≤ source_limit → Spells bytes p → OwesProvable p → (status ≡ 0) ⊎ IsExcused files file status
+  pub crowded : (v : Verify) (bytes class name : List ℕ) (n : ℕ) → job_of words ≡ Some (verify v) → files.holds v.file ≡ Some bytes → length bytes ≤ source_limit → IsCrowded bytes class name n → (status ≡ 3) ⊎ IsExcused files v.file status
+  pub reported : (v : Verify) (bytes : List ℕ) (p : ProgramTree) → job_of words ≡ Some (verify v) → files.holds v.file ≡ Some bytes → length bytes ≤ source_limit → Spells bytes p → OwesLittle p → (status ≡ 0) ⊎ (status ≡ 1) ⊎ IsExcused files v.file status
+  pub proved : (v : Verify) (bytes : List ℕ) (p : ProgramTree) → job_of words ≡ Some (verify v) → files.holds v.file ≡ Some bytes → length bytes ≤ source_limit → Spells bytes p → OwesProvable p → (status ≡ 0) ⊎ IsExcused files v.file status
   pub no_method : (r : Run) (bytes : List ℕ) (p : ProgramTree) → job_of words ≡ Some (run r) → files.holds r.file ≡ Some bytes → length bytes ≤ source_limit → Spells bytes p → has_method p r.class r.method ≡ false → (status ≡ 2) ⊎ IsExcused files r.file status
   pub heap_too_long : (r : Run) (bytes text : List ℕ) (p : ProgramTree) → job_of words ≡ Some (run r) → files.holds r.file ≡ Some bytes → length bytes ≤ source_limit → Spells bytes p → has_method p r.class r.method ≡ true →
       files.holds r.heap ≡ Some text → source_limit < length text → (status ≡ 4) ⊎ IsRunExcused files r status
@@ -245,7 +245,7 @@ abbrev pub reply_due : Reply → Due
 reply_due (reply.Report text accepted) = record { status = if accepted then 0 else 1; on_out = true; text = string_bytes text }
 reply_due (reply.Ran text) = record { status = 0; on_out = true; text = string_bytes text }
 reply_due (reply.Line text status) = record { status = status; on_out = false; text = string_bytes text }
-reply_due reply.Usage = record { status = 2; on_out = false; text = usage_text }
+reply_due (reply.Usage text) = record { status = 2; on_out = false; text = text }
 reply_due reply.NoMemory = record { status = 6; on_out = false; text = no_memory_text }
 
 -- a reply is a line with a status, or want of memory
@@ -306,18 +306,30 @@ FitsFault files file answer =
 abbrev pub FitsFile : FilesSeen → List ℕ → Reply → Type 0
 FitsFile files file answer = FitsFault files file answer ⊎ ((bytes : List ℕ) × Tells (files.holds file) bytes × (length bytes ≤ source_limit) × FitsBytes bytes answer)
 
+-- a reply is usage, or want of memory
+abbrev pub IsUsageReply : Reply → Type 0
+IsUsageReply (reply.Usage text) = IsUsage text
+IsUsageReply reply.NoMemory = Unit {0}
+IsUsageReply _ = ⊥
+
+-- the same with the page alone
+abbrev pub IsPageReply : Reply → Type 0
+IsPageReply (reply.Usage text) = text ≡ usage_page
+IsPageReply reply.NoMemory = Unit {0}
+IsPageReply _ = ⊥
+
 -- a reply says why a run doesn't return
 abbrev pub IsUnreturnedReply : Unreturned → Reply → Type 0
-IsUnreturnedReply unreturned_by.NoMethod answer = answer ≡ reply.Usage
+IsUnreturnedReply unreturned_by.NoMethod answer = IsPageReply answer
 IsUnreturnedReply (unreturned_by.NoHeap error) answer = Says (heap_status error) (heap_text error) answer
 IsUnreturnedReply (unreturned_by.Stopped why) answer = Says (stop_status why) (stop_text why) answer
 IsUnreturnedReply unreturned_by.Memory answer = answer ≡ reply.NoMemory
 
 -- A reply is right for a method that is run from the bytes of a heap text.
 abbrev pub FitsOutcome : ProgramTree → Run → List ℕ → Reply → Type 0
-FitsOutcome p r text (reply.Ran printed) = Returns p r.class r.method text run_steps (string_bytes printed)
-FitsOutcome p r text (reply.Line line status) = (e : Unreturned) × IsReason p r.class r.method text run_steps e × (status ≡ unreturned_status e) × (string_bytes line ≡ unreturned_text e)
-FitsOutcome p r text reply.Usage = IsReason p r.class r.method text run_steps unreturned_by.NoMethod
+FitsOutcome p r text (reply.Ran printed) = Returns p r.class r.method text r.steps (string_bytes printed)
+FitsOutcome p r text (reply.Line line status) = (e : Unreturned) × IsReason p r.class r.method text r.steps e × (status ≡ unreturned_status e) × (string_bytes line ≡ unreturned_text e)
+FitsOutcome p r text (reply.Usage said) = IsReason p r.class r.method text r.steps unreturned_by.NoMethod × (said ≡ usage_page)
 FitsOutcome p r text reply.NoMemory = Unit {0}
 FitsOutcome p r text _ = ⊥
 
@@ -329,7 +341,7 @@ FitsHeap files p r answer = FitsFault files r.heap answer ⊎ ((text : List ℕ)
 abbrev pub FitsMethod : FilesSeen → ProgramTree → Run → Reply → Type 0
 FitsMethod files p r answer =
     ((has_method p r.class r.method ≡ true) × FitsHeap files p r answer)
-    ⊎ ((has_method p r.class r.method ≡ false) × (answer ≡ reply.Usage))
+    ⊎ ((has_method p r.class r.method ≡ false) × IsUsageReply answer)
     ⊎ (answer ≡ reply.NoMemory)
 
 -- A reply is right for the bytes of a source that has a method to be run.
@@ -339,6 +351,12 @@ FitsSource files r bytes answer = FitsRefusal bytes answer ⊎ ((p : ProgramTree
 -- A reply is right for a run.
 abbrev pub FitsRun : FilesSeen → Run → Reply → Type 0
 FitsRun files r answer = FitsFault files r.file answer ⊎ ((bytes : List ℕ) × Tells (files.holds r.file) bytes × (length bytes ≤ source_limit) × FitsSource files r bytes answer)
+
+-- A reply is right for words that ask for nothing, or is want of memory.
+abbrev pub FitsWords : List (List ℕ) → Reply → Type 0
+FitsWords words (reply.Usage text) = (job_of words ≡ None) × IsUsage text
+FitsWords words reply.NoMemory = Unit {0}
+FitsWords words _ = ⊥
 
 -- A reply is right for the words and the files: what is due for it is due for a finding that may come.
 pub record Fits (words : List (List ℕ)) (files : FilesSeen) (answer : Reply) : Type 0 where

@@ -1,5 +1,4 @@
 pub mod Words
-pub mod Held
 pub mod Refusals
 pub mod Verify
 pub mod Run

@@ -15,11 +15,7 @@ use Rattle.jh_runner.specs.Runs.{outcome_on, OverflowsOn}
 use Rattle.jh_outcome.specs.Outcomes.{Returns, Starts, has_method}
 use Rattle.jahob.specs.Refusals.{Spells}
 use Rattle.jahob.specs.Verify.{Tells, source_limit}
-use Rattle.jahob.specs.Words.{Run, job_of, run}
-
--- the most steps that a run may take
-abbrev pub run_steps : ℕ
-run_steps = 10000
+use Rattle.jh_words.specs.CommandLine.{Run, job_of, run}
 
 -- The words ask for a run in a file, whose bytes spell a program.
 pub record IsSource (words : List (List ℕ)) (holds : List ℕ → Option (List ℕ)) (p : ProgramTree) : Type 0 where
@@ -48,7 +44,7 @@ pub record Runs (words : List (List ℕ)) (holds : List ℕ → Option (List ℕ
   pub program : ProgramTree
   pub begun : IsBegun words holds program
   pub printed : List ℕ
-  pub returns : Returns program begun.called.source.job.class begun.called.source.job.method begun.text run_steps printed
+  pub returns : Returns program begun.called.source.job.class begun.called.source.job.method begun.text begun.called.source.job.steps printed
   pub written : Appends before printed after
 
 -- What a run from a heap text comes to by the definition of runs: there is no such method, the text spells no heap with arguments for

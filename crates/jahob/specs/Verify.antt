@@ -11,7 +11,8 @@ use Rattle.jh_obligations.specs.Sources.{Owes}
 use Rattle.jh_prove.specs.Right.{AllRight, AllProvable}
 use Rattle.jh_report.specs.Report.{Reported, report_of, is_accepted}
 use Rattle.jahob.specs.Refusals.{Spells, RefusedAt, IsMistyped, IsCircular, IsCrowded, method_text}
-use Rattle.jahob.specs.Words.{Job, job_of, source_of, verify}
+use Rattle.jahob.specs.Words.{source_of}
+use Rattle.jh_words.specs.CommandLine.{Job, Verify, job_of, verify}
 
 -- the most bytes that a source may have
 abbrev pub source_limit : ℕ
@@ -54,10 +55,10 @@ pub record IsReport (p : ProgramTree) (text : List ℕ) (accepted : Bool) : Type
 
 -- The words ask for the report on a file, whose bytes spell one program.
 pub record IsRead (words : List (List ℕ)) (holds : List ℕ → Option (List ℕ)) (p : ProgramTree) : Type 0 where
-  pub file : List ℕ
+  pub job : Verify
   pub bytes : List ℕ
-  pub asked : job_of words ≡ Some (verify file)
-  pub told : Tells (holds file) bytes
+  pub asked : job_of words ≡ Some (verify job)
+  pub told : Tells (holds job.file) bytes
   pub within : length bytes ≤ source_limit
   pub spelled : Spells bytes p
   pub only : (q : ProgramTree) → Spells bytes q → q ≡ p
@@ -91,10 +92,10 @@ pub record IsLooped (words : List (List ℕ)) (holds : List ℕ → Option (List
 
 -- The words ask for the report on a file, whose bytes spell a program with a method of too many sequents.
 pub record IsOverfull (words : List (List ℕ)) (holds : List ℕ → Option (List ℕ)) (class name : List ℕ) (n : ℕ) : Type 0 where
-  pub file : List ℕ
+  pub job : Verify
   pub bytes : List ℕ
-  pub asked : job_of words ≡ Some (verify file)
-  pub told : Tells (holds file) bytes
+  pub asked : job_of words ≡ Some (verify job)
+  pub told : Tells (holds job.file) bytes
   pub within : length bytes ≤ source_limit
   pub why : IsCrowded bytes class name n
 

@@ -9,7 +9,6 @@ mod reporting;
 mod running;
 mod top;
 mod verification;
-mod words;
 
 pub use laws::at_most_one_refusal;
 pub use top::jahob;

@@ -7,7 +7,7 @@ ghost use Rattle.jahob.specs.Refusals.{IsWhy};
 
 use crate::error::Refusal;
 use jh_files::FileFault;
-use jh_name::{Name, NoMemory, Place};
+use jh_name::{Name, NoMemory, Place, Text};
 use std::alloc::Global;
 
 /// What a call comes to, before anything is written.
@@ -19,7 +19,8 @@ pub enum Reply {
     Ran(String),
     /// A line on the second sink, and the status that goes with it.
     Line(String, u8),
-    Usage,
+    /// What is said where nothing is asked for, or the method isn't there.
+    Usage(Text),
     NoMemory,
 }
 
@@ -32,7 +33,7 @@ impl Reply {
             Reply::Report(_, accepted) => { if *accepted { 0 } else { 1 } }
             Reply::Ran(_) => 0,
             Reply::Line(_, status) => *status,
-            Reply::Usage => 2,
+            Reply::Usage(_) => 2,
             Reply::NoMemory => 6,
         }
     }
@@ -45,9 +46,7 @@ impl Reply {
             Reply::Report(text, _) => text.as_str(),
             Reply::Ran(text) => text.as_str(),
             Reply::Line(text, _) => text.as_str(),
-            Reply::Usage => {
-                "usage: jahob verify FILE\n       jahob run FILE CLASS.METHOD HEAP\n"
-            }
+            Reply::Usage(text) => text.text(),
             Reply::NoMemory => "no memory\n",
         }
     }
@@ -60,7 +59,7 @@ impl Reply {
             Reply::Report(_, _) => true,
             Reply::Ran(_) => true,
             Reply::Line(_, _) => false,
-            Reply::Usage => false,
+            Reply::Usage(_) => false,
             Reply::NoMemory => false,
         }
     }

@@ -3,22 +3,19 @@
 
 ghost use Rattle.std.specs.Prelude.{◌≡◌, ◌+◌, ◌-◌, ◌<◌, ◌^◌, ℕ, List, length, string_bytes, IfOk};
 ghost use Rattle.jh_ast.specs.Bare.{program_tree};
-ghost use Rattle.jahob.specs.Causes.{FitsHeap, FitsMethod, FitsOutcome, FitsRun, FitsSource, IsUnreturnedReply, Says, bad_line_text, heap_status, heap_text, ill_line_text, steps_out_text, stop_status, stop_text, stopped_text};
-ghost use Rattle.jahob.specs.Held.{run_in};
+ghost use Rattle.jahob.specs.Causes.{FitsHeap, FitsMethod, FitsOutcome, FitsRun, FitsSource, IsPageReply, IsUnreturnedReply, IsUsageReply, Says, bad_line_text, heap_status, heap_text, ill_line_text, steps_out_text, stop_status, stop_text, stopped_text};
+ghost use Rattle.jh_words.specs.Held.{run_in};
 
 use crate::reading::{SOURCE_LIMIT, read};
 use crate::reply::{Reply, reply_to_fault, reply_to_refusal, said};
-use crate::words::Run;
 use jh_files::Files;
 use jh_heap::HeapError;
-use jh_name::{NoMemory, Place};
+use jh_name::{NoMemory, Place, Text};
 use jh_outcome::{Unreturned, has_method, run_method};
 use jh_todo::Stop;
 use jh_unfold::Unfolded;
+use jh_words::{Run, no_method, page};
 use std::alloc::Global;
-
-/// The most steps that a run may take.
-const STEPS: u64 = 10_000;
 
 /// The line for a run that stops at a place.
 fn stopped_line(alloc: Global, kind: &str, place: Place) -> Result<String, NoMemory>
@@ -82,12 +79,22 @@ fn reply_to_heap_error(alloc: Global, error: HeapError) -> Reply
     }
 }
 
+/// The page that says what may be asked for.
+fn page_alone(alloc: Global) -> Reply
+    ensures { IsPageReply result }
+{
+    match String::from_str(alloc, page()) {
+        Ok(text) => Reply::Usage(Text::of(text)),
+        Err(_) => Reply::NoMemory,
+    }
+}
+
 /// Says why a run doesn't return.
 fn reply_to_unreturned(alloc: Global, unreturned: Unreturned) -> Reply
     ensures { IsUnreturnedReply unreturned result }
 {
     match unreturned {
-        Unreturned::NoMethod => Reply::Usage,
+        Unreturned::NoMethod => page_alone(alloc),
         Unreturned::NoHeap(error) => reply_to_heap_error(alloc, error),
         Unreturned::Stopped(stop) => reply_to_stop(alloc, stop),
         Unreturned::Memory => Reply::NoMemory,
@@ -99,7 +106,7 @@ fn reply_to_text(alloc: Global, source: Unfolded, run: &Run<'_>, text: &[u8]) ->
     requires { length text.now + 1 < 2 ^ 32 }
     ensures { FitsOutcome (program_tree source.program) (run_in run.now) text.now result }
 {
-    match run_method(alloc, source, run.class, run.method, text, STEPS) {
+    match run_method(alloc, source, run.class, run.method, text, run.steps) {
         Ok(printed) => Reply::Ran(printed),
         Err(unreturned) => reply_to_unreturned(alloc, unreturned),
     }
@@ -116,6 +123,16 @@ fn run_heap<F: Files>(alloc: Global, source: Unfolded, run: &Run<'_>, files: &mu
     }
 }
 
+/// Says that a program has no such method.
+fn reply_to_no_method(alloc: Global, run: &Run<'_>) -> Reply
+    ensures { IsUsageReply result }
+{
+    match no_method(alloc, run.file, run.class, run.method) {
+        Ok(text) => Reply::Usage(text),
+        Err(NoMemory) => Reply::NoMemory,
+    }
+}
+
 /// What a run in a program comes to, where the program has the method.
 fn run_program<F: Files>(alloc: Global, source: Unfolded, run: &Run<'_>, files: &mut F) -> Reply
     ensures fits { FitsMethod (record { holds = F.holds files.old; before = F.faults files.old; after = F.faults files.new }) (program_tree source.program) (run_in run.now) result }
@@ -123,7 +140,7 @@ fn run_program<F: Files>(alloc: Global, source: Unfolded, run: &Run<'_>, files: 
 {
     match has_method(alloc, source.typed().program(), run.class, run.method) {
         Ok(true) => run_heap(alloc, source, run, files),
-        Ok(false) => Reply::Usage,
+        Ok(false) => reply_to_no_method(alloc, run),
         Err(NoMemory) => Reply::NoMemory,
     }
 }

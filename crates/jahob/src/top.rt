@@ -2,30 +2,41 @@
 #![tactic(auto)]
 
 ghost use Rattle.std.specs.Prelude.{◌≡◌, ◌≢◌, ◌⊎◌, ℕ, List, Some, map, string_bytes};
-ghost use Rattle.jahob.specs.Causes.{Answered, Delivered, Exact, Fits, HaveNoFault, Takes, reply_due};
+ghost use Rattle.jahob.specs.Causes.{Answered, Delivered, Exact, Fits, FitsWords, HaveNoFault, Takes, reply_due};
 ghost use Rattle.jahob.specs.Run.{Runs};
 ghost use Rattle.jahob.specs.Verify.{Reports, Verifies};
-ghost use Rattle.jahob.specs.Words.{Run, job_of, run, verify};
+ghost use Rattle.jh_words.specs.CommandLine.{Run, Verify, job_of, run, verify};
+ghost use Rattle.jh_words.specs.Usage.{IsRefusal};
 
 use crate::reading::spelled_source_is_accepted;
 use crate::reply::Reply;
 use crate::running::run_file;
 use crate::verification::verify_file;
-use crate::words::{Job, job_of};
 use jh_files::{Files, Sink, put_all};
 use jh_obligations::{owed_is_one, owed_is_sound, too_many_is_exact};
 use jh_prove::{provable_is_proved, proved_is_valid};
+use jh_words::{Job, WordsError, read};
 use std::alloc::Global;
+
+/// Says that words ask for nothing.
+fn reply_to_words(error: WordsError) -> Reply
+    ensures { (ws : List (List ℕ)) → IsRefusal ws error → FitsWords ws result }
+{
+    match error {
+        WordsError::Usage(text) => Reply::Usage(text),
+        WordsError::Memory => Reply::NoMemory,
+    }
+}
 
 /// What the words and the files that they name come to.
 fn reply_to<F: Files>(alloc: Global, words: &[String], files: &mut F) -> Reply
     ensures fits { Fits (map (λ word. string_bytes word) words.now) (record { holds = F.holds files.old; before = F.faults files.old; after = F.faults files.new }) result }
     ensures held { (name : List ℕ) → F.holds files.new name ≡ F.holds files.old name }
 {
-    match job_of(words) {
-        None => Reply::Usage,
-        Some(Job::Verify(file)) => verify_file(alloc, file, files),
-        Some(Job::Run(run)) => run_file(alloc, &run, files),
+    match read(alloc, words) {
+        Ok(Job::Verify(verify)) => verify_file(alloc, verify.file, files),
+        Ok(Job::Run(run)) => run_file(alloc, &run, files),
+        Err(error) => reply_to_words(error),
     }
 }
 
@@ -66,10 +77,10 @@ pub fn jahob<F: Files, O: Sink, E: Sink>(
     err: &mut E,
 ) -> u8
     // The headline: where `verify` ends with status 0, the bytes read spell one program, and it is sound.
-    ensures headline { (file : List ℕ) → job_of (map (λ word. string_bytes word) words.now) ≡ Some (verify file) → result ≡ 0 → Verifies (map (λ word. string_bytes word) words.now) (F.holds files.old) }
+    ensures headline { (v : Verify) → job_of (map (λ word. string_bytes word) words.now) ≡ Some (verify v) → result ≡ 0 → Verifies (map (λ word. string_bytes word) words.now) (F.holds files.old) }
 
     // Where it ends with status 0 or 1, the whole report was written, and no answer is Unproved just where it is 0; then the program that it reports on is sound.
-    ensures report { (file : List ℕ) → job_of (map (λ word. string_bytes word) words.now) ≡ Some (verify file) → (result ≡ 0) ⊎ (result ≡ 1) → Reports (map (λ word. string_bytes word) words.now) (F.holds files.old) (O.written out.old) (O.written out.new) result }
+    ensures report { (v : Verify) → job_of (map (λ word. string_bytes word) words.now) ≡ Some (verify v) → (result ≡ 0) ⊎ (result ≡ 1) → Reports (map (λ word. string_bytes word) words.now) (F.holds files.old) (O.written out.old) (O.written out.new) result }
 
     // Where `run` ends with status 0, the run of the method by the definition returns, and its result and the heap at its end were written whole.
     ensures returned { (r : Run) → job_of (map (λ word. string_bytes word) words.now) ≡ Some (run r) → result ≡ 0 → Runs (map (λ word. string_bytes word) words.now) (F.holds files.old) (O.written out.old) (O.written out.new) }

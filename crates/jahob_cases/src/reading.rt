@@ -1,6 +1,7 @@
 //! Reading cases from a text. README.md says how they are written.
 
 use crate::case::{Case, Part, Taking};
+use jh_words::page;
 use std::alloc::{AllocError, Global};
 
 /// The words of a line; two single quotes are an empty word.
@@ -87,6 +88,7 @@ fn read_mark(
         "blanks" => add_blanks(case, part, number_of(rest))?,
         "byte" => case.add(part, &[byte_of(rest)])?,
         "chop" => case.chop(part),
+        "usage" => case.add(part, page().as_bytes())?,
         "out" => return Ok(Part::Out),
         "err" => return Ok(Part::Err),
         "file" => {

@@ -1,6 +1,6 @@
 use Rattle.std.proofs.Common.{ℕ, List, inr, subst}
 use Rattle.jahob.specs.Causes.{FitsSource}
-use Rattle.jahob.specs.Held.{run_in}
+use Rattle.jh_words.specs.Held.{run_in}
 use Rattle.jahob.proofs.Fitting.{earlier-source}
 use Rattle.jahob.proofs.running.run_file.Goals as goal
 

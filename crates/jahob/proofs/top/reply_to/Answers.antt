@@ -1,21 +1,21 @@
-use Rattle.std.proofs.Common.{ap, sym, refl, ◌∙◌}
-use Rattle.std.specs.Prelude.{Some}
-use Rattle.std.specs.Option.{option_map}
-use Rattle.jahob.specs.Causes.{no_job}
-use Rattle.jahob.specs.Held.{job_in, run_in}
-use Rattle.jahob.proofs.Fitting.{file-fits, run-fits}
+use Rattle.std.proofs.Common.{ap, ◌∙◌}
+use Rattle.std.specs.Prelude.{Some, map, string_bytes}
+use Rattle.jh_words.specs.Held.{job_in, run_in, verify_in}
+use Rattle.jahob.proofs.Fitting.{file-fits, run-fits, words-fits}
 use Rattle.jahob.proofs.top.reply_to.Goals as goal
 
 -- src/top.rt
-pub returns-in-None-clause-fits : goal.returns-in-None-clause-fits
-returns-in-None-clause-fits g c = record { finding = no_job; comes = sym c.job_of.ensures ∙ ap (λ o. option_map job_in o) c.in-None.is; is_due = refl }
+pub returns-in-Ok-Verify-clause-fits : goal.returns-in-Ok-Verify-clause-fits
+returns-in-Ok-Verify-clause-fits g c =
+    file-fits _ _ (verify_in c.in-Ok-Verify.verify) (c.in-Ok-Verify.ensures.job ∙ ap (λ j. Some (job_in j)) c.in-Ok-Verify.field-0-is) c.verify_file.result c.verify_file.ensures.fits
 
 -- src/top.rt
-pub returns-in-Some-Verify-clause-fits : goal.returns-in-Some-Verify-clause-fits
-returns-in-Some-Verify-clause-fits g c =
-    file-fits _ _ c.in-Some-Verify.file.now (sym c.job_of.ensures ∙ ap (λ o. option_map job_in o) c.in-Some-Verify.is ∙ ap (λ j. Some (job_in j)) c.in-Some-Verify.field-0-is) c.verify_file.result c.verify_file.ensures.fits
+pub returns-in-Ok-Run-clause-fits : goal.returns-in-Ok-Run-clause-fits
+returns-in-Ok-Run-clause-fits g c =
+    run-fits _ _ (run_in c.in-Ok-Run.run') (c.in-Ok-Run.ensures.job ∙ ap (λ j. Some (job_in j)) c.in-Ok-Run.field-0-is) c.run_file.result c.run_file.ensures.fits
 
 -- src/top.rt
-pub returns-in-Some-Run-clause-fits : goal.returns-in-Some-Run-clause-fits
-returns-in-Some-Run-clause-fits g c =
-    run-fits _ _ (run_in c.in-Some-Run.run') (sym c.job_of.ensures ∙ ap (λ o. option_map job_in o) c.in-Some-Run.is ∙ ap (λ j. Some (job_in j)) c.in-Some-Run.field-0-is) c.run_file.result c.run_file.ensures.fits
+pub returns-in-Err-clause-fits : goal.returns-in-Err-clause-fits
+returns-in-Err-clause-fits g c =
+    let words = map (λ word. string_bytes word) c.args.words.now in
+    words-fits words _ c.reply_to_words.result (c.reply_to_words.ensures words c.in-Err.ensures.refusal)
