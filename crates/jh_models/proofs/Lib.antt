@@ -4,4 +4,5 @@ mod Clashing
 mod Models
 mod Cases
 mod Leaves
+mod Fixing
 pub mod Growing

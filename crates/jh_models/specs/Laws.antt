@@ -1,13 +1,14 @@
 -- What is true of propagation, clashes and explanations.
-use Rattle.std.specs.Prelude.{ℕ, ◌<◌, ◌^◌, List, length}
+use Rattle.std.specs.Prelude.{◌⊎◌, ℕ, ◌<◌, ◌^◌, true, false, List, length}
 use Rattle.jh_tree.specs.Tree.{FormulaTree}
 use Rattle.jh_structure.specs.Structures.{Structure}
 use Rattle.jh_structure.specs.Literals.{LiteralTree, IsListed, AreListed, MeetsOne, Meets}
-use Rattle.jh_models.specs.Atoms.{StandsIn, IsGroundAtom}
+use Rattle.jh_models.specs.Atoms.{literal, StandsIn, IsGroundAtom}
 use Rattle.jh_models.specs.Branches.{ClosedTree}
 use Rattle.jh_models.specs.Budget.{IsSpent}
 use Rattle.jh_models.specs.GroundModel.{IsGroundModel}
-use Rattle.jh_models.specs.Clashes.{Clash, Propagated, AllPropagated}
+use Rattle.jh_models.specs.Clashes.{Clash, Propagated, AllPropagated, IsOpen}
+use Rattle.jh_models.specs.Fixpoints.{IsFixed, IsFixpoint}
 use Rattle.jh_models.specs.Explanations.{Closes}
 use Rattle.jh_models.specs.Making.{MakesAll}
 
@@ -46,3 +47,16 @@ SpentIsBelow =
 pub record PropagationGrows : Type 0 where
   pub more : (is : List FormulaTree) (ls ks : List LiteralTree) → AreListed ks ls → (l : LiteralTree) → Propagated is ls l → Propagated is ks l
   pub twice : (is : List FormulaTree) (ls had : List LiteralTree) → AllPropagated is ls had → (l : LiteralTree) → Propagated is had l → Propagated is ls l
+
+-- Propagation of a list adds what its fixpoint has and nothing else, and the list is open.
+pub record FixpointIsOpen : Type 0 where
+  pub only : (is : List FormulaTree) (ls had : List LiteralTree) → IsFixpoint is ls had → (l : LiteralTree) → Propagated is ls l → IsListed had l
+  pub is_open : (is : List FormulaTree) (ls had : List LiteralTree) → IsFixpoint is ls had → IsOpen is ls
+
+-- A fixpoint that decides each ground atom is a ground model.
+abbrev pub WholeFixpointIsModel : Type 0
+WholeFixpointIsModel =
+    (is : List FormulaTree) (had : List LiteralTree) → IsFixed is had →
+    ((l : LiteralTree) → IsListed had l → IsGroundAtom is l.atom) →
+    ((a : FormulaTree) → IsGroundAtom is a → IsListed had (literal a true) ⊎ IsListed had (literal a false)) →
+    IsGroundModel is had

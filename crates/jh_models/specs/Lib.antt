@@ -2,6 +2,7 @@ pub mod Atoms
 pub mod Truths
 pub mod GroundModel
 pub mod Clashes
+pub mod Fixpoints
 pub mod Explanations
 pub mod Branches
 pub mod Budget

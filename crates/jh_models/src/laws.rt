@@ -1,4 +1,4 @@
-ghost use Rattle.jh_models.specs.Laws.{PropagationIsSound, ClashIsSound, ModelsHoldPropagated, ExplainedIsClosed, PropagationGrows, SpentIsBelow};
+ghost use Rattle.jh_models.specs.Laws.{PropagationIsSound, ClashIsSound, ModelsHoldPropagated, ExplainedIsClosed, PropagationGrows, SpentIsBelow, FixpointIsOpen, WholeFixpointIsModel};
 
 /// A structure that meets the literals of a list and makes the instances true meets what propagation adds. It is a law, and
 /// does nothing.
@@ -29,4 +29,14 @@ pub fn spent_is_below()
 /// Propagation of more literals adds more, and what it added adds nothing more. It is a law, and does nothing.
 pub fn propagation_grows()
     ensures { PropagationGrows }
+{}
+
+/// Propagation of a list adds what its fixpoint has and nothing else, and the list is open. It is a law, and does nothing.
+pub fn fixpoint_is_open()
+    ensures { FixpointIsOpen }
+{}
+
+/// A fixpoint that decides each ground atom is a ground model. It is a law, and does nothing.
+pub fn whole_fixpoint_is_model()
+    ensures { WholeFixpointIsModel }
 {}
