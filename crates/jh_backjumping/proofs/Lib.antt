@@ -1,0 +1,4 @@
+mod Lists
+mod Paths
+mod On
+mod Back
