@@ -193,7 +193,7 @@ mutual
 begins-open : IsOpen four []
 begins-open = record {
   none_false = λ had hs h. none-by-none (subst (λ ks. SomeFalse four ks) (nothing-more had hs) h);
-  met = (flags 0, λ l h. absurd (nothing l h));
+  met = λ none. none (flags 0) (λ l h. absurd (nothing l h));
 }
 
 -- The branch of the decision p is closed by p and q; without p, q explains nothing.

@@ -37,7 +37,7 @@ module _ (is : List FormulaTree) (ls had : List LiteralTree) (begins : AreListed
   pub fixed-open : IsOpen is ls
   fixed-open = record {
     none_false = λ some hs h. fixed.none_false (some-false-more some had (all-fixed some hs) is h);
-    met = (fixed.met.0, λ l h. meets-listed fixed.met.0 had l (fixed-listed l h) fixed.met.1);
+    met = λ none. fixed.met (λ s met. none s (λ l h. meets-listed s had l (fixed-listed l h) met));
   }
 
 -- one of several that stand in a list

@@ -1,4 +1,4 @@
-mod Opposites
+pub mod Opposites
 mod Propagation
 mod Clashing
 mod Models

@@ -36,11 +36,8 @@ module _ {O N T S F : Type 0} (s : Structure O N T S F) (ls : List LiteralTree) 
   all-made (i ∷ is) h = (true-made i h.0, all-made is h.1)
 
 module _ (is : List FormulaTree) (m : List LiteralTree) (g : IsGroundModel is m) where
-  abbrev structure : Structure ℕ ℕ ℕ ℕ ℕ
-  structure = g.met.0
-
-  makes : MakesAll structure is
-  makes = all-made structure m g.met.1 is g.true_in
+  makes : (s : Structure ℕ ℕ ℕ ℕ ℕ) → Meets s m → MakesAll s is
+  makes s met = all-made s m met is g.true_in
 
   -- one of both is listed; the other is met
   listed : (a : FormulaTree) (p : Bool) → IsDecided m a → (IsListed m (literal a (not p)) → ⊥) → IsListed m (literal a p)
@@ -52,11 +49,12 @@ module _ (is : List FormulaTree) (m : List LiteralTree) (g : IsGroundModel is m)
   pub model-holds : (l : LiteralTree) → IsGroundAtom is l.atom → (IsListed m (opposite l) → ⊥) → IsListed m l
   model-holds l at never = listed l.atom l.holds (g.decides l.atom at) never
 
-  met-listed : (l : LiteralTree) → IsGroundAtom is l.atom → MeetsOne structure l.holds l.atom → IsListed m l
-  met-listed l at h = model-holds l at (λ both. not-opposites structure l.atom l.holds h (meets-listed structure m (opposite l) both g.met.1))
+  -- what each structure meets that meets the model
+  by-structures : (l : LiteralTree) → IsGroundAtom is l.atom → ((s : Structure ℕ ℕ ℕ ℕ ℕ) → Meets s m → MeetsOne s l.holds l.atom) → IsListed m l
+  by-structures l at f = model-holds l at (λ both. g.met (λ s met. not-opposites s l.atom l.holds (f s met) (meets-listed s m (opposite l) both met)))
 
-  met-there : (ls : List LiteralTree) → AreListed m ls → (l : LiteralTree) → Propagated is ls l → MeetsOne structure l.holds l.atom
-  met-there ls held l h = propagated-met is ls structure makes (meets-all structure m ls held g.met.1) l h
+  met-there : (ls : List LiteralTree) → AreListed m ls → (l : LiteralTree) → Propagated is ls l → (s : Structure ℕ ℕ ℕ ℕ ℕ) → Meets s m → MeetsOne s l.holds l.atom
+  met-there ls held l h s met = propagated-met is ls s (makes s met) (meets-all s m ls held met) l h
 
   held-one-of : (ls : List LiteralTree) → AreListed m ls → (l : LiteralTree) → IsListed ls l → IsListed m l
   held-one-of [] held l h = absurd h
@@ -65,12 +63,12 @@ module _ (is : List FormulaTree) (m : List LiteralTree) (g : IsGroundModel is m)
 
   pub model-propagated : (ls : List LiteralTree) → AreListed m ls → (l : LiteralTree) → Propagated is ls l → IsListed m l
   model-propagated ls held _ (given l h) = held-one-of ls held l h
-  model-propagated ls held _ (forced had l hs at h) = met-listed l at (met-there ls held l (forced had l hs at h))
-  model-propagated ls held _ (equal had a hs at e f) = met-listed (literal a true) at (met-there ls held (literal a true) (equal had a hs at e f))
-  model-propagated ls held _ (other had l hs at e f) = met-listed l at (met-there ls held l (other had l hs at e f))
+  model-propagated ls held _ (forced had l hs at h) = by-structures l at (met-there ls held l (forced had l hs at h))
+  model-propagated ls held _ (equal had a hs at e f) = by-structures (literal a true) at (met-there ls held (literal a true) (equal had a hs at e f))
+  model-propagated ls held _ (other had l hs at e f) = by-structures l at (met-there ls held l (other had l hs at e f))
 
   no-clash : (ls : List LiteralTree) → AreListed m ls → Clash is ls → ⊥
-  no-clash ls held c = clash-unmade is ls c structure makes (meets-all structure m ls held g.met.1)
+  no-clash ls held c = g.met (λ s met. clash-unmade is ls c s (makes s met) (meets-all s m ls held met))
 
   held-more : (ls : List LiteralTree) (l : LiteralTree) → AreListed m ls → IsListed m l → AreListed m (ls ++ (l ∷ []))
   held-more [] l held h = (h, tt)

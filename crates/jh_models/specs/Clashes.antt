@@ -35,7 +35,7 @@ abbrev pub DecidesAtom : List FormulaTree → List LiteralTree → FormulaTree �
 DecidesAtom is ls a = Propagated is ls (literal a true) ⊎ Propagated is ls (literal a false)
 
 -- A list is open where the literals after propagation make no instance false by its connectives alone, and some structure
--- meets them.
+-- meets them: it isn't so that none does.
 pub record IsOpen (is : List FormulaTree) (ls : List LiteralTree) : Type 0 where
   pub none_false : (had : List LiteralTree) → AllPropagated is ls had → SomeFalse is had → ⊥
-  pub met : (s : Structure ℕ ℕ ℕ ℕ ℕ) × ((l : LiteralTree) → Propagated is ls l → MeetsOne s l.holds l.atom)
+  pub met : ((s : Structure ℕ ℕ ℕ ℕ ℕ) → ((l : LiteralTree) → Propagated is ls l → MeetsOne s l.holds l.atom) → ⊥) → ⊥

@@ -1,15 +1,14 @@
 -- Ground models: each ground atom of the instances is said to hold or not to hold, so that each instance is true, and some
 -- structure meets what is said.
-use Rattle.std.specs.Prelude.{◌⊎◌, ℕ, true, false, List}
+use Rattle.std.specs.Prelude.{◌⊎◌, true, false, List}
 use Rattle.jh_tree.specs.Tree.{FormulaTree}
-use Rattle.jh_structure.specs.Structures.{Structure}
-use Rattle.jh_structure.specs.Literals.{LiteralTree, IsListed, Meets}
+use Rattle.jh_structure.specs.Literals.{LiteralTree, IsListed, NotMet}
 use Rattle.jh_models.specs.Atoms.{literal, IsGroundAtom}
 use Rattle.jh_models.specs.Truths.{AllTrue}
 
--- some structure, whose values are numbers, meets the literals
+-- Some structure, whose values are numbers, meets the literals: it isn't so that none does.
 abbrev pub IsMet : List LiteralTree → Type 0
-IsMet ls = (s : Structure ℕ ℕ ℕ ℕ ℕ) × Meets s ls
+IsMet ls = NotMet ls → ⊥
 
 abbrev pub IsDecided : List LiteralTree → FormulaTree → Type 0
 IsDecided ls a = IsListed ls (literal a true) ⊎ IsListed ls (literal a false)
