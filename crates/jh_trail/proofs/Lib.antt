@@ -1,0 +1,9 @@
+pub mod Connectives
+pub mod Formed
+pub mod Shaped
+pub mod Listed
+pub mod Noting
+pub mod Choosing
+pub mod Seeing
+pub mod Reasoning
+pub mod Gathering
