@@ -1,0 +1,10 @@
+mod Lists
+mod Measures
+mod Pushing
+mod Quieting
+mod Forcing
+mod Saids
+mod Talking
+mod Implied
+mod Fixes
+mod Starts

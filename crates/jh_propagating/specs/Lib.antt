@@ -1,0 +1,5 @@
+pub mod Problems
+pub mod Speaking
+pub mod Branches
+pub mod Closings
+pub mod Passing

@@ -1,0 +1,45 @@
+-- What the classes of equality are told of a literal.
+use Rattle.std.specs.Prelude.{◌≡◌, ◌↔◌, ℕ, true, List, [], ◌∷◌, Option, Some, None}
+use Rattle.jh_tree.specs.Tree.{ValueTree}
+use Rattle.jh_table.specs.declared.shapes.Shape.{Shape}
+use Rattle.jh_table.specs.declared.shapes.Shape.TheVariants as shape
+use Rattle.jh_structure.specs.Literals.{MeetsOne, Meets}
+use Rattle.jh_models.specs.Atoms.{is_equality}
+use Rattle.jh_models.specs.Clashes.{Follows}
+use Rattle.jh_flat.specs.TreeValues.{NumberStructure}
+use Rattle.jh_cong.specs.Saying.{CanBeSaid, literal_of, literals}
+use Rattle.jh_cong.specs.declared.literal.Said.{Said}
+use Rattle.jh_trail.specs.declared.decided.Decided.{Decided}
+use Rattle.jh_trail.specs.Saying.{truth_at, literal_tree_at, literals_at}
+
+-- a structure meets what is told exactly where it meets the literal
+pub record Speaks (ts : List ValueTree) (e : Said) (d : Decided) : Type 0 where
+  pub can : CanBeSaid ts e.left e.right
+  pub same : (s : NumberStructure) → MeetsOne s (literal_of ts e).holds (literal_of ts e).atom ↔ MeetsOne s d.holds (truth_at ts d.atom)
+
+-- one for each literal, in their order
+abbrev pub AreSpoken : List ValueTree → List Decided → List Said → Type 0
+AreSpoken ts [] [] = Unit {0}
+AreSpoken ts [] (e ∷ es) = ⊥
+AreSpoken ts (d ∷ ds) [] = ⊥
+AreSpoken ts (d ∷ ds) (e ∷ es) = Speaks ts e d × AreSpoken ts ds es
+
+-- An equation follows where it holds alone; any other literal may follow.
+abbrev pub MayFollow : List ValueTree → Decided → Type 0
+MayFollow ts d = is_equality (truth_at ts d.atom) ≡ true → d.holds ≡ true
+
+-- A literal follows from what the classes were told.
+abbrev pub IsTold : List ValueTree → List Said → Decided → Type 0
+IsTold ts said d = (s : NumberStructure) → Meets s (literals ts said) → MeetsOne s d.holds (truth_at ts d.atom)
+
+-- A literal follows from literals.
+abbrev pub IsImplied : List ValueTree → List Decided → Decided → Type 0
+IsImplied ts had d = Follows (literals_at ts had) (literal_tree_at ts d)
+
+-- the sides of an equation
+unfoldable pub sides_of : Shape → Option (ℕ × ℕ)
+sides_of (shape.EqObject a b) = Some (a, b)
+sides_of (shape.EqNumber a b) = Some (a, b)
+sides_of (shape.EqSet a b) = Some (a, b)
+sides_of (shape.Iff a b) = Some (a, b)
+sides_of _ = None

@@ -1,0 +1,17 @@
+//! Propagation: all that follows from decisions, by instances and by equality, with the reason of each literal.
+#![tactic(auto)]
+
+mod branch;
+mod following;
+mod problem;
+mod propagating;
+mod settling;
+mod speaking;
+mod starting;
+mod telling;
+
+pub use branch::{Branch, Cause, Reason, decide};
+pub use problem::{Problem, pose};
+pub use propagating::propagate;
+pub use speaking::spoken;
+pub use starting::{begin, restart};

@@ -1,0 +1,78 @@
+ghost use Rattle.std.specs.Prelude.{◌≡◌, ◌<◌, ◌≤◌, [], ℕ, List, IfNone, IfOk, IfSome, OnOk, drop, false, length, true};
+ghost use Rattle.jh_table.specs.Nodes.{nodes};
+ghost use Rattle.jh_cong.specs.Saying.{IsUnmet};
+ghost use Rattle.jh_models.specs.Fixpoints.{IsFixpoint};
+ghost use Rattle.jh_trail.specs.Saying.{literals_at};
+ghost use Rattle.jh_propagating.specs.Branches.{IsBranch, undecided_count};
+ghost use Rattle.jh_propagating.specs.Closings.{IsCause};
+ghost use Rattle.jh_propagating.specs.Passing.{GoesOn, IsFixed, IsMore, IsPassed};
+ghost use Rattle.jh_propagating.specs.Problems.{instances_in};
+
+use crate::following::follow;
+use crate::settling::settle;
+use crate::telling::tell;
+use crate::{Branch, Cause, Problem};
+use jh_name::NoMemory;
+
+/// What a pass over all rules comes to.
+#[derive(Drop)]
+enum Passed {
+    Closed(Cause),
+    More,
+    Fixed,
+}
+
+/// Puts to the trail what follows by equality, where nothing waits and the classes know the whole trail. The answer is whether
+/// nothing was put.
+fn is_fixed(problem: &Problem, branch: &mut Branch) -> Result<bool, NoMemory>
+    requires branch { IsBranch problem.now [] branch.old }
+    requires over { drop branch.old.head branch.old.waiting.items ≡ [] }
+    requires told { length branch.old.classes.said ≡ length branch.old.trail }
+    requires met { IsUnmet (nodes branch.old.classes.table) branch.old.classes.said → ⊥ }
+    ensures goes { OnOk result (GoesOn problem.now branch.old branch.new) }
+    ensures fixed { IfOk result (λ fixed. fixed ≡ true → IsFixed problem.now branch.new) }
+    ensures more { IfOk result (λ fixed. fixed ≡ false → IsMore problem.now branch.old branch.new) }
+{
+    let count = branch.trail.len();
+    follow(problem, branch)?;
+    Ok(branch.trail.len() == count)
+}
+
+/// Looks at the instances that wait, tells the classes what was found, and puts to the trail what follows by equality.
+fn pass(problem: &Problem, branch: &mut Branch) -> Result<Passed, NoMemory>
+    requires branch { IsBranch problem.now [] branch.old }
+    ensures { IfOk result (λ passed. IsPassed problem.now branch.old branch.new passed) }
+{
+    if let Some(place) = settle(problem, branch)? {
+        return Ok(Passed::Closed(Cause::Instance(place)));
+    }
+    if let Some(places) = tell(problem, branch)? {
+        return Ok(Passed::Closed(Cause::Equality(places)));
+    }
+    if is_fixed(problem, branch)? {
+        Ok(Passed::Fixed)
+    } else {
+        Ok(Passed::More)
+    }
+}
+
+/// Adds to the trail all that propagation adds to the decisions. The answer is why the branch is closed, where it is; where it
+/// isn't, nothing more can be added.
+pub fn propagate(problem: &Problem, branch: &mut Branch) -> Result<Option<Cause>, NoMemory>
+    requires branch { IsBranch problem.now [] branch.old }
+    ensures fixpoint { IfOk result (λ found. IfNone found (IsFixpoint (instances_in (nodes branch.new.classes.table) problem.now) (literals_at (nodes branch.new.classes.table) branch.new.decisions.items) (literals_at (nodes branch.new.classes.table) branch.new.trail))) }
+    ensures branch { IfOk result (λ found. IfNone found (IsBranch problem.now [] branch.new)) }
+    ensures cause { IfOk result (λ found. IfSome found (λ cause. IsCause (nodes branch.new.classes.table) problem.now branch.new.trail cause)) }
+    ensures closed { IfOk result (λ found. IfSome found (λ cause. (busy : List ℕ) × IsBranch problem.now busy branch.new)) }
+    ensures table { OnOk result (branch.new.classes.table ≡ branch.old.classes.table) }
+    ensures decisions { OnOk result (branch.new.decisions.items ≡ branch.old.decisions.items) }
+    ensures count { OnOk result (undecided_count problem.now branch.new ≤ undecided_count problem.now branch.old) }
+{
+    loop {
+        match pass(problem, branch)? {
+            Passed::Closed(cause) => return Ok(Some(cause)),
+            Passed::More => {}
+            Passed::Fixed => return Ok(None),
+        }
+    }
+}
