@@ -1,0 +1,3 @@
+mod Keeping
+mod Normals
+mod Making
