@@ -1,0 +1,6 @@
+mod Closings
+pub mod Elses
+mod Joins
+mod Lifts
+mod Plains
+pub mod Shapes

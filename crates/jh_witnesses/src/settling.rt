@@ -1,0 +1,38 @@
+#![tactic(auto, using(jh_table::proofs::Listed::growth_steps))]
+
+ghost use Rattle.std.specs.Prelude.{◌≡◌, ◌+◌, [], true, IfOk, slice_get};
+ghost use Rattle.jh_tree.specs.Tree.{FormulaTree};
+ghost use Rattle.jh_table.specs.Entries.{is_truth};
+ghost use Rattle.jh_table.specs.Growth.{Extends};
+ghost use Rattle.jh_table.specs.Nodes.{nodes};
+ghost use Rattle.jh_instances.specs.Prenex.{prenex};
+ghost use Rattle.jh_instances.specs.Witnesses.{witnesses, witnessed};
+ghost use Rattle.jh_witnesses.specs.Standing.{IsFormula};
+
+use crate::pulling::prenexed;
+use crate::witnessing::witnessed;
+use jh_name::NoMemory;
+use jh_table::Table;
+
+/// A formula with constants for what is said to be there, and the number behind those of the constants.
+#[derive(Clone, Copy, Debug)]
+pub struct Settled {
+    pub node: usize,
+    pub next: u32,
+}
+
+/// The node of a formula in negation normal form in which each `ex` under no `all` becomes a constant, and each `all` that
+/// is then under no `ex` is in front.
+pub fn settle(table: &mut Table, node: usize, first: u32) -> Result<Settled, NoMemory>
+    requires there { is_truth (slice_get (nodes table.old) node) ≡ true }
+    ensures node { (a : FormulaTree) → IsFormula table.old node a → IfOk result (λ made. IsFormula table.new made.node (prenex (witnessed a [] first))) }
+    ensures next { (a : FormulaTree) → IsFormula table.old node a → IfOk result (λ made. made.next ≡ first + witnesses a) }
+    ensures grows { Extends table.old table.new }
+{
+    let there = witnessed(table, node, first)?;
+    let node = prenexed(table, there.node)?;
+    Ok(Settled {
+        node,
+        next: there.next,
+    })
+}
