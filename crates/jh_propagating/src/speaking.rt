@@ -1,10 +1,10 @@
 #![tactic(auto, unfolding(crate::specs::Speaking::sides_of))]
 
-ghost use Rattle.std.specs.Prelude.{◌≡◌, false};
+ghost use Rattle.std.specs.Prelude.{◌≡◌, false, true};
 ghost use Rattle.jh_table.specs.Nodes.{nodes};
 ghost use Rattle.jh_trail.specs.Saying.{IsTruth, truth_at};
 ghost use Rattle.jh_propagating.specs.Problems.{IsProblem, is_label};
-ghost use Rattle.jh_propagating.specs.Speaking.{Speaks, sides_of};
+ghost use Rattle.jh_propagating.specs.Speaking.{MayFollow, Speaks, sides_of};
 
 use crate::Problem;
 use jh_cong::Said;
@@ -29,7 +29,8 @@ pub fn spoken(table: &Table, problem: &Problem, literal: Decided) -> Said
     requires problem { IsProblem (nodes table.now) problem.now }
     requires formula { IsTruth (nodes table.now) literal.atom }
     requires unlabelled { is_label (truth_at (nodes table.now) literal.atom) ≡ false }
-    ensures { Speaks (nodes table.now) result literal }
+    ensures speaks { Speaks (nodes table.now) result literal }
+    ensures equal { MayFollow (nodes table.now) literal → result.holds ≡ true }
 {
     match sides(table.shape(literal.atom)) {
         Some((left, right)) => Said {

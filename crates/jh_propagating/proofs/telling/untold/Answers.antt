@@ -29,7 +29,7 @@ loop-place-preserved c =
     let ts = nodes c.args.branch.now.classes.table in
     let low : length c.args.branch.now.classes.said ≤ c.loop-place.place = omega (arith, c.loop-place.auto.place, c.len-place.ensures) in
     let lt : c.loop-place.place < length c.args.branch.now.trail = omega (arith, c.loop-place-test.true, c.len-place-end.ensures) in
-    let speaks : Speaks ts c.spoken.result c.literal.result = subst (λ t. Speaks (nodes t) c.spoken.result c.literal.result) c.table-table.ensures c.spoken.ensures in
+    let speaks : Speaks ts c.spoken.result c.literal.result = subst (λ t. Speaks (nodes t) c.spoken.result c.literal.result) c.table-table.ensures c.spoken.ensures.speaks in
     subst (λ (xs : List Said). AreSpoken ts (drop (length c.args.branch.now.classes.said) (take (c.loop-place.place + 1) c.args.branch.now.trail)) xs) (sym c.in_ok-push.ensures.items)
     (spoken-next ts c.args.branch.now.trail (length c.args.branch.now.classes.said) c.loop-place.place c.literal.result c.loop-place.batch.items c.spoken.result low lt c.literal.ensures c.loop-place.invariant speaks)
 

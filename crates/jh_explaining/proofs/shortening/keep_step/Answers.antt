@@ -1,0 +1,25 @@
+use Rattle.std.proofs.Common.{sym, ap, ◌∙◌, subst, List, [], ◌∷◌, ◌++◌}
+use Rattle.jh_cong.proofs.Oks.{if-ok, on-ok}
+use Rattle.jh_table.specs.Nodes.{nodes}
+use Rattle.jh_models.specs.Clashes.{Clash}
+use Rattle.jh_trail.specs.declared.decided.Decided.{Decided}
+use Rattle.jh_trail.specs.Saying.{literals_at}
+use Rattle.jh_propagating.specs.Problems.{instances_in}
+use Rattle.jh_explaining.specs.Keeping.{IsQuiet}
+use Rattle.jh_explaining.proofs.Lists.{literals-more}
+use Rattle.jh_explaining.proofs.Tests.{ok-both}
+use Rattle.jh_explaining.proofs.shortening.keep_step.Goals as goal
+
+pub returns-clause-trail : goal.returns-clause-trail
+returns-clause-trail c =
+    let longer = ap (λ (xs : List Decided). xs ++ c.args.step.literal ∷ []) c.requires.trail ∙ sym (literals-more c.args.kept.now.items c.args.step) in
+    on-ok c.keep.result (λ e. e ∙ longer) c.keep.ensures.trail
+
+pub returns-clause-clash : goal.returns-clause-clash
+returns-clause-clash c =
+    let ts = nodes c.args.branch.now.classes.table in
+    let longer = ap (λ (xs : List Decided). xs ++ c.args.step.literal ∷ []) c.requires.trail ∙ sym (literals-more c.args.kept.now.items c.args.step) in
+    if-ok c.keep.result (λ b f is. subst (λ (xs : List Decided). Clash (instances_in ts c.args.problem.now) (literals_at ts xs)) longer (f is)) c.keep.ensures.clash
+
+pub returns-clause-quiet : goal.returns-clause-quiet
+returns-clause-quiet c = ok-both c.keep.result (λ b e f is. subst (IsQuiet c.args.problem.now c.keep.new.branch.classes) (sym e) (f is)) c.keep.ensures.trail c.keep.ensures.quiet

@@ -1,0 +1,34 @@
+-- What the classes answer where they are told one more literal.
+use Rattle.std.specs.Prelude.{◌≡◌, ℕ, Bool, true, false, List, [], ◌∷◌, ◌++◌}
+use Rattle.jh_tree.specs.Tree.{ValueTree}
+use Rattle.jh_table.specs.Nodes.{nodes}
+use Rattle.jh_closure.specs.Nodes.{Has}
+use Rattle.jh_cong.specs.Saying.{Asserted, IsUnmet}
+use Rattle.jh_cong.specs.declared.literal.Said.{Said}
+use Rattle.jh_trail.specs.declared.decided.Decided.{Decided}
+use Rattle.jh_propagating.specs.declared.problem.Problem.{Problem}
+use Rattle.jh_propagating.specs.Closings.{IsFalseAt}
+use Rattle.jh_propagating.specs.Speaking.{Speaks}
+
+-- They were told it, and some structure meets all; or none does, and they are as they were.
+pub record IsSaidToo (old new : Asserted) (d : Decided) : Type 0 where
+  pub said : Said
+  pub speaks : Speaks (nodes old.table) said d
+  pub classes : new ≡ record { table = old.table; said = old.said ++ said ∷ [] }
+  pub met : IsUnmet (nodes old.table) (old.said ++ said ∷ []) → ⊥
+
+pub record IsRefused (old new : Asserted) (d : Decided) : Type 0 where
+  pub said : Said
+  pub speaks : Speaks (nodes old.table) said d
+  pub classes : new ≡ old
+  pub unmet : IsUnmet (nodes old.table) (old.said ++ said ∷ [])
+
+abbrev pub IsAsked : Asserted → Asserted → Decided → Bool → Type 0
+IsAsked old new d true = IsSaidToo old new d
+IsAsked old new d false = IsRefused old new d
+
+-- One of the instances at these places is false.
+pub record IsFalseAmong (ts : List ValueTree) (p : Problem) (had : List Decided) (places : List ℕ) : Type 0 where
+  pub place : ℕ
+  pub there : Has places place
+  pub is_false : IsFalseAt ts p had place
