@@ -1,2 +1,3 @@
 pub mod SetsOpen
 pub mod Standing
+mod Arms

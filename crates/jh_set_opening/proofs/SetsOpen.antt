@@ -3,7 +3,6 @@ use Rattle.std.proofs.Common.{◌≡◌, refl, ℕ, ◌==◌, not, ◌&&◌, ◌
 use Rattle.jh_tree.specs.Tree.{TermTree, SetTree, FormulaTree}
 use Rattle.jh_tree.specs.Tree as t
 use Rattle.jh_tree.specs.Meaning.{Interp, every, agree, term_value, set_value, truth}
-use Rattle.jh_rebuild.specs.declared.polarity.Polarity.{Polarity}
 use Rattle.jh_rebuild.specs.declared.polarity.Polarity.TheVariants as pol
 use Rattle.jh_rebuild.specs.Sound.{Sound}
 use Rattle.jh_rebuild.proofs.Stands.{truth-built}

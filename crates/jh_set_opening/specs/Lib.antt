@@ -1,2 +1,3 @@
 pub mod SetsOpened
 pub mod Laws
+pub mod Joining
