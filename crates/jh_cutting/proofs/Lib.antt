@@ -1,1 +1,5 @@
 pub mod Cutting
+mod Standing
+mod Foldings
+mod Arms
+mod Foreigns

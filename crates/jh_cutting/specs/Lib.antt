@@ -1,2 +1,4 @@
 pub mod Cut
+pub mod Folding
+pub mod Leaves
 pub mod Laws
