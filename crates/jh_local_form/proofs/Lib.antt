@@ -1,9 +1,9 @@
-mod Among
-mod PartNames
+pub mod Among
+pub mod PartNames
 mod DroppedNames
 mod Holding
 mod Described
-mod Naming
+pub mod Naming
 mod NamedClosed
 mod Chained
 mod Sound
