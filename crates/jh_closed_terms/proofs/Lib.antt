@@ -1,2 +1,2 @@
 mod Additions
-mod Shapes
+pub mod Shapes
