@@ -31,14 +31,14 @@ parts-local : (n : ℕ) (fresh : List Name) (xs : List FormulaTree) → AllLocal
 parts-local n fresh [] l = tt
 parts-local n fresh (a ∷ xs) l = (prenex-shaped a l.0, parts-local n fresh xs l.1)
 
-taken-local : (facts : List FormulaTree) (n k : ℕ) → AllLocal facts → AllLocal (formulas (taken facts n k))
+pub taken-local : (facts : List FormulaTree) (n k : ℕ) → AllLocal facts → AllLocal (formulas (taken facts n k))
 taken-local [] n k l = tt
 taken-local (a ∷ more) n k l =
     subst AllLocal (sym (formulas-both (parts_of n a k) (taken more (suc n) (k + witnesses a))))
     (local-both (formulas (parts_of n a k)) (formulas (taken more (suc n) (k + witnesses a)))
     (parts-local n (constants_from k (witnesses a)) (conjuncts (witnessed a [] k)) (conjuncts-local (witnessed a [] k) (witnessed-shaped a [] k l.0))) (taken-local more (suc n) (k + witnesses a) l.1))
 
-null-whole : Whole (t.null ∷ [])
+pub null-whole : Whole (t.null ∷ [])
 unfolding is_closed_term
 null-whole w (inl e) = (ap (λ z. is_closed_term z 0) e, ap is_local_term e, inl e, λ x h. subst (λ z. In x (terms_in z)) e h)
 null-whole w (inr h) = absurd h
@@ -122,7 +122,7 @@ hyps-local (h ∷ hs) rest l g = (
   hyps-local hs rest (both-right (has_local_shape h.fact) (list_all (λ k. has_local_shape k.fact) hs) l) g,
 )
 
-facts-local : (s : SequentTree) → is_local s ≡ true → AllLocal (normal_facts s)
+pub facts-local : (s : SequentTree) → is_local s ≡ true → AllLocal (normal_facts s)
 facts-local s l =
     hyps-local s.hyps (t.negation (unmarked_formula s.goal) ∷ []) (both-left (list_all (λ h. has_local_shape h.fact) s.hyps) (has_local_shape s.goal) l)
     (normal-shaped (t.negation (unmarked_formula s.goal)) true (bare-shaped s.goal (both-right (list_all (λ h. has_local_shape h.fact) s.hyps) (has_local_shape s.goal) l)), tt)

@@ -21,6 +21,7 @@ mod Growth
 mod Comings
 mod Tallies
 mod Counted
+mod Locality
 mod Examples
 mod ListedCases
 mod CountedCases

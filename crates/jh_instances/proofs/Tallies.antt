@@ -236,7 +236,7 @@ module _ (ts : List TermTree) where
       let more : length ts ^ v ≤ n ^ v = power-le v (length ts) n le in
       (formulas here, formulas later, formulas-both here later, omega (arith, many, few, more), puts-alike h cs k (good-new ts v h.old whole), all-puts-made whole n le hs (k + made_constants here))
 
-  all-puts-local : Whole ts → (hs : List AtHand) (k : ℕ) → AllLocal (hand hs) → AllLocal (formulas (all_puts hs ts k))
+  pub all-puts-local : Whole ts → (hs : List AtHand) (k : ℕ) → AllLocal (hand hs) → AllLocal (formulas (all_puts hs ts k))
   all-puts-local whole [] k l = tt
   all-puts-local whole (h ∷ hs) k l =
       let cs : List (List TermTree) = new_choices (in_front h.formula) ts h.old in
@@ -253,7 +253,7 @@ pub record Bounded (facts : ℕ) (p : Progress) (c : Tally) : Type 0 where
   pub has : Has p.terms (hand p.at_hand)
   pub whole : Whole p.terms
 
-hand-before : (ts : List TermTree) (hs gs : List AtHand) → hand (put_before ts hs ++ gs) ≡ hand hs ++ hand gs
+pub hand-before : (ts : List TermTree) (hs gs : List AtHand) → hand (put_before ts hs ++ gs) ≡ hand hs ++ hand gs
 hand-before ts [] gs = refl
 hand-before ts (h ∷ hs) gs = ap (λ z. h.formula ∷ z) (hand-before ts hs gs)
 

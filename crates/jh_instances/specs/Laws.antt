@@ -1,9 +1,10 @@
 -- What is true of instances.
 use Rattle.std.specs.Prelude.{◌≡◌, ◌+◌, ◌≤◌, ℕ, true, length}
+use Rattle.std.specs.List.{list_all}
 use Rattle.jh_tree.specs.Agreement.{AgreeOn}
 use Rattle.jh_tree.specs.Meaning.{Interp, InUniverse}
 use Rattle.jh_sequent.specs.Sequents.{SequentTree, IsValid}
-use Rattle.jh_split.specs.Local.{is_local}
+use Rattle.jh_split.specs.Local.{has_local_shape, is_local}
 use Rattle.jh_split.specs.Split.{before}
 use Rattle.jh_steps.specs.Closes.{facts_of, AllHold, Clash}
 use Rattle.jh_instances.specs.Entries.{formulas, taken}
@@ -24,3 +25,7 @@ ClashingInstancesGiveValid = (s : SequentTree) (k r : ℕ) → is_free s k ≡ t
 -- Beside the facts no more is made of a sequent of local shape than is counted.
 abbrev pub MadeAtMostCounted : Type 0
 MadeAtMostCounted = (s : SequentTree) (k r : ℕ) → is_local s ≡ true → length (made s k r) ≤ length (taken (normal_facts s) 0 k) + count s k r
+
+-- What is made of a sequent of local shape has local shape.
+abbrev pub MadeIsLocal : Type 0
+MadeIsLocal = (s : SequentTree) (k r : ℕ) → is_local s ≡ true → list_all has_local_shape (formulas (made s k r)) ≡ true

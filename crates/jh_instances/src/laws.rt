@@ -1,4 +1,4 @@
-ghost use Rattle.jh_instances.specs.Laws.{MadeFollows, ClashingInstancesGiveValid, MadeAtMostCounted};
+ghost use Rattle.jh_instances.specs.Laws.{MadeFollows, ClashingInstancesGiveValid, MadeAtMostCounted, MadeIsLocal};
 
 /// Where the facts of a sequent are true, all that is made of them is, with suitable objects for the constants. It is a law,
 /// and does nothing.
@@ -14,4 +14,9 @@ pub fn clashing_instances_give_valid()
 /// Beside the facts no more is made of a sequent of local shape than is counted. It is a law, and does nothing.
 pub fn made_at_most_counted()
     ensures { MadeAtMostCounted }
+{}
+
+/// What is made of a sequent of local shape has local shape. It is a law, and does nothing.
+pub fn made_is_local()
+    ensures { MadeIsLocal }
 {}

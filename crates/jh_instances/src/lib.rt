@@ -3,4 +3,4 @@
 
 mod laws;
 
-pub use laws::{clashing_instances_give_valid, made_at_most_counted, made_follows};
+pub use laws::{clashing_instances_give_valid, made_at_most_counted, made_follows, made_is_local};
