@@ -1,0 +1,7 @@
+mod Gathered
+mod Tested
+mod Standing
+mod Led
+mod Changed
+mod Known
+mod Reached
