@@ -1,0 +1,73 @@
+use Rattle.std.proofs.Common.{◌≡◌, sym, subst, ℕ, List}
+use Rattle.std.proofs.lemmas.Result.{IfOk-weaker}
+use Rattle.jh_tree.specs.Tree.{ValueTree}
+use Rattle.jh_table.proofs.Listed.{extends-trans}
+use Rattle.jh_sequent.specs.Sequents.{SequentTree}
+use Rattle.jh_local_form.specs.Each.{formulas}
+use Rattle.jh_local_form.specs.Named.{updates}
+use Rattle.jh_local_form.specs.LocalOf.{with_names, cut_down, with_axioms, local_with}
+use Rattle.jh_updates.specs.Updating.{IsNaming}
+use Rattle.jh_updates.specs.Remaining.{naming-grows}
+use Rattle.jh_localized.specs.Forming.{IsFormed}
+use Rattle.jh_localized.proofs.Forms.{formed-grows}
+use Rattle.jh_localized.proofs.localizing.local_from.Goals as goal
+
+pub with_names-requires-clause-naming : goal.with_names-requires-clause-naming
+with_names-requires-clause-naming c = (updates (formulas c.requires.form.0), c.in_ok-naming.ensures.naming c.requires.form.0 c.requires.form.1)
+
+pub with_names-requires-clause-form : goal.with_names-requires-clause-form
+with_names-requires-clause-form c = (c.requires.form.0, formed-grows c.args.table.now c.naming_of.new.table c.naming_of.ensures.grows c.args.form.now c.requires.form.0 c.requires.form.1)
+
+pub cut_down-requires : goal.cut_down-requires
+cut_down-requires c =
+    let s = c.requires.form.0 in
+    let us = updates (formulas s) in
+    record {
+      form = (
+        with_names us c.in_ok-naming.naming.first s,
+        c.in_ok-named.ensures.form us s (c.in_ok-naming.ensures.naming s c.requires.form.1) (formed-grows c.args.table.now c.naming_of.new.table c.naming_of.ensures.grows c.args.form.now s c.requires.form.1),
+      );
+    }
+
+pub with_axioms-requires-clause-naming : goal.with_axioms-requires-clause-naming
+with_axioms-requires-clause-naming c =
+    let s = c.requires.form.0 in (
+      updates (formulas s),
+      naming-grows c.naming_of.new.table c.cut_down.new.table (extends-trans c.naming_of.new.table c.with_names.new.table c.cut_down.new.table c.with_names.ensures.grows c.cut_down.ensures.grows) c.in_ok-naming.naming (updates (formulas s)) (c.in_ok-naming.ensures.naming s c.requires.form.1),
+    )
+
+pub with_axioms-requires-clause-form : goal.with_axioms-requires-clause-form
+with_axioms-requires-clause-form c =
+    let s = c.requires.form.0 in
+    let us = updates (formulas s) in
+    let named = c.in_ok-named.ensures.form us s (c.in_ok-naming.ensures.naming s c.requires.form.1) (formed-grows c.args.table.now c.naming_of.new.table c.naming_of.ensures.grows c.args.form.now s c.requires.form.1) in
+    (cut_down (with_names us c.in_ok-naming.naming.first s), c.in_ok-left.ensures.form (with_names us c.in_ok-naming.naming.first s) named)
+
+pub returns-clause-form : goal.returns-clause-form
+returns-clause-form c =
+    let t0 = c.args.table.now in
+    let t1 = c.naming_of.new.table in
+    let t3 = c.cut_down.new.table in
+    let t4 = c.with_axioms.new.table in
+    let n = c.in_ok-naming.naming in
+    let two = extends-trans t1 c.with_names.new.table t3 c.with_names.ensures.grows c.cut_down.ensures.grows in
+    IfOk-weaker
+    c.with_axioms.result
+    (λ made. (us : List ValueTree) (s : SequentTree) → IsNaming t3 n us → IsFormed t3 c.in_ok-left.left s → IsFormed t4 made (with_axioms us n.first s))
+    (λ made. (s : SequentTree) → IsFormed t0 c.args.form.now s → IsFormed t4 made (local_with (updates (formulas s)) c.args.first s))
+    (λ made h s is.
+    let us = updates (formulas s) in
+    let naming = c.in_ok-naming.ensures.naming s is in
+    let named = c.in_ok-named.ensures.form us s naming (formed-grows t0 t1 c.naming_of.ensures.grows c.args.form.now s is) in
+    let left = c.in_ok-left.ensures.form (with_names us n.first s) named in
+    subst (λ (k : ℕ). IsFormed t4 made (local_with us k s)) c.in_ok-naming.ensures.first (h us (cut_down (with_names us n.first s)) (naming-grows t1 t3 two n us naming) left))
+    c.with_axioms.ensures.form
+
+pub returns-clause-grows : goal.returns-clause-grows
+returns-clause-grows c =
+    let t0 = c.args.table.now in
+    let t1 = c.naming_of.new.table in
+    let t2 = c.with_names.new.table in
+    let t3 = c.cut_down.new.table in
+    let t4 = c.with_axioms.new.table in
+    extends-trans t0 t1 t4 c.naming_of.ensures.grows (extends-trans t1 t2 t4 c.with_names.ensures.grows (extends-trans t2 t3 t4 c.cut_down.ensures.grows c.with_axioms.ensures.grows))
