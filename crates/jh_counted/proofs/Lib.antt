@@ -1,0 +1,4 @@
+mod Capping
+mod Nulls
+mod Tallying
+mod Weights
