@@ -1,0 +1,4 @@
+mod Lists
+mod Backs
+mod Leaves
+mod Descents

@@ -1,0 +1,14 @@
+use Rattle.std.proofs.Common.{sym, ap, ◌∙◌, List, [], ◌∷◌, ◌++◌, take}
+use Rattle.std.proofs.lemmas.List.{map-append}
+use Rattle.jh_cong.proofs.Looking.{take-next}
+use Rattle.jh_trail.specs.declared.decided.Decided.{Decided}
+use Rattle.jh_explaining.specs.Steps.{literals_of}
+use Rattle.jh_explaining.specs.declared.step.Step.{Step}
+use Rattle.jh_search.proofs.closing.literals.Goals as goal
+
+pub loop-place-preserved : goal.loop-place-preserved
+loop-place-preserved c =
+    c.in_ok-push.ensures.items
+    ∙ (ap (λ (xs : List Decided). xs ++ c.step_at.result.literal ∷ []) c.loop-place.invariant
+    ∙ (sym (map-append (λ (s : Step). s.literal) (take c.loop-place.place c.args.steps.now) (c.step_at.result ∷ []))
+    ∙ ap literals_of (sym (take-next c.args.steps.now c.loop-place.place c.step_at.result c.step_at.ensures))))

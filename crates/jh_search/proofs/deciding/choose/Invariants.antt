@@ -1,0 +1,8 @@
+use Rattle.std.proofs.Common.{ℕ}
+use Rattle.std.specs.Prelude.{IfSome}
+use Rattle.jh_closure.specs.Nodes.{Has}
+use Rattle.jh_trail.specs.Listing.{IsUndecided}
+use Rattle.jh_search.proofs.deciding.choose.Given as goal
+
+abbrev pub invariant-loop-index : goal.invariant-loop-index
+invariant-loop-index l = IfSome l.best (λ k. Has l.problem.ground.atoms k × IsUndecided l.branch.trail k)

@@ -1,0 +1,24 @@
+use Rattle.std.proofs.Common.{◌≡◌, refl, sym, ap, ◌∙◌, subst, List, [], ◌∷◌, ◌++◌, false}
+use Rattle.jh_closure.specs.Nodes.{Has}
+use Rattle.jh_table.specs.Nodes.{nodes}
+use Rattle.jh_table.specs.Growth.{AreDifferent}
+use Rattle.jh_cong.specs.Saying.{Asserted}
+use Rattle.jh_trail.specs.Listing.{IsUndecided}
+use Rattle.jh_search.specs.declared.turn.Turn.{Turn}
+use Rattle.jh_search.proofs.Descents.{goes-on}
+use Rattle.jh_search.proofs.descending.take.Goals as goal
+
+pub returns-clause-searching : goal.returns-clause-searching
+returns-clause-searching c =
+    goes-on c.args.problem.now c.args.searching.now c.requires.searching different
+    c.search_goes_on.ensures c.fixpoint_is_open.ensures c.requires.fixpoint
+    turn refl c.new.ensures.items
+    (subst (Has c.args.problem.now.ground.atoms) (sym c.denied-literal.ensures.atom) c.requires.atom)
+    (subst (IsUndecided c.args.searching.now.branch.trail) (sym c.denied-literal.ensures.atom) c.requires.undecided)
+    _ c.in_ok-decide.ensures.branch (ap (λ (x : Asserted). x.table) c.in_ok-decide.ensures.classes) c.in_ok-decide.ensures.decisions c.in_ok-push.ensures.items refl
+  where
+    turn : Turn
+    turn = record { literal = c.denied-literal.result; is_second = false; needs = c.new.result }
+
+    different : AreDifferent (nodes c.args.searching.now.branch.classes.table)
+    different = subst (λ t. AreDifferent (nodes t)) c.table.ensures c.nodes_differ.ensures.different

@@ -1,0 +1,5 @@
+pub mod Paths
+pub mod Joining
+pub mod Searches
+pub mod Explained
+pub mod Outcomes

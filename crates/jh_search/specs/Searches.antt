@@ -1,0 +1,70 @@
+-- A search over nodes, between its steps.
+use Rattle.std.specs.Prelude.{◌≡◌, ◌⊎◌, ◌<◌, ◌≤◌, ℕ, List, [], Option, Some, None, length}
+use Rattle.jh_tree.specs.Tree.{ValueTree}
+use Rattle.jh_table.specs.Nodes.{nodes}
+use Rattle.jh_table.specs.Growth.{AreDifferent}
+use Rattle.jh_closure.specs.Nodes.{Has}
+use Rattle.jh_structure.specs.Literals.{LiteralTree}
+use Rattle.jh_models.specs.GroundModel.{IsGroundModel}
+use Rattle.jh_models.specs.Budget.{IsSpent}
+use Rattle.jh_backjumping.specs.Paths.{IsSearch, IsClosing}
+use Rattle.jh_trail.specs.declared.decided.Decided.{Decided}
+use Rattle.jh_trail.specs.Listing.{DecideOnce}
+use Rattle.jh_trail.specs.Saying.{literals_at}
+use Rattle.jh_propagating.specs.declared.problem.Problem.{Problem}
+use Rattle.jh_propagating.specs.declared.branch.Cause.{Cause}
+use Rattle.jh_propagating.specs.Problems.{IsProblem, instances_in}
+use Rattle.jh_propagating.specs.Branches.{IsBranch}
+use Rattle.jh_propagating.specs.Closings.{IsCause}
+use Rattle.jh_search.specs.declared.turn.Turn.{Turn}
+use Rattle.jh_search.specs.declared.turn.ClosedBranch.{ClosedBranch}
+use Rattle.jh_search.specs.declared.turn.Searching.{Searching}
+use Rattle.jh_search.specs.declared.turn.Retreat.{Retreat}
+use Rattle.jh_search.specs.declared.turn.Retreat.TheVariants as retreat
+use Rattle.jh_search.specs.Paths.{path_at, decisions_of, all_closed}
+
+-- the decisions of a path are over atoms, no two over one
+pub record AreDecisions (p : Problem) (path : List Turn) : Type 0 where
+  pub over_atoms : (d : Decided) → Has (decisions_of path) d → Has p.ground.atoms d.atom
+  pub once : DecideOnce (decisions_of path)
+  pub needs_over : (t : Turn) → Has path t → (d : Decided) → Has t.needs.items d → Has p.ground.atoms d.atom
+
+-- The search goes on from its path, and its branch is that of the path.
+pub record IsSearching (p : Problem) (s : Searching) : Type 0 where
+  pub branch : IsBranch p [] s.branch
+  pub path : s.branch.decisions.items ≡ decisions_of s.path.items
+  pub decisions : AreDecisions p s.path.items
+  pub search : IsSearch (instances_in (nodes s.branch.classes.table) p) (all_closed (nodes s.branch.classes.table) s.closed.items) (path_at (nodes s.branch.classes.table) s.path.items)
+
+-- Its branch is closed.
+pub record IsAtLeaf (p : Problem) (s : Searching) (c : Cause) : Type 0 where
+  pub busy : List ℕ
+  pub branch : IsBranch p busy s.branch
+  pub cause : IsCause (nodes s.branch.classes.table) p s.branch.trail c
+  pub path : s.branch.decisions.items ≡ decisions_of s.path.items
+  pub decisions : AreDecisions p s.path.items
+  pub search : IsSearch (instances_in (nodes s.branch.classes.table) p) (all_closed (nodes s.branch.classes.table) s.closed.items) (path_at (nodes s.branch.classes.table) s.path.items)
+
+-- A closed branch goes back along the path.
+pub record IsGoingBack (ts : List ValueTree) (p : Problem) (path : List Turn) (closed : List ClosedBranch) (needs : List Decided) : Type 0 where
+  pub problem : IsProblem ts p
+  pub different : AreDifferent ts
+  pub decisions : AreDecisions p path
+  pub needs_over : (d : Decided) → Has needs d → Has p.ground.atoms d.atom
+  pub closing : IsClosing (instances_in ts p) (all_closed ts closed) (path_at ts path) (literals_at ts needs)
+
+-- The path has a decision turned round, from which the search goes on.
+pub record IsTurned (ts : List ValueTree) (p : Problem) (path : List Turn) (closed : List ClosedBranch) : Type 0 where
+  pub decisions : AreDecisions p path
+  pub search : IsSearch (instances_in ts p) (all_closed ts closed) (path_at ts path)
+
+-- what going back comes to
+abbrev pub IsRetreat : List ValueTree → Problem → List Turn → List ClosedBranch → ℕ → Retreat → Type 0
+IsRetreat ts p path closed leaves retreat.Finished = (m : List LiteralTree) → IsGroundModel (instances_in ts p) m → ⊥
+IsRetreat ts p path closed leaves retreat.Turned = IsTurned ts p path closed × (length closed < leaves)
+IsRetreat ts p path closed leaves retreat.Spent = IsSpent (instances_in ts p) leaves (all_closed ts closed)
+
+-- what one step back comes to
+abbrev pub IsStepBack : List ValueTree → Problem → List Turn → List ClosedBranch → List Decided → ℕ → Option Retreat → Type 0
+IsStepBack ts p path closed needs leaves None = IsGoingBack ts p path closed needs
+IsStepBack ts p path closed needs leaves (Some r) = IsRetreat ts p path closed leaves r

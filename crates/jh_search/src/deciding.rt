@@ -1,0 +1,128 @@
+ghost use Rattle.std.specs.Prelude.{◌≡◌, [], ℕ, IfNone, IfOk, IfSome, Some, false, length, slice_get, ◌<◌};
+ghost use Rattle.jh_closure.specs.Nodes.{Has};
+ghost use Rattle.jh_trail.specs.Listing.{IsUndecided};
+ghost use Rattle.jh_propagating.specs.Branches.{IsBranch, IsSaid};
+
+use jh_name::NoMemory;
+use jh_propagating::{Branch, Problem};
+use jh_trail::{Decided, is_true};
+
+/// The weight of an atom.
+fn weight_of(weights: &Vec<u64>, atom: usize) -> u64 {
+    match weights.get(atom) {
+        Some(weight) => *weight,
+        None => 0,
+    }
+}
+
+/// Adds one to the weight of an atom.
+pub(crate) fn bump(weights: &mut Vec<u64>, atom: usize) {
+    if let Some(weight) = weights.get_mut(atom) {
+        *weight = weight.saturating_add(1);
+    }
+}
+
+/// Whether an atom is heavier than the best so far. Of two that are as heavy the earlier one stays.
+fn is_heavier(weights: &Vec<u64>, atom: usize, best: Option<usize>) -> bool {
+    match best {
+        Some(other) => weight_of(weights, atom) > weight_of(weights, other),
+        None => true,
+    }
+}
+
+/// The place at a number of a list.
+fn place_at(places: &[usize], index: usize) -> usize
+    requires { index < length places.now }
+    ensures { slice_get places.now index ≡ Some result }
+{
+    places[index]
+}
+
+/// Whether the instance at a place isn't true yet.
+fn is_open(problem: &Problem, branch: &Branch, place: usize) -> Result<bool, NoMemory>
+    requires branch { IsBranch problem.now [] branch.now }
+    requires inside { place < length problem.now.instances.items }
+{
+    let instance = place_at(&problem.instances, place);
+    Ok(!is_true(branch.classes.table(), &branch.trail, instance)?)
+}
+
+/// Whether an atom stands in an instance that isn't true yet.
+fn is_wanted(problem: &Problem, branch: &Branch, atom: usize) -> Result<bool, NoMemory>
+    requires branch { IsBranch problem.now [] branch.now }
+{
+    let places = problem.ground.places(atom);
+    for index in 0..places.len() {
+        if is_open(problem, branch, place_at(places, index))? {
+            return Ok(true);
+        }
+    }
+    Ok(false)
+}
+
+/// The better of the best atom so far and one more: an atom that isn't decided, stands in an instance that isn't true yet, and is
+/// heavier.
+fn better(
+    problem: &Problem,
+    branch: &Branch,
+    weights: &Vec<u64>,
+    best: Option<usize>,
+    atom: usize,
+) -> Result<Option<usize>, NoMemory>
+    requires branch { IsBranch problem.now [] branch.now }
+    requires atom { Has problem.now.ground.atoms atom }
+    requires best { IfSome best (λ k. Has problem.now.ground.atoms k × IsUndecided branch.now.trail k) }
+    ensures { IfOk result (λ found. IfSome found (λ k. Has problem.now.ground.atoms k × IsUndecided branch.now.trail k)) }
+{
+    match branch.trail.said(atom) {
+        Some(_holds) => Ok(best),
+        None => {
+            if is_heavier(weights, atom, best) && is_wanted(problem, branch, atom)? {
+                Ok(Some(atom))
+            } else {
+                Ok(best)
+            }
+        }
+    }
+}
+
+/// The atom to decide next: the heaviest of those that aren't decided and stand in an instance that isn't true yet.
+pub(crate) fn choose(
+    problem: &Problem,
+    branch: &Branch,
+    weights: &Vec<u64>,
+) -> Result<Option<usize>, NoMemory>
+    requires branch { IsBranch problem.now [] branch.now }
+    ensures { IfOk result (λ found. IfSome found (λ k. Has problem.now.ground.atoms k × IsUndecided branch.now.trail k)) }
+{
+    let atoms = problem.ground.atoms();
+    let mut best = None;
+    for index in 0..atoms.len() {
+        best = better(problem, branch, weights, best, place_at(atoms, index))?;
+    }
+    Ok(best)
+}
+
+/// The first atom that isn't decided.
+pub(crate) fn first_undecided(problem: &Problem, branch: &Branch) -> Option<usize>
+    ensures some { IfSome result (λ k. Has problem.now.ground.atoms k × IsUndecided branch.now.trail k) }
+    ensures none { IfNone result ((k : ℕ) → Has problem.now.ground.atoms k → IsSaid branch.now.trail k) }
+{
+    let atoms = problem.ground.atoms();
+    for index in 0..atoms.len() {
+        let atom = place_at(atoms, index);
+        match branch.trail.said(atom) {
+            Some(_holds) => {}
+            None => return Some(atom),
+        }
+    }
+    None
+}
+
+/// The decision on an atom: that it doesn't hold.
+pub(crate) fn denied(atom: usize) -> Decided
+    ensures atom { result.atom ≡ atom }
+    ensures holds { result.holds ≡ false }
+{
+    Decided { atom, holds: false }
+}

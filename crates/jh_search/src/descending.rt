@@ -1,0 +1,81 @@
+ghost use Rattle.std.specs.Prelude.{◌≡◌, ◌<◌, [], ℕ, IfNone, IfOk, IfSome, OnOk};
+ghost use Rattle.jh_closure.specs.Nodes.{Has};
+ghost use Rattle.jh_table.specs.Nodes.{nodes};
+ghost use Rattle.jh_models.specs.Fixpoints.{IsFixpoint};
+ghost use Rattle.jh_models.specs.GroundModel.{IsGroundModel};
+ghost use Rattle.jh_trail.specs.Listing.{IsUndecided};
+ghost use Rattle.jh_trail.specs.Saying.{literals_at};
+ghost use Rattle.jh_propagating.specs.Branches.{IsBranch, IsSaid, undecided_count};
+ghost use Rattle.jh_propagating.specs.Problems.{instances_in};
+ghost use Rattle.jh_search.specs.Searches.{IsAtLeaf, IsSearching};
+
+use crate::deciding::{choose, denied, first_undecided};
+use crate::turn::{Searching, Turn};
+use jh_backjumping::search_goes_on;
+use jh_models::{fixpoint_is_open, whole_fixpoint_is_model};
+use jh_name::NoMemory;
+use jh_propagating::{Branch, Cause, Problem, decide, propagate};
+
+/// The atom to decide next, where one isn't decided.
+fn next_atom(
+    problem: &Problem,
+    branch: &Branch,
+    weights: &Vec<u64>,
+) -> Result<Option<usize>, NoMemory>
+    requires branch { IsBranch problem.now [] branch.now }
+    ensures some { IfOk result (λ found. IfSome found (λ k. Has problem.now.ground.atoms k × IsUndecided branch.now.trail k)) }
+    ensures none { IfOk result (λ found. IfNone found ((k : ℕ) → Has problem.now.ground.atoms k → IsSaid branch.now.trail k)) }
+{
+    match choose(problem, branch, weights)? {
+        Some(atom) => Ok(Some(atom)),
+        None => Ok(first_undecided(problem, branch)),
+    }
+}
+
+/// Decides an atom: at first that it doesn't hold.
+fn take(problem: &Problem, searching: &mut Searching, atom: usize) -> Result<(), NoMemory>
+    requires searching { IsSearching problem.now searching.old }
+    requires fixpoint { IsFixpoint (instances_in (nodes searching.old.branch.classes.table) problem.now) (literals_at (nodes searching.old.branch.classes.table) searching.old.branch.decisions.items) (literals_at (nodes searching.old.branch.classes.table) searching.old.branch.trail) }
+    requires atom { Has problem.now.ground.atoms atom }
+    requires undecided { IsUndecided searching.old.branch.trail atom }
+    ensures searching { OnOk result (IsSearching problem.now searching.new) }
+    ensures table { OnOk result (searching.new.branch.classes.table ≡ searching.old.branch.classes.table) }
+    ensures closed { OnOk result (searching.new.closed.items ≡ searching.old.closed.items) }
+    ensures count { OnOk result (undecided_count problem.now searching.new.branch < undecided_count problem.now searching.old.branch) }
+{
+    search_goes_on();
+    fixpoint_is_open();
+    searching.branch.classes.table().nodes_differ();
+    let alloc = searching.branch.classes.table().alloc();
+    let literal = denied(atom);
+    decide(problem, &mut searching.branch, literal)?;
+    searching.path.push(Turn {
+        literal,
+        is_second: false,
+        needs: Vec::new(alloc),
+    })?;
+    Ok(())
+}
+
+/// Decides atoms until the branch is closed, or each atom is decided.
+pub(crate) fn descend(
+    problem: &Problem,
+    searching: &mut Searching,
+) -> Result<Option<Cause>, NoMemory>
+    requires { IsSearching problem.now searching.old }
+    ensures leaf { IfOk result (λ found. IfSome found (λ cause. IsAtLeaf problem.now searching.new cause)) }
+    ensures model { IfOk result (λ found. IfNone found (IsGroundModel (instances_in (nodes searching.new.branch.classes.table) problem.now) (literals_at (nodes searching.new.branch.classes.table) searching.new.branch.trail))) }
+    ensures table { OnOk result (searching.new.branch.classes.table ≡ searching.old.branch.classes.table) }
+    ensures closed { OnOk result (searching.new.closed.items ≡ searching.old.closed.items) }
+{
+    whole_fixpoint_is_model();
+    loop {
+        if let Some(cause) = propagate(problem, &mut searching.branch)? {
+            return Ok(Some(cause));
+        }
+        match next_atom(problem, &searching.branch, &searching.weights)? {
+            Some(atom) => take(problem, searching, atom)?,
+            None => return Ok(None),
+        }
+    }
+}

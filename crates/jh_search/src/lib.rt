@@ -1,0 +1,12 @@
+//! The search for a ground model of instances.
+#![tactic(auto)]
+
+mod closing;
+mod deciding;
+mod descending;
+mod returning;
+mod searching;
+mod turn;
+
+pub use searching::{search, start_search};
+pub use turn::{ClosedBranch, Found, Retreat, Searching, Turn};
