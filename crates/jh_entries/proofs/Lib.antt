@@ -1,0 +1,12 @@
+mod Choices
+mod Closing
+mod Fronts
+mod Growing
+mod Lists
+mod Parts
+mod Passes
+mod Placing
+mod Progresses
+mod Sequences
+mod Telling
+mod Universals

@@ -1,0 +1,3 @@
+pub mod Standing
+pub mod Choosing
+pub mod Progressing

@@ -1,0 +1,15 @@
+//! The facts of a sequent and their instances, as nodes of a table, with the source, the terms and the constants of each.
+#![tactic(auto)]
+
+mod beginning;
+mod counting;
+mod entry;
+mod making;
+mod putting;
+mod rounds;
+
+pub use beginning::MOST_NODES;
+pub use counting::count;
+pub use entry::{NodeEntries, NodeEntry, Origin};
+pub use making::InstanceError;
+pub use rounds::{MOST_INSTANCES, entries};
