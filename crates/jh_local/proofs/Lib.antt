@@ -1,0 +1,8 @@
+mod Locals
+mod Proofs
+mod Grounds
+mod Labels
+mod Found
+mod Made
+mod Boxed
+mod Facts

@@ -1,0 +1,89 @@
+-- The instances among entries that stand in a table.
+use Rattle.std.proofs.Common.{◌≡◌, refl, sym, ap, ◌∙◌, ℕ, zero, suc, ◌+◌, Bool, true, false, inl, inr, if◌then◌else◌, List, [], ◌∷◌, ◌++◌, map, take, length, Option, None, Some, slice_get, subst}
+use Rattle.std.proofs.lemmas.Bool.{true≢false}
+use Rattle.std.proofs.lemmas.List.{map_push}
+use Rattle.jh_tree.specs.Tree.{FormulaTree, ValueTree, of_truth}
+use Rattle.jh_closure.proofs.Having.{has-pushed}
+use Rattle.jh_table.specs.Entries.{Listing, is_truth, the_truth}
+use Rattle.jh_table.specs.Growth.{Extends}
+use Rattle.jh_table.specs.Nodes.{nodes}
+use Rattle.jh_closure.specs.Nodes.{Has}
+use Rattle.jh_trail.specs.Saying.{AreTruths, truths_at}
+use Rattle.jh_instances.specs.Entries.{Entry}
+use Rattle.jh_instances.specs.Instances.{is_ground, instances_of}
+use Rattle.jh_entries.specs.declared.entry.NodeEntries.{NodeEntries}
+use Rattle.jh_entries.specs.declared.entry.NodeEntry.{NodeEntry}
+use Rattle.jh_entries.specs.Standing.{IsEntry, IsMade, AreEntries}
+
+some-same : {X : Type 0} (x y : X) → Some x ≡ Some y → x ≡ y
+some-same x y e = cc
+
+none-there : {X : Type 0} (i : ℕ) (x : X) → slice_get [] i ≡ Some x → ⊥
+none-there i x e = cc
+
+-- the entry that stands at a place
+pub entry-at : (t : Listing) (pool : List ℕ) (xs : List NodeEntry) (es : List Entry) (i : ℕ) (x : NodeEntry) → AreEntries t pool xs es → slice_get xs i ≡ Some x →
+    (e : Entry) × (slice_get es i ≡ Some e) × IsEntry t pool x e
+entry-at t pool [] es i x h at = absurd (none-there i x at)
+entry-at t pool (y ∷ xs) [] i x h at = absurd h
+entry-at t pool (y ∷ xs) (e ∷ es) zero x h at = (e, refl, subst (λ (z : NodeEntry). IsEntry t pool z e) (some-same y x at) h.0)
+entry-at t pool (y ∷ xs) (e ∷ es) (suc i) x h at = entry-at t pool xs es i x h.1 at
+
+-- one more of the first entries
+first-instance : (f e : Entry) → f ≡ e → instances_of (f ∷ []) ≡ (if is_ground e.formula then e.formula ∷ [] else [])
+first-instance f e same = ap (λ (x : Entry). instances_of (x ∷ [])) same
+
+later-instance : (b : Bool) (a : FormulaTree) (xs ys zs : List FormulaTree) → xs ≡ ys ++ zs → (if b then a ∷ xs else xs) ≡ (if b then a ∷ ys else ys) ++ zs
+later-instance true a xs ys zs e = ap (λ x. a ∷ x) e
+later-instance false a xs ys zs e = e
+
+pub instances-next : (es : List Entry) (i : ℕ) (e : Entry) → slice_get es i ≡ Some e →
+    instances_of (take (suc i) es) ≡ instances_of (take i es) ++ (if is_ground e.formula then e.formula ∷ [] else [])
+instances-next [] i e at = absurd (none-there i e at)
+instances-next (f ∷ es) zero e at = first-instance f e (some-same f e at)
+instances-next (f ∷ es) (suc i) e at =
+    later-instance (is_ground f.formula) f.formula (instances_of (take (suc i) es)) (instances_of (take i es)) (if is_ground e.formula then e.formula ∷ [] else []) (instances-next es i e at)
+
+-- formulas stay while the table grows
+kept-there : (t u : Listing) (n : ℕ) → Extends t u → (v : Option ValueTree) → is_truth v ≡ true → slice_get (nodes t) n ≡ v → slice_get (nodes u) n ≡ slice_get (nodes t) n
+unfolding is_truth
+kept-there t u n g None h e = absurd (true≢false (sym h))
+kept-there t u n g (Some w) h e = g.nodes.keeps n w e ∙ sym e
+
+still-there : (t u : Listing) (n : ℕ) → Extends t u → is_truth (slice_get (nodes t) n) ≡ true → slice_get (nodes u) n ≡ slice_get (nodes t) n
+still-there t u n g h = kept-there t u n g (slice_get (nodes t) n) h refl
+
+-- one more instance
+pub truth-is : (v : Option ValueTree) (a : FormulaTree) → v ≡ Some (of_truth a) → the_truth v ≡ a
+unfolding the_truth
+truth-is v a e = ap the_truth e
+
+pub instance-more : (ts : List ValueTree) (ns more : List ℕ) (n : ℕ) (a : FormulaTree) → more ≡ ns ++ n ∷ [] → slice_get ts n ≡ Some (of_truth a) → (b : Bool) → b ≡ true →
+    truths_at ts more ≡ truths_at ts ns ++ (if b then a ∷ [] else [])
+instance-more ts ns more n a is there true h =
+    ap (λ ms. truths_at ts ms) is ∙ map_push (λ m. the_truth (slice_get ts m)) ns n ∙ ap (λ x. truths_at ts ns ++ x ∷ []) (truth-is (slice_get ts n) a there)
+instance-more ts ns more n a is there false h = absurd (true≢false (sym h))
+
+pub truths-more : (ts : List ValueTree) (ns more : List ℕ) (n : ℕ) → more ≡ ns ++ n ∷ [] → is_truth (slice_get ts n) ≡ true → AreTruths ts ns → AreTruths ts more
+truths-more ts ns more n is there h m k =
+    elim (has-pushed ns n m (subst (λ ms. Has ms m) is k)) [
+      | inl old ↦ h m old
+      | inr same ↦ subst (λ l. is_truth (slice_get ts l) ≡ true) same there
+    ]
+
+pub truths-stay : (t u : Listing) (ns : List ℕ) → Extends t u → AreTruths (nodes t) ns → AreTruths (nodes u) ns
+truths-stay t u ns g h n there = ap is_truth (still-there t u n g (h n there)) ∙ h n there
+
+pub truths-same : (t u : Listing) (ns : List ℕ) → Extends t u → AreTruths (nodes t) ns → truths_at (nodes u) ns ≡ truths_at (nodes t) ns
+truths-same t u [] g h = refl
+truths-same t u (n ∷ ns) g h = λ i. the_truth (still-there t u n g (h n (inl refl)) i) ∷ truths-same t u ns g (λ m k. h m (inr k)) i
+
+pub entries-length : (t : Listing) (pool : List ℕ) (xs : List NodeEntry) (es : List Entry) → AreEntries t pool xs es → length es ≡ length xs
+entries-length t pool [] [] h = refl
+entries-length t pool [] (e ∷ es) h = absurd h
+entries-length t pool (x ∷ xs) [] h = absurd h
+entries-length t pool (x ∷ xs) (e ∷ es) h = ap suc (entries-length t pool xs es h.1)
+
+pub truth-there : (v : Option ValueTree) (a : FormulaTree) → v ≡ Some (of_truth a) → is_truth v ≡ true
+unfolding is_truth
+truth-there v a e = ap is_truth e

@@ -1,0 +1,10 @@
+use Rattle.jh_structure.specs.Literals.{literal_tree}
+use Rattle.jh_table.specs.Nodes.{nodes}
+use Rattle.jh_trail.specs.Saying.{literal_tree_at}
+use Rattle.jh_local.proofs.Boxed.{mapped-next}
+use Rattle.jh_local.proofs.boxing.boxed_literals.Goals as goal
+
+pub loop-place-preserved : goal.loop-place-preserved
+loop-place-preserved c =
+    mapped-next literal_tree (literal_tree_at (nodes c.args.table.now)) c.args.literals.now c.loop-place.made.items c.push.new.self.items c.loop-place.place c.literal_at.result
+    c.in_ok-boxed.field-0 c.literal_at.ensures c.in_ok-push.ensures.items c.loop-place.invariant c.in_ok-boxed.ensures

@@ -1,0 +1,9 @@
+use Rattle.std.proofs.Common.{◌≡◌, take}
+use Rattle.jh_table.specs.Nodes.{nodes}
+use Rattle.jh_trail.specs.Saying.{literals_at}
+use Rattle.jh_local.specs.Answers.{literal_trees}
+use Rattle.jh_local.proofs.boxing.boxed_trail.Given as goal
+
+-- the first literals are boxed
+abbrev pub invariant-loop-place : goal.invariant-loop-place
+invariant-loop-place l = literal_trees l.made.items ≡ literals_at (nodes l.branch.classes.table) (take l.place l.branch.trail)

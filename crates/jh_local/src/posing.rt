@@ -1,0 +1,65 @@
+ghost use Rattle.std.specs.Prelude.{◌≡◌, ◌<◌, ◌++◌, ◌∷◌, [], List, length, true, if◌then◌else◌, Some, IfOk, OnOk, slice_get};
+ghost use Rattle.std.specs.List.{list_all};
+ghost use Rattle.jh_tree.specs.Tree.{FormulaTree};
+ghost use Rattle.jh_table.specs.Entries.{is_truth};
+ghost use Rattle.jh_table.specs.Nodes.{nodes};
+ghost use Rattle.jh_witnesses.specs.Standing.{IsFormula};
+ghost use Rattle.jh_trail.specs.Saying.{AreTruths, truths_at};
+ghost use Rattle.jh_instances.specs.Entries.{Entry};
+ghost use Rattle.jh_instances.specs.Instances.{is_ground, instances_of};
+ghost use Rattle.jh_plain.specs.Plain.{are_literals};
+ghost use Rattle.jh_entries.specs.Standing.{IsMade};
+ghost use Rattle.jh_propagating.specs.Problems.{IsProblem, instances_in};
+
+use jh_entries::{NodeEntries, NodeEntry};
+use jh_make::{falsehood, truth};
+use jh_name::NoMemory;
+use jh_propagating::{Problem, pose};
+use jh_table::Table;
+use jh_witnesses::is_ground;
+
+/// The entry at a place.
+fn entry_at(entries: &NodeEntries, place: usize) -> NodeEntry
+    requires { place < length entries.now.items.items }
+    ensures { slice_get entries.now.items.items place ≡ Some result }
+{
+    entries.items[place]
+}
+
+/// Adds an entry that has no quantifier.
+fn add_instance(table: &Table, instances: &mut Vec<usize>, formula: usize) -> Result<(), NoMemory>
+    requires there { is_truth (slice_get (nodes table.now) formula) ≡ true }
+    requires truths { AreTruths (nodes table.now) instances.old.items }
+    ensures truths { OnOk result (AreTruths (nodes table.now) instances.new.items) }
+    ensures instances { (a : FormulaTree) → IsFormula table.now formula a → OnOk result (truths_at (nodes table.now) instances.new.items ≡ truths_at (nodes table.now) instances.old.items ++ (if is_ground a then a ∷ [] else [])) }
+{
+    if is_ground(table, formula) {
+        instances.push(formula)?;
+    }
+    Ok(())
+}
+
+/// The nodes of the entries without a quantifier, in their order.
+fn instances(table: &Table, entries: &NodeEntries) -> Result<Vec<usize>, NoMemory>
+    requires made { (es : List Entry) × IsMade table.now entries.now es }
+    ensures truths { IfOk result (λ made. AreTruths (nodes table.now) made.items) }
+    ensures instances { IfOk result (λ made. (es : List Entry) → IsMade table.now entries.now es → truths_at (nodes table.now) made.items ≡ instances_of es) }
+{
+    let mut made = Vec::new(table.alloc());
+    for place in 0..entries.items.len() {
+        add_instance(table, &mut made, entry_at(entries, place).formula)?;
+    }
+    Ok(made)
+}
+
+/// The problem of the instances among entries.
+pub(crate) fn posed(table: &mut Table, entries: &NodeEntries) -> Result<Problem, NoMemory>
+    requires made { (es : List Entry) × IsMade table.old entries.now es × (list_all are_literals (instances_of es) ≡ true) }
+    ensures problem { IfOk result (λ made. IsProblem (nodes table.new) made) }
+    ensures instances { IfOk result (λ made. (es : List Entry) → IsMade table.old entries.now es → instances_in (nodes table.new) made ≡ instances_of es) }
+{
+    let instances = instances(table, entries)?;
+    let yes = truth(table)?;
+    let no = falsehood(table)?;
+    pose(table, instances, yes, no)
+}
