@@ -48,6 +48,17 @@ noted-more ds places d inside new noted p e at = elim (before-or-last ds d e p a
 pub noted-none : (places : List ℕ) (ds : List Decided) → ds ≡ [] → AreNoted ds places
 noted-none places ds none p d at = absurd (let inside : p < length ds = slice_get_within ds p d at in let short : length ds ≡ 0 = ap length none in omega (arith, inside, short))
 
+-- the first literals stand where they stood
+taken-at : (xs : List Decided) (n p : ℕ) (x : Decided) → slice_get (take n xs) p ≡ Some x → (p < n) × (slice_get xs p ≡ Some x)
+taken-at [] zero p x e = absurd (cc)
+taken-at [] (suc n) p x e = absurd (cc)
+taken-at (y ∷ xs) zero p x e = absurd (cc)
+taken-at (y ∷ xs) (suc n) zero x e = (omega arith, e)
+taken-at (y ∷ xs) (suc n) (suc p) x e = let rest : (p < n) × (slice_get xs p ≡ Some x) = taken-at xs n p x e in (let less : p < n = rest.0 in omega (arith, less), rest.1)
+
+pub noted-first : (ds first : List Decided) (places : List ℕ) (n : ℕ) → first ≡ take n ds → AreNoted ds places → AreNoted first places
+noted-first ds first places n e noted p d at = noted p d (taken-at ds n p d (ap (λ (xs : List Decided). slice_get xs p) (sym e) ∙ at)).1
+
 -- where the place of the array is tested
 pub tested : (ds : List Decided) (p k : ℕ) (d : Decided) → slice_get ds p ≡ Some d → d.atom ≡ k → StandsAt ds k p
 tested ds p k d at same = (d.holds, at ∙ ap Some (λ i. record { atom = same i; holds = d.holds }))
@@ -100,13 +111,6 @@ module _ (ds : List Decided) (once : DecideOnce ds) (k : ℕ) where
 
       on-atom : d ≡ decided k d.holds
       on-atom = λ i. record { atom = (ap (λ (z : Decided). z.atom) its) i; holds = d.holds }
-
-taken-at : (xs : List Decided) (n p : ℕ) (x : Decided) → slice_get (take n xs) p ≡ Some x → (p < n) × (slice_get xs p ≡ Some x)
-taken-at [] zero p x e = absurd (cc)
-taken-at [] (suc n) p x e = absurd (cc)
-taken-at (y ∷ xs) zero p x e = absurd (cc)
-taken-at (y ∷ xs) (suc n) zero x e = (omega arith, e)
-taken-at (y ∷ xs) (suc n) (suc p) x e = let rest : (p < n) × (slice_get xs p ≡ Some x) = taken-at xs n p x e in (let less : p < n = rest.0 in omega (arith, less), rest.1)
 
 -- a literal before a place stands where its atom does
 pub record IsBefore (ds : List Decided) (r : Option ℕ) (before : ℕ) (d : Decided) : Type 0 where

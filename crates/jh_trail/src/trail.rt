@@ -1,4 +1,4 @@
-ghost use Rattle.std.specs.Prelude.{◌≡◌, ◌↔◌, ◌<◌, ◌++◌, [], ◌∷◌, ℕ, Bool, OnErr, OnOk, Some, length, slice_get};
+ghost use Rattle.std.specs.Prelude.{◌≡◌, ◌↔◌, ◌<◌, ◌++◌, [], ◌∷◌, ℕ, Bool, OnErr, OnOk, Some, length, slice_get, take};
 ghost use Rattle.jh_closure.specs.Nodes.{Has};
 ghost use Rattle.jh_trail.specs.Listing.{AreNoted, DecideOnce, IsUndecided, StandsAt, decided};
 ghost use Rattle.jh_trail.specs.declared.decided.Decided.{Decided};
@@ -134,6 +134,13 @@ impl Trail {
         ensures { self.new ≡ [] }
     {
         self.literals.clear();
+    }
+
+    /// Takes all literals back but the first ones.
+    pub fn truncate(&mut self, count: usize)
+        ensures { self.new ≡ take count self.old }
+    {
+        self.literals.truncate(count);
     }
 
     /// No atom is decided twice. It is a law, and changes nothing.
