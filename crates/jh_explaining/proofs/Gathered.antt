@@ -117,7 +117,7 @@ module _ (ts : List ValueTree) (p : Problem) (trail : List Decided) (reasons : L
         ]
 
         ground-atom : IsGroundAtom (instances_in ts p) (truth_at ts s.literal.atom)
-        ground-atom = history.problem.occurrences.stand s.literal.atom (over place s.literal here)
+        ground-atom = history.posed.occurrences.stand s.literal.atom (over place s.literal here)
 
         pub gathered-more : AreGathered ts p ds trail marks (place + 1) (ss ++ s ∷ [])
         gathered-more = record {

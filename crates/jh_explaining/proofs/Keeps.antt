@@ -18,13 +18,13 @@ use Rattle.jh_trail.specs.Listing.{decided, IsUndecided, DecideOnce}
 use Rattle.jh_trail.specs.Saying.{literal_tree_at, literals_at, opposite_of, IsTruth}
 use Rattle.jh_trail.proofs.Listed.{has-listed}
 use Rattle.jh_propagating.specs.declared.problem.Problem.{Problem}
-use Rattle.jh_propagating.specs.Problems.{IsProblem, instances_in}
+use Rattle.jh_propagating.specs.Problems.{IsPosed, instances_in}
 use Rattle.jh_explaining.specs.declared.step.Step.{Step}
 use Rattle.jh_explaining.specs.Steps.{literals_of, trees_of, AreOverAtoms}
 use Rattle.jh_explaining.specs.Keeping.{AreRight, IsMostOf, AreKept, IsWhole, IsShorter, AreTried, MayBeKept, IsKept}
 use Rattle.jh_explaining.proofs.Lists.{literals-more, trees-more, trees-both, once-more, listed-stands, same-tree, slice-literal, has-literal, literal-step}
 
-module _ (ts : List ValueTree) (p : Problem) (problem : IsProblem ts p) (different : AreDifferent ts) where
+module _ (ts : List ValueTree) (p : Problem) (problem : IsPosed ts p) (different : AreDifferent ts) where
   atom-truth : (d : Decided) → Has p.ground.atoms d.atom → IsTruth ts d.atom
   atom-truth d h = problem.occurrences.truths d.atom h
 

@@ -12,42 +12,42 @@ use Rattle.jh_trail.specs.Listing.{picked, one_more}
 use Rattle.jh_trail.specs.Saying.{literals_at}
 use Rattle.jh_propagating.specs.Speaking.{AreSpoken, Speaks}
 
-pub spoken-more : (ts : List ValueTree) (ds : List Decided) (es : List Said) (d : Decided) (e : Said) → AreSpoken ts ds es → Speaks ts e d → AreSpoken ts (ds ++ d ∷ []) (es ++ e ∷ [])
-spoken-more ts [] [] d e h k = (k, tt)
-spoken-more ts [] (f ∷ es) d e h k = absurd h
-spoken-more ts (c ∷ ds) [] d e h k = absurd h
-spoken-more ts (c ∷ ds) (f ∷ es) d e h k = (h.0, spoken-more ts ds es d e h.1 k)
+pub spoken-more : (us ts : List ValueTree) (ds : List Decided) (es : List Said) (d : Decided) (e : Said) → AreSpoken us ts ds es → Speaks us ts e d → AreSpoken us ts (ds ++ d ∷ []) (es ++ e ∷ [])
+spoken-more us ts [] [] d e h k = (k, tt)
+spoken-more us ts [] (f ∷ es) d e h k = absurd h
+spoken-more us ts (c ∷ ds) [] d e h k = absurd h
+spoken-more us ts (c ∷ ds) (f ∷ es) d e h k = (h.0, spoken-more us ts ds es d e h.1 k)
 
-pub spoken-taken : (ts : List ValueTree) (n : ℕ) (ds : List Decided) (es : List Said) → AreSpoken ts ds es → AreSpoken ts (take n ds) (take n es)
-spoken-taken ts zero ds es h = tt
-spoken-taken ts (suc n) [] [] h = tt
-spoken-taken ts (suc n) [] (f ∷ es) h = absurd h
-spoken-taken ts (suc n) (c ∷ ds) [] h = absurd h
-spoken-taken ts (suc n) (c ∷ ds) (f ∷ es) h = (h.0, spoken-taken ts n ds es h.1)
+pub spoken-taken : (us ts : List ValueTree) (n : ℕ) (ds : List Decided) (es : List Said) → AreSpoken us ts ds es → AreSpoken us ts (take n ds) (take n es)
+spoken-taken us ts zero ds es h = tt
+spoken-taken us ts (suc n) [] [] h = tt
+spoken-taken us ts (suc n) [] (f ∷ es) h = absurd h
+spoken-taken us ts (suc n) (c ∷ ds) [] h = absurd h
+spoken-taken us ts (suc n) (c ∷ ds) (f ∷ es) h = (h.0, spoken-taken us ts n ds es h.1)
 
-pub meets-told : (m : NumberStructure) (ts : List ValueTree) (ds : List Decided) (es : List Said) → AreSpoken ts ds es → Meets m (literals_at ts ds) → Meets m (literals ts es)
-meets-told m ts [] [] h k = tt
-meets-told m ts [] (f ∷ es) h k = absurd h
-meets-told m ts (c ∷ ds) [] h k = absurd h
-meets-told m ts (c ∷ ds) (f ∷ es) h k = ((h.0.same m).1 k.0, meets-told m ts ds es h.1 k.1)
+pub meets-told : (m : NumberStructure) (us ts : List ValueTree) (ds : List Decided) (es : List Said) → AreSpoken us ts ds es → Meets m (literals_at ts ds) → Meets m (literals us es)
+meets-told m us ts [] [] h k = tt
+meets-told m us ts [] (f ∷ es) h k = absurd h
+meets-told m us ts (c ∷ ds) [] h k = absurd h
+meets-told m us ts (c ∷ ds) (f ∷ es) h k = ((h.0.same m).1 k.0, meets-told m us ts ds es h.1 k.1)
 
-pub told-meets : (m : NumberStructure) (ts : List ValueTree) (ds : List Decided) (es : List Said) → AreSpoken ts ds es → Meets m (literals ts es) → Meets m (literals_at ts ds)
-told-meets m ts [] [] h k = tt
-told-meets m ts [] (f ∷ es) h k = absurd h
-told-meets m ts (c ∷ ds) [] h k = absurd h
-told-meets m ts (c ∷ ds) (f ∷ es) h k = ((h.0.same m).0 k.0, told-meets m ts ds es h.1 k.1)
+pub told-meets : (m : NumberStructure) (us ts : List ValueTree) (ds : List Decided) (es : List Said) → AreSpoken us ts ds es → Meets m (literals us es) → Meets m (literals_at ts ds)
+told-meets m us ts [] [] h k = tt
+told-meets m us ts [] (f ∷ es) h k = absurd h
+told-meets m us ts (c ∷ ds) [] h k = absurd h
+told-meets m us ts (c ∷ ds) (f ∷ es) h k = ((h.0.same m).0 k.0, told-meets m us ts ds es h.1 k.1)
 
 -- what stands at places of both
-spoken-one : (ts : List ValueTree) (ds : List Decided) (es : List Said) → AreSpoken ts ds es → (n : ℕ) (xs : List Decided) (ys : List Said) → AreSpoken ts xs ys → AreSpoken ts (one_more (slice_get ds n) xs) (cong.one_more (slice_get es n) ys)
-spoken-one ts [] [] h n xs ys k = k
-spoken-one ts [] (f ∷ es) h n xs ys k = absurd h
-spoken-one ts (c ∷ ds) [] h n xs ys k = absurd h
-spoken-one ts (c ∷ ds) (f ∷ es) h zero xs ys k = (h.0, k)
-spoken-one ts (c ∷ ds) (f ∷ es) h (suc n) xs ys k = spoken-one ts ds es h.1 n xs ys k
+spoken-one : (us ts : List ValueTree) (ds : List Decided) (es : List Said) → AreSpoken us ts ds es → (n : ℕ) (xs : List Decided) (ys : List Said) → AreSpoken us ts xs ys → AreSpoken us ts (one_more (slice_get ds n) xs) (cong.one_more (slice_get es n) ys)
+spoken-one us ts [] [] h n xs ys k = k
+spoken-one us ts [] (f ∷ es) h n xs ys k = absurd h
+spoken-one us ts (c ∷ ds) [] h n xs ys k = absurd h
+spoken-one us ts (c ∷ ds) (f ∷ es) h zero xs ys k = (h.0, k)
+spoken-one us ts (c ∷ ds) (f ∷ es) h (suc n) xs ys k = spoken-one us ts ds es h.1 n xs ys k
 
-pub spoken-picked : (ts : List ValueTree) (ds : List Decided) (es : List Said) → AreSpoken ts ds es → (ns : List ℕ) → AreSpoken ts (picked ds ns) (cong.picked es ns)
-spoken-picked ts ds es h [] = tt
-spoken-picked ts ds es h (n ∷ ns) = spoken-one ts ds es h n (picked ds ns) (cong.picked es ns) (spoken-picked ts ds es h ns)
+pub spoken-picked : (us ts : List ValueTree) (ds : List Decided) (es : List Said) → AreSpoken us ts ds es → (ns : List ℕ) → AreSpoken us ts (picked ds ns) (cong.picked es ns)
+spoken-picked us ts ds es h [] = tt
+spoken-picked us ts ds es h (n ∷ ns) = spoken-one us ts ds es h n (picked ds ns) (cong.picked es ns) (spoken-picked us ts ds es h ns)
 
 -- no structure meets a literal and its opposite
 never-both : (s : NumberStructure) (a : FormulaTree) → Says s a → Denies s a → ⊥

@@ -22,7 +22,7 @@ use Rattle.jh_trail.specs.declared.decided.Decided.{Decided}
 use Rattle.jh_trail.specs.Occurring.{places_in}
 use Rattle.jh_trail.specs.Saying.{truth_at, literal_tree_at, literals_at, opposite_of}
 use Rattle.jh_propagating.specs.declared.problem.Problem.{Problem}
-use Rattle.jh_propagating.specs.Problems.{IsProblem, instances_in}
+use Rattle.jh_propagating.specs.Problems.{IsPosed, instances_in}
 use Rattle.jh_propagating.specs.Speaking.{AreSpoken, Speaks}
 use Rattle.jh_explaining.specs.Keeping.{IsQuiet}
 use Rattle.jh_explaining.specs.Testing.{IsSaidToo, IsRefused, IsAsked, IsFalseAmong}
@@ -34,7 +34,7 @@ use Rattle.jh_explaining.proofs.Spoken.{spoken-more, meets-told, told-meets}
 pub looked-false : (ts : List ValueTree) (trail : List Decided) (i : FormulaTree) (l : Decided) → IsFalse (literals_at ts trail) i → IsFalse (literals_at ts (opposite_of l ∷ trail)) i
 looked-false ts trail i l h = false-more (literals_at ts trail) (literals_at ts (opposite_of l ∷ trail)) (all-listed ts (opposite_of l ∷ trail) trail (λ d g. inr g)) i h
 
-module _ (ts : List ValueTree) (p : Problem) (problem : IsProblem ts p) where
+module _ (ts : List ValueTree) (p : Problem) (problem : IsPosed ts p) where
   -- an instance is false with the opposite of a literal, where none is without it: the atom stands there
   module _ (law : ForcedStands) (trail : List Decided) (l : Decided) (atom : Has p.ground.atoms l.atom) (none : SomeFalse (instances_in ts p) (literals_at ts trail) → ⊥) where
     pub forced-place : (place : ℕ) → FalseHere ts (literals_at ts (opposite_of l ∷ trail)) p.instances.items place → Has (places_in p.ground l.atom) place
@@ -68,21 +68,21 @@ module _ (ts : List ValueTree) (p : Problem) (problem : IsProblem ts p) where
   among-some had places h = at-false ts (literals_at ts had) p.instances.items h.place h.is_false.instance h.is_false.here h.is_false.is_false
 
 -- what the classes answer
-module _ (ts : List ValueTree) (ds : List Decided) (es : List Said) (spoken : AreSpoken ts ds es) (d : Decided) (e : Said) (speaks : Speaks ts e d) where
+module _ (us ts : List ValueTree) (ds : List Decided) (es : List Said) (spoken : AreSpoken us ts ds es) (d : Decided) (e : Said) (speaks : Speaks us ts e d) where
   abbrev more : List Decided
   more = ds ++ d ∷ []
 
   abbrev mores : List Said
   mores = es ++ e ∷ []
 
-  both : AreSpoken ts more mores
-  both = spoken-more ts ds es d e spoken speaks
+  both : AreSpoken us ts more mores
+  both = spoken-more us ts ds es d e spoken speaks
 
-  pub unmet-longer : IsUnmet ts mores → NotMet (literals_at ts more)
-  unmet-longer unmet s met = unmet s (meets-told s ts more mores both met)
+  pub unmet-longer : IsUnmet us mores → NotMet (literals_at ts more)
+  unmet-longer unmet s met = unmet s (meets-told s us ts more mores both met)
 
-  pub longer-unmet : NotMet (literals_at ts more) → IsUnmet ts mores
-  longer-unmet unmet s met = unmet s (told-meets s ts more mores both met)
+  pub longer-unmet : NotMet (literals_at ts more) → IsUnmet us mores
+  longer-unmet unmet s met = unmet s (told-meets s us ts more mores both met)
 
   front-met : (x : Decided) → Has more x → Has (d ∷ ds) x
   front-met x h = elim (has-pushed ds d x h) [ inl old ↦ inr old | inr same ↦ inl same ]
@@ -91,10 +91,10 @@ module _ (ts : List ValueTree) (ds : List Decided) (es : List Said) (spoken : Ar
   end-met x (inl same) = subst (Has more) same (has-last ds d)
   end-met x (inr old) = has-left ds (d ∷ []) x old
 
-  pub unmet-front : IsUnmet ts mores → NotMet (literals_at ts (d ∷ ds))
+  pub unmet-front : IsUnmet us mores → NotMet (literals_at ts (d ∷ ds))
   unmet-front unmet s met = unmet-longer unmet s (meets-all s (literals_at ts (d ∷ ds)) (literals_at ts more) (all-listed ts (d ∷ ds) more front-met) met)
 
-  pub front-unmet : NotMet (literals_at ts (d ∷ ds)) → IsUnmet ts mores
+  pub front-unmet : NotMet (literals_at ts (d ∷ ds)) → IsUnmet us mores
   front-unmet unmet = longer-unmet (λ s met. unmet s (meets-all s (literals_at ts more) (literals_at ts (d ∷ ds)) (all-listed ts more (d ∷ ds) end-met) met))
 
 -- literals that are picked are met where all are
@@ -129,26 +129,26 @@ none-more ts ls instances places index j i here at never before place n h e f = 
 
 -- what the classes answer of one more literal
 module _ (p : Problem) (old new : Asserted) (d : Decided) where
-  pub undone : (after : Asserted) (count : ℕ) → IsSaidToo old new d → count ≡ length old.said → after ≡ record { table = new.table; said = take count new.said } → after ≡ old
+  pub undone : (after : Asserted) (count : ℕ) → IsSaidToo (nodes p.table) old new d → count ≡ length old.said → after ≡ record { table = new.table; said = take count new.said } → after ≡ old
   undone after count h long e =
       e ∙ ((λ i. record { table = (h.classes i).table; said = take (long i) (h.classes i).said }) ∙ λ i. record { table = old.table; said = take-append_seam old.said (h.said ∷ []) i })
 
-  pub front-met-too : IsSaidToo old new d → (ds : List Decided) → AreSpoken (nodes old.table) ds old.said → (false ≡ true) ↔ NotMet (literals_at (nodes old.table) (d ∷ ds))
-  front-met-too h ds spoken = (λ is. absurd (true≢false (sym is)), λ unmet. absurd (h.met (front-unmet (nodes old.table) ds old.said spoken d h.said h.speaks unmet)))
+  pub front-met-too : IsSaidToo (nodes p.table) old new d → (ds : List Decided) → AreSpoken (nodes old.table) (nodes p.table) ds old.said → (false ≡ true) ↔ NotMet (literals_at (nodes p.table) (d ∷ ds))
+  front-met-too h ds spoken = (λ is. absurd (true≢false (sym is)), λ unmet. absurd (h.met (front-unmet (nodes old.table) (nodes p.table) ds old.said spoken d h.said h.speaks unmet)))
 
-  pub front-refused : IsRefused old new d → (ds : List Decided) → AreSpoken (nodes old.table) ds old.said → (true ≡ true) ↔ NotMet (literals_at (nodes old.table) (d ∷ ds))
-  front-refused h ds spoken = (λ is. unmet-front (nodes old.table) ds old.said spoken d h.said h.speaks h.unmet, λ unmet. refl)
+  pub front-refused : IsRefused (nodes p.table) old new d → (ds : List Decided) → AreSpoken (nodes old.table) (nodes p.table) ds old.said → (true ≡ true) ↔ NotMet (literals_at (nodes p.table) (d ∷ ds))
+  front-refused h ds spoken = (λ is. unmet-front (nodes old.table) (nodes p.table) ds old.said spoken d h.said h.speaks h.unmet, λ unmet. refl)
 
-  pub kept-clash : (b : Bool) → IsAsked old new d b → (ds : List Decided) → AreSpoken (nodes old.table) ds old.said → not b ≡ true → Clash (instances_in (nodes old.table) p) (literals_at (nodes old.table) (ds ++ d ∷ []))
+  pub kept-clash : (b : Bool) → IsAsked (nodes p.table) old new d b → (ds : List Decided) → AreSpoken (nodes old.table) (nodes p.table) ds old.said → not b ≡ true → Clash (instances_in (nodes p.table) p) (literals_at (nodes p.table) (ds ++ d ∷ []))
   kept-clash true h ds spoken e = absurd (true≢false (sym e))
-  kept-clash false h ds spoken e = inl (unmet-longer (nodes old.table) ds old.said spoken d h.said h.speaks h.unmet)
+  kept-clash false h ds spoken e = inl (unmet-longer (nodes old.table) (nodes p.table) ds old.said spoken d h.said h.speaks h.unmet)
 
-  pub kept-quiet : (b : Bool) → IsAsked old new d b → (ds : List Decided) → AreSpoken (nodes old.table) ds old.said → (SomeFalse (instances_in (nodes old.table) p) (literals_at (nodes old.table) (ds ++ d ∷ [])) → ⊥) → not b ≡ false → IsQuiet p new (ds ++ d ∷ [])
+  pub kept-quiet : (b : Bool) → IsAsked (nodes p.table) old new d b → (ds : List Decided) → AreSpoken (nodes old.table) (nodes p.table) ds old.said → (SomeFalse (instances_in (nodes p.table) p) (literals_at (nodes p.table) (ds ++ d ∷ [])) → ⊥) → not b ≡ false → IsQuiet p new (ds ++ d ∷ [])
   kept-quiet false h ds spoken none e = absurd (true≢false e)
   kept-quiet true h ds spoken none e = subst (λ (a : Asserted). IsQuiet p a (ds ++ d ∷ [])) (sym h.classes) (record {
-    spoken = spoken-more (nodes old.table) ds old.said d h.said spoken h.speaks;
+    spoken = spoken-more (nodes old.table) (nodes p.table) ds old.said d h.said spoken h.speaks;
     quiet = λ clash. elim clash [
-      | inl unmet ↦ h.met (longer-unmet (nodes old.table) ds old.said spoken d h.said h.speaks unmet)
+      | inl unmet ↦ h.met (longer-unmet (nodes old.table) (nodes p.table) ds old.said spoken d h.said h.speaks unmet)
       | inr some ↦ none some
     ];
   })

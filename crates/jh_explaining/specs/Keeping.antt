@@ -20,8 +20,8 @@ use Rattle.jh_explaining.specs.Steps.{literals_of, trees_of, AreMarked, AreOverA
 
 -- The trail was told to the classes, and doesn't clash.
 pub record IsQuiet (p : Problem) (classes : Asserted) (trail : List Decided) : Type 0 where
-  pub spoken : AreSpoken (nodes classes.table) trail classes.said
-  pub quiet : Clash (instances_in (nodes classes.table) p) (literals_at (nodes classes.table) trail) → ⊥
+  pub spoken : AreSpoken (nodes classes.table) (nodes p.table) trail classes.said
+  pub quiet : Clash (instances_in (nodes p.table) p) (literals_at (nodes p.table) trail) → ⊥
 
 -- Steps over atoms, which say whether their literals are decisions; and decisions over atoms.
 pub record AreRight (p : Problem) (ds : List Decided) (ss : List Step) : Type 0 where

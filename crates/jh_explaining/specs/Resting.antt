@@ -9,13 +9,13 @@ use Rattle.jh_trail.specs.Saying.{literals_at, opposite_of}
 use Rattle.jh_propagating.specs.declared.problem.Problem.{Problem}
 use Rattle.jh_propagating.specs.declared.branch.Reason.{Reason}
 use Rattle.jh_propagating.specs.declared.branch.Reason.TheVariants as reason
-use Rattle.jh_propagating.specs.Problems.{IsProblem, instances_in}
+use Rattle.jh_propagating.specs.Problems.{IsPosed, instances_in}
 use Rattle.jh_propagating.specs.Branches.{IsForced, IsEqual}
 use Rattle.jh_propagating.specs.Speaking.{AreSpoken}
 
 -- The trail with its reasons: each literal that wasn't decided follows from those before it.
 pub record IsHistory (ts : List ValueTree) (p : Problem) (trail : List Decided) (reasons : List Reason) : Type 0 where
-  pub problem : IsProblem ts p
+  pub posed : IsPosed ts p
   pub over_atoms : (d : Decided) → Has trail d → Has p.ground.atoms d.atom
   pub reasoned : length reasons ≡ length trail
   pub instances : (n place : ℕ) (d : Decided) → slice_get trail n ≡ Some d → slice_get reasons n ≡ Some (reason.Instance place) → IsForced ts p (take n trail) d place
@@ -23,10 +23,10 @@ pub record IsHistory (ts : List ValueTree) (p : Problem) (trail : List Decided) 
   pub rising : (m n first later : ℕ) → m ≤ n → slice_get reasons m ≡ Some (reason.Equality first) → slice_get reasons n ≡ Some (reason.Equality later) → first ≤ later
 
 -- The classes were told the first literals of the trail, as many as the reasons of the literals before a place speak of.
-pub record IsToldBelow (ts : List ValueTree) (trail : List Decided) (reasons : List Reason) (said : List Said) (place : ℕ) : Type 0 where
+pub record IsToldBelow (us ts : List ValueTree) (trail : List Decided) (reasons : List Reason) (said : List Said) (place : ℕ) : Type 0 where
   pub counts : (n count : ℕ) → n < place → slice_get reasons n ≡ Some (reason.Equality count) → count ≤ length said
   pub told : length said ≤ length trail
-  pub spoken : AreSpoken ts (take (length said) trail) said
+  pub spoken : AreSpoken us ts (take (length said) trail) said
 
 -- each literal whose reason says that it was decided is one of these decisions
 abbrev pub AreDecided : List Decided → List Decided → List Reason → Type 0

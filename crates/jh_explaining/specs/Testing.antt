@@ -11,21 +11,21 @@ use Rattle.jh_propagating.specs.Closings.{IsFalseAt}
 use Rattle.jh_propagating.specs.Speaking.{Speaks}
 
 -- They were told it, and some structure meets all; or none does, and they are as they were.
-pub record IsSaidToo (old new : Asserted) (d : Decided) : Type 0 where
+pub record IsSaidToo (ts : List ValueTree) (old new : Asserted) (d : Decided) : Type 0 where
   pub said : Said
-  pub speaks : Speaks (nodes old.table) said d
+  pub speaks : Speaks (nodes old.table) ts said d
   pub classes : new ≡ record { table = old.table; said = old.said ++ said ∷ [] }
   pub met : IsUnmet (nodes old.table) (old.said ++ said ∷ []) → ⊥
 
-pub record IsRefused (old new : Asserted) (d : Decided) : Type 0 where
+pub record IsRefused (ts : List ValueTree) (old new : Asserted) (d : Decided) : Type 0 where
   pub said : Said
-  pub speaks : Speaks (nodes old.table) said d
+  pub speaks : Speaks (nodes old.table) ts said d
   pub classes : new ≡ old
   pub unmet : IsUnmet (nodes old.table) (old.said ++ said ∷ [])
 
-abbrev pub IsAsked : Asserted → Asserted → Decided → Bool → Type 0
-IsAsked old new d true = IsSaidToo old new d
-IsAsked old new d false = IsRefused old new d
+abbrev pub IsAsked : List ValueTree → Asserted → Asserted → Decided → Bool → Type 0
+IsAsked ts old new d true = IsSaidToo ts old new d
+IsAsked ts old new d false = IsRefused ts old new d
 
 -- One of the instances at these places is false.
 pub record IsFalseAmong (ts : List ValueTree) (p : Problem) (had : List Decided) (places : List ℕ) : Type 0 where

@@ -21,8 +21,8 @@ use jh_shortening::most_is_kept;
 /// The marks of the literals that explain why a branch is closed. The classes forget what they were told.
 fn marked(problem: &Problem, branch: &mut Branch, cause: &Cause) -> Result<Vec<bool>, NoMemory>
     requires branch { (busy : List ℕ) × IsBranch problem.now busy branch.old }
-    requires cause { IsCause (nodes branch.old.classes.table) problem.now branch.old.trail cause.now }
-    ensures explained { IfOk result (λ marks. AreExplained (nodes branch.old.classes.table) problem.now branch.old.trail branch.old.reasons.items marks.items 0) }
+    requires cause { IsCause (nodes problem.now.table) problem.now branch.old.trail cause.now }
+    ensures explained { IfOk result (λ marks. AreExplained (nodes problem.now.table) problem.now branch.old.trail branch.old.reasons.items marks.items 0) }
     ensures table { branch.new.classes.table ≡ branch.old.classes.table }
     ensures trail { branch.new.trail ≡ branch.old.trail }
     ensures reasons { branch.new.reasons.items ≡ branch.old.reasons.items }
@@ -66,12 +66,12 @@ fn add_marked(
     place: usize,
     steps: &mut Vec<Step>,
 ) -> Result<(), NoMemory>
-    requires history { IsHistory (nodes branch.now.classes.table) problem.now branch.now.trail branch.now.reasons.items }
+    requires history { IsHistory (nodes problem.now.table) problem.now branch.now.trail branch.now.reasons.items }
     requires decided { AreDecided branch.now.decisions.items branch.now.trail branch.now.reasons.items }
-    requires explained { AreExplained (nodes branch.now.classes.table) problem.now branch.now.trail branch.now.reasons.items marks.now 0 }
+    requires explained { AreExplained (nodes problem.now.table) problem.now branch.now.trail branch.now.reasons.items marks.now 0 }
     requires inside { place < length branch.now.trail }
-    requires gathered { AreGathered (nodes branch.now.classes.table) problem.now branch.now.decisions.items branch.now.trail marks.now place steps.old.items }
-    ensures { OnOk result (AreGathered (nodes branch.now.classes.table) problem.now branch.now.decisions.items branch.now.trail marks.now (place + 1) steps.new.items) }
+    requires gathered { AreGathered (nodes problem.now.table) problem.now branch.now.decisions.items branch.now.trail marks.now place steps.old.items }
+    ensures { OnOk result (AreGathered (nodes problem.now.table) problem.now branch.now.decisions.items branch.now.trail marks.now (place + 1) steps.new.items) }
 {
     most_is_kept();
     branch.trail.decides_once();
@@ -84,10 +84,10 @@ fn add_marked(
 
 /// The marked literals, in their order.
 fn gather(problem: &Problem, branch: &Branch, marks: &[bool]) -> Result<Vec<Step>, NoMemory>
-    requires history { IsHistory (nodes branch.now.classes.table) problem.now branch.now.trail branch.now.reasons.items }
+    requires history { IsHistory (nodes problem.now.table) problem.now branch.now.trail branch.now.reasons.items }
     requires decided { AreDecided branch.now.decisions.items branch.now.trail branch.now.reasons.items }
-    requires explained { AreExplained (nodes branch.now.classes.table) problem.now branch.now.trail branch.now.reasons.items marks.now 0 }
-    ensures { IfOk result (λ steps. AreGathered (nodes branch.now.classes.table) problem.now branch.now.decisions.items branch.now.trail marks.now (length branch.now.trail) steps.items) }
+    requires explained { AreExplained (nodes problem.now.table) problem.now branch.now.trail branch.now.reasons.items marks.now 0 }
+    ensures { IfOk result (λ steps. AreGathered (nodes problem.now.table) problem.now branch.now.decisions.items branch.now.trail marks.now (length branch.now.trail) steps.items) }
 {
     let mut steps = Vec::new(branch.classes.table().alloc());
     for place in 0..branch.trail.len() {
@@ -100,10 +100,12 @@ fn gather(problem: &Problem, branch: &Branch, marks: &[bool]) -> Result<Vec<Step
 /// in the explanation, and which clash. Each says whether it was decided. The classes forget what they were told.
 pub fn explain(problem: &Problem, branch: &mut Branch, cause: &Cause) -> Result<Vec<Step>, NoMemory>
     requires branch { (busy : List ℕ) × IsBranch problem.now busy branch.old }
-    requires cause { IsCause (nodes branch.old.classes.table) problem.now branch.old.trail cause.now }
-    ensures closes { IfOk result (λ steps. Closes (instances_in (nodes branch.old.classes.table) problem.now) (literals_at (nodes branch.old.classes.table) branch.old.decisions.items) (trees_of (nodes branch.old.classes.table) steps.items)) }
+    requires cause { IsCause (nodes problem.now.table) problem.now branch.old.trail cause.now }
+    ensures closes { IfOk result (λ steps. Closes (instances_in (nodes problem.now.table) problem.now) (literals_at (nodes problem.now.table) branch.old.decisions.items) (trees_of (nodes problem.now.table) steps.items)) }
     ensures right { IfOk result (λ steps. AreRight problem.now branch.old.decisions.items steps.items) }
     ensures table { branch.new.classes.table ≡ branch.old.classes.table }
+    ensures trail { branch.new.trail ≡ branch.old.trail }
+    ensures reasons { branch.new.reasons.items ≡ branch.old.reasons.items }
     ensures decisions { branch.new.decisions.items ≡ branch.old.decisions.items }
 {
     most_is_kept();

@@ -6,24 +6,25 @@ ghost use Rattle.jh_models.specs.Truths.{IsFalse, SomeFalse};
 ghost use Rattle.jh_trail.specs.Listing.{IsUndecided};
 ghost use Rattle.jh_trail.specs.Occurring.{places_in};
 ghost use Rattle.jh_trail.specs.Saying.{IsTruth, literals_at, truth_at};
-ghost use Rattle.jh_propagating.specs.Problems.{IsProblem, instances_in};
+ghost use Rattle.jh_propagating.specs.Problems.{IsPosed, IsProblem, instances_in};
 ghost use Rattle.jh_explaining.specs.Keeping.{IsQuiet};
 ghost use Rattle.jh_explaining.specs.Testing.{IsFalseAmong};
 
 use crate::places::{instance_at, place_at};
 use crate::testing::is_met;
+use jh_cong::Classes;
 use jh_name::NoMemory;
-use jh_propagating::{Branch, Problem};
+use jh_propagating::Problem;
 use jh_table::Table;
 use jh_trail::{Decided, Looked, Trail, look, others_say_nothing};
 
 /// Takes all back.
-pub(crate) fn clear(branch: &mut Branch)
-    ensures classes { branch.new.classes ≡ record { table = branch.old.classes.table; said = [] } }
-    ensures trail { branch.new.trail ≡ [] }
+pub(crate) fn clear(classes: &mut Classes, trail: &mut Trail)
+    ensures classes { classes.new ≡ record { table = classes.old.table; said = [] } }
+    ensures trail { trail.new ≡ [] }
 {
-    branch.classes.undo(0);
-    branch.trail.clear();
+    classes.undo(0);
+    trail.clear();
 }
 
 /// Whether an instance that is a node is false.
@@ -44,7 +45,7 @@ fn some_false(
     trail: &Trail,
     atom: usize,
 ) -> Result<bool, NoMemory>
-    requires { IsProblem (nodes table.now) problem.now }
+    requires { IsPosed (nodes table.now) problem.now }
     ensures { IfOk result (λ yes. IsTrue yes ↔ IsFalseAmong (nodes table.now) problem.now trail.now (places_in problem.now.ground atom)) }
 {
     let places = problem.ground.places(atom);
@@ -59,22 +60,23 @@ fn some_false(
 /// Keeps a literal. The answer is whether what is kept clashes.
 pub(crate) fn keep(
     problem: &Problem,
-    branch: &mut Branch,
+    classes: &mut Classes,
+    trail: &mut Trail,
     literal: Decided,
 ) -> Result<bool, NoMemory>
-    requires problem { IsProblem (nodes branch.old.classes.table) problem.now }
+    requires problem { IsProblem (nodes classes.old.table) problem.now }
     requires atom { Has problem.now.ground.atoms literal.atom }
-    requires quiet { IsQuiet problem.now branch.old.classes branch.old.trail }
-    requires undecided { IsUndecided branch.old.trail literal.atom }
-    ensures trail { OnOk result (branch.new.trail ≡ branch.old.trail ++ literal ∷ []) }
-    ensures table { branch.new.classes.table ≡ branch.old.classes.table }
-    ensures clash { IfOk result (λ yes. yes ≡ true → Clash (instances_in (nodes branch.old.classes.table) problem.now) (literals_at (nodes branch.old.classes.table) (branch.old.trail ++ literal ∷ []))) }
-    ensures quiet { IfOk result (λ yes. yes ≡ false → IsQuiet problem.now branch.new.classes (branch.old.trail ++ literal ∷ [])) }
+    requires quiet { IsQuiet problem.now classes.old trail.old }
+    requires undecided { IsUndecided trail.old literal.atom }
+    ensures trail { OnOk result (trail.new ≡ trail.old ++ literal ∷ []) }
+    ensures table { classes.new.table ≡ classes.old.table }
+    ensures clash { IfOk result (λ yes. yes ≡ true → Clash (instances_in (nodes problem.now.table) problem.now) (literals_at (nodes problem.now.table) (trail.old ++ literal ∷ []))) }
+    ensures quiet { IfOk result (λ yes. yes ≡ false → IsQuiet problem.now classes.new (trail.old ++ literal ∷ [])) }
 {
     others_say_nothing();
-    branch.trail.push(literal)?;
-    if some_false(branch.classes.table(), problem, &branch.trail, literal.atom)? {
+    trail.push(literal)?;
+    if some_false(&problem.table, problem, trail, literal.atom)? {
         return Ok(true);
     }
-    Ok(!is_met(problem, &mut branch.classes, literal)?)
+    Ok(!is_met(problem, classes, literal)?)
 }

@@ -2,6 +2,7 @@ ghost use Rattle.std.specs.Prelude.{◌≡◌, ◌<◌, ◌+◌, ℕ, false, IfO
 ghost use Rattle.jh_closure.specs.Nodes.{Has};
 ghost use Rattle.jh_table.specs.Nodes.{nodes};
 ghost use Rattle.jh_propagating.specs.Closings.{IsCause};
+ghost use Rattle.jh_propagating.specs.Problems.{IsProblem};
 ghost use Rattle.jh_explaining.specs.Marks.{AddsMarks, AreExplained, IsMarkedAt};
 ghost use Rattle.jh_explaining.specs.Resting.{IsHistory, IsToldBelow};
 
@@ -79,12 +80,13 @@ fn mark_reason(
     marks: &mut Vec<bool>,
     place: usize,
 ) -> Result<(), NoMemory>
-    requires history { IsHistory (nodes classes.old.table) problem.now trail.now reasons.now }
-    requires told { IsToldBelow (nodes classes.old.table) trail.now reasons.now classes.old.said (place + 1) }
-    requires explained { AreExplained (nodes classes.old.table) problem.now trail.now reasons.now marks.old.items (place + 1) }
+    requires problem { IsProblem (nodes classes.old.table) problem.now }
+    requires history { IsHistory (nodes problem.now.table) problem.now trail.now reasons.now }
+    requires told { IsToldBelow (nodes classes.old.table) (nodes problem.now.table) trail.now reasons.now classes.old.said (place + 1) }
+    requires explained { AreExplained (nodes problem.now.table) problem.now trail.now reasons.now marks.old.items (place + 1) }
     requires inside { place < length trail.now }
-    ensures told { OnOk result (IsToldBelow (nodes classes.old.table) trail.now reasons.now classes.new.said place) }
-    ensures explained { OnOk result (AreExplained (nodes classes.old.table) problem.now trail.now reasons.now marks.new.items place) }
+    ensures told { OnOk result (IsToldBelow (nodes classes.old.table) (nodes problem.now.table) trail.now reasons.now classes.new.said place) }
+    ensures explained { OnOk result (AreExplained (nodes problem.now.table) problem.now trail.now reasons.now marks.new.items place) }
     ensures table { classes.new.table ≡ classes.old.table }
 {
     let places = places_before(problem, classes, trail, reasons, place)?;
@@ -101,12 +103,13 @@ fn mark_before(
     marks: &mut Vec<bool>,
     place: usize,
 ) -> Result<(), NoMemory>
-    requires history { IsHistory (nodes classes.old.table) problem.now trail.now reasons.now }
-    requires told { IsToldBelow (nodes classes.old.table) trail.now reasons.now classes.old.said (place + 1) }
-    requires explained { AreExplained (nodes classes.old.table) problem.now trail.now reasons.now marks.old.items (place + 1) }
+    requires problem { IsProblem (nodes classes.old.table) problem.now }
+    requires history { IsHistory (nodes problem.now.table) problem.now trail.now reasons.now }
+    requires told { IsToldBelow (nodes classes.old.table) (nodes problem.now.table) trail.now reasons.now classes.old.said (place + 1) }
+    requires explained { AreExplained (nodes problem.now.table) problem.now trail.now reasons.now marks.old.items (place + 1) }
     requires inside { place < length trail.now }
-    ensures told { OnOk result (IsToldBelow (nodes classes.old.table) trail.now reasons.now classes.new.said place) }
-    ensures explained { OnOk result (AreExplained (nodes classes.old.table) problem.now trail.now reasons.now marks.new.items place) }
+    ensures told { OnOk result (IsToldBelow (nodes classes.old.table) (nodes problem.now.table) trail.now reasons.now classes.new.said place) }
+    ensures explained { OnOk result (AreExplained (nodes problem.now.table) problem.now trail.now reasons.now marks.new.items place) }
     ensures table { classes.new.table ≡ classes.old.table }
 {
     if is_marked(marks.as_slice(), place) {
@@ -124,10 +127,11 @@ fn mark_down(
     reasons: &[Reason],
     marks: &mut Vec<bool>,
 ) -> Result<(), NoMemory>
-    requires history { IsHistory (nodes classes.old.table) problem.now trail.now reasons.now }
-    requires told { IsToldBelow (nodes classes.old.table) trail.now reasons.now classes.old.said (length trail.now) }
-    requires explained { AreExplained (nodes classes.old.table) problem.now trail.now reasons.now marks.old.items (length trail.now) }
-    ensures explained { OnOk result (AreExplained (nodes classes.old.table) problem.now trail.now reasons.now marks.new.items 0) }
+    requires problem { IsProblem (nodes classes.old.table) problem.now }
+    requires history { IsHistory (nodes problem.now.table) problem.now trail.now reasons.now }
+    requires told { IsToldBelow (nodes classes.old.table) (nodes problem.now.table) trail.now reasons.now classes.old.said (length trail.now) }
+    requires explained { AreExplained (nodes problem.now.table) problem.now trail.now reasons.now marks.old.items (length trail.now) }
+    ensures explained { OnOk result (AreExplained (nodes problem.now.table) problem.now trail.now reasons.now marks.new.items 0) }
     ensures table { classes.new.table ≡ classes.old.table }
 {
     let count = trail.len();
@@ -145,13 +149,14 @@ pub(crate) fn marks_of(
     reasons: &[Reason],
     cause: &Cause,
 ) -> Result<Vec<bool>, NoMemory>
-    requires history { IsHistory (nodes classes.old.table) problem.now trail.now reasons.now }
-    requires told { IsToldBelow (nodes classes.old.table) trail.now reasons.now classes.old.said (length trail.now) }
-    requires cause { IsCause (nodes classes.old.table) problem.now trail.now cause.now }
-    ensures explained { IfOk result (λ marks. AreExplained (nodes classes.old.table) problem.now trail.now reasons.now marks.items 0) }
+    requires problem { IsProblem (nodes classes.old.table) problem.now }
+    requires history { IsHistory (nodes problem.now.table) problem.now trail.now reasons.now }
+    requires told { IsToldBelow (nodes classes.old.table) (nodes problem.now.table) trail.now reasons.now classes.old.said (length trail.now) }
+    requires cause { IsCause (nodes problem.now.table) problem.now trail.now cause.now }
+    ensures explained { IfOk result (λ marks. AreExplained (nodes problem.now.table) problem.now trail.now reasons.now marks.items 0) }
     ensures table { classes.new.table ≡ classes.old.table }
 {
-    let mut marks = marks_of_cause(classes.table(), problem, trail, reasons, cause)?;
+    let mut marks = marks_of_cause(&problem.table, problem, trail, reasons, cause)?;
     mark_down(problem, classes, trail, reasons, &mut marks)?;
     Ok(marks)
 }

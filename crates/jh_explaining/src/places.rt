@@ -5,7 +5,7 @@ ghost use Rattle.jh_cong.specs.Saying as cong;
 ghost use Rattle.jh_trail.specs.Saying.{truth_at};
 ghost use Rattle.jh_propagating.specs.Branches.{IsForced};
 ghost use Rattle.jh_propagating.specs.Closings.{IsCause};
-ghost use Rattle.jh_propagating.specs.Problems.{IsProblem};
+ghost use Rattle.jh_propagating.specs.Problems.{IsPosed, IsProblem};
 ghost use Rattle.jh_propagating.specs.declared.branch.Reason.TheVariants.{Equality};
 ghost use Rattle.jh_propagating.specs.Speaking.{IsTold, MayFollow, Speaks};
 ghost use Rattle.jh_propagating.specs.Closings.{IsFalseAt};
@@ -46,8 +46,8 @@ pub(crate) fn instance_at(problem: &Problem, place: usize) -> usize
 pub(crate) fn said_of(problem: &Problem, classes: &Classes, literal: Decided) -> Said
     requires problem { IsProblem (nodes classes.now.table) problem.now }
     requires atom { Has problem.now.ground.atoms literal.atom }
-    ensures speaks { Speaks (nodes classes.now.table) result literal }
-    ensures equal { MayFollow (nodes classes.now.table) literal → result.holds ≡ true }
+    ensures speaks { Speaks (nodes classes.now.table) (nodes problem.now.table) result literal }
+    ensures equal { MayFollow (nodes problem.now.table) literal → result.holds ≡ true }
 {
     spoken(classes.table(), problem, literal)
 }
@@ -61,7 +61,7 @@ fn places_of_instance(
     before: usize,
     place: usize,
 ) -> Result<Row<usize>, NoMemory>
-    requires problem { IsProblem (nodes table.now) problem.now }
+    requires problem { IsPosed (nodes table.now) problem.now }
     requires forced { IsForced (nodes table.now) problem.now (take before trail.now) literal place }
     ensures below { IfOk result (λ places. (n : ℕ) → Has places n → n < before) }
     ensures rests { IfOk result (λ places. RestsOn (nodes table.now) problem.now trail.now literal places) }
@@ -82,7 +82,7 @@ fn places_of_false(
     trail: &Trail,
     place: usize,
 ) -> Result<Row<usize>, NoMemory>
-    requires problem { IsProblem (nodes table.now) problem.now }
+    requires problem { IsPosed (nodes table.now) problem.now }
     requires is_false { IsFalseAt (nodes table.now) problem.now trail.now place }
     ensures inside { IfOk result (λ places. (n : ℕ) → Has places n → n < length trail.now) }
     ensures clash { IfOk result (λ places. ClashWith (nodes table.now) problem.now trail.now places) }
@@ -100,11 +100,11 @@ fn numbers_of_equality(
     requires problem { IsProblem (nodes classes.old.table) problem.now }
     requires atom { Has problem.now.ground.atoms literal.atom }
     requires inside { count ≤ length classes.old.said }
-    requires may { MayFollow (nodes classes.old.table) literal }
-    requires told { IsTold (nodes classes.old.table) (take count classes.old.said) literal }
+    requires may { MayFollow (nodes problem.now.table) literal }
+    requires told { IsTold (nodes classes.old.table) (nodes problem.now.table) (take count classes.old.said) literal }
     ensures classes { classes.new ≡ record { table = classes.old.table; said = take count classes.old.said } }
     ensures below { IfOk result (λ places. (n : ℕ) → Has places n → n < length (take count classes.old.said)) }
-    ensures told { IfOk result (λ places. IsTold (nodes classes.old.table) (cong.picked (take count classes.old.said) places) literal) }
+    ensures told { IfOk result (λ places. IsTold (nodes classes.old.table) (nodes problem.now.table) (cong.picked (take count classes.old.said) places) literal) }
 {
     let alloc = classes.table().alloc();
     classes.undo(count);
@@ -125,13 +125,14 @@ fn places_of_equality(
     place: usize,
     count: usize,
 ) -> Result<Row<usize>, NoMemory>
-    requires history { IsHistory (nodes classes.old.table) problem.now trail.now reasons.now }
-    requires told { IsToldBelow (nodes classes.old.table) trail.now reasons.now classes.old.said (place + 1) }
+    requires problem { IsProblem (nodes classes.old.table) problem.now }
+    requires history { IsHistory (nodes problem.now.table) problem.now trail.now reasons.now }
+    requires told { IsToldBelow (nodes classes.old.table) (nodes problem.now.table) trail.now reasons.now classes.old.said (place + 1) }
     requires inside { place < length trail.now }
     requires equality { slice_get reasons.now place ≡ Some (Equality count) }
     ensures below { IfOk result (λ places. (n : ℕ) → Has places n → n < place) }
-    ensures rests { IfOk result (λ places. RestsAt (nodes classes.old.table) problem.now trail.now reasons.now place places) }
-    ensures told { IsToldBelow (nodes classes.old.table) trail.now reasons.now classes.new.said place }
+    ensures rests { IfOk result (λ places. RestsAt (nodes problem.now.table) problem.now trail.now reasons.now place places) }
+    ensures told { IsToldBelow (nodes classes.old.table) (nodes problem.now.table) trail.now reasons.now classes.new.said place }
     ensures table { classes.new.table ≡ classes.old.table }
 {
     numbers_of_equality(problem, classes, trail.literal(place), count)
@@ -145,18 +146,19 @@ pub(crate) fn places_before(
     reasons: &[Reason],
     place: usize,
 ) -> Result<Row<usize>, NoMemory>
-    requires history { IsHistory (nodes classes.old.table) problem.now trail.now reasons.now }
-    requires told { IsToldBelow (nodes classes.old.table) trail.now reasons.now classes.old.said (place + 1) }
+    requires problem { IsProblem (nodes classes.old.table) problem.now }
+    requires history { IsHistory (nodes problem.now.table) problem.now trail.now reasons.now }
+    requires told { IsToldBelow (nodes classes.old.table) (nodes problem.now.table) trail.now reasons.now classes.old.said (place + 1) }
     requires inside { place < length trail.now }
     ensures below { IfOk result (λ places. (n : ℕ) → Has places n → n < place) }
-    ensures rests { IfOk result (λ places. RestsAt (nodes classes.old.table) problem.now trail.now reasons.now place places) }
-    ensures told { OnOk result (IsToldBelow (nodes classes.old.table) trail.now reasons.now classes.new.said place) }
+    ensures rests { IfOk result (λ places. RestsAt (nodes problem.now.table) problem.now trail.now reasons.now place places) }
+    ensures told { OnOk result (IsToldBelow (nodes classes.old.table) (nodes problem.now.table) trail.now reasons.now classes.new.said place) }
     ensures table { classes.new.table ≡ classes.old.table }
 {
     match reason_at(reasons, place) {
         Reason::Decision => Ok(Row::of(Vec::new(classes.table().alloc()))),
         Reason::Instance(instance) => places_of_instance(
-            classes.table(),
+            &problem.table,
             problem,
             trail,
             trail.literal(place),
@@ -183,7 +185,7 @@ pub(crate) fn places_of_cause(
     trail: &Trail,
     cause: &Cause,
 ) -> Result<Row<usize>, NoMemory>
-    requires problem { IsProblem (nodes table.now) problem.now }
+    requires problem { IsPosed (nodes table.now) problem.now }
     requires cause { IsCause (nodes table.now) problem.now trail.now cause.now }
     ensures inside { IfOk result (λ places. (n : ℕ) → Has places n → n < length trail.now) }
     ensures clash { IfOk result (λ places. ClashWith (nodes table.now) problem.now trail.now places) }

@@ -15,25 +15,26 @@ use crate::Step;
 use crate::keeping::{clear, keep};
 use crate::step::{holds, is_one, literal_at, step_at};
 use crate::testing::clashes;
+use jh_cong::Classes;
 use jh_name::NoMemory;
-use jh_propagating::{Branch, Problem};
+use jh_propagating::Problem;
 use jh_shortening::{most_is_kept, shortening_is_exact};
-use jh_trail::Decided;
+use jh_trail::{Decided, Trail};
 
 /// Whether a step is kept: it isn't the one that is taken out, and was decided, or follows from what is kept.
 fn is_kept(
     problem: &Problem,
-    branch: &mut Branch,
+    classes: &mut Classes,
+    trail: &Trail,
     step: Step,
     out: Decided,
 ) -> Result<bool, NoMemory>
-    requires problem { IsProblem (nodes branch.old.classes.table) problem.now }
+    requires problem { IsProblem (nodes classes.old.table) problem.now }
     requires atom { Has problem.now.ground.atoms step.literal.atom }
-    requires quiet { IsQuiet problem.now branch.old.classes branch.old.trail }
-    ensures classes { OnOk result (branch.new.classes ≡ branch.old.classes) }
-    ensures table { branch.new.classes.table ≡ branch.old.classes.table }
-    ensures trail { branch.new.trail ≡ branch.old.trail }
-    ensures stands { IfOk result (λ yes. IsKept (nodes branch.old.classes.table) problem.now branch.old.trail step out yes) }
+    requires quiet { IsQuiet problem.now classes.old trail.now }
+    ensures classes { OnOk result (classes.new ≡ classes.old) }
+    ensures table { classes.new.table ≡ classes.old.table }
+    ensures stands { IfOk result (λ yes. IsKept (nodes problem.now.table) problem.now trail.now step out yes) }
 {
     if is_one(step.literal, out) {
         return Ok(false);
@@ -41,59 +42,61 @@ fn is_kept(
     if step.is_decision {
         return Ok(true);
     }
-    clashes(problem, branch, step.literal)
+    clashes(problem, classes, trail, step.literal)
 }
 
 /// Keeps a step. The answer is whether what is kept clashes.
 fn keep_step(
     problem: &Problem,
-    branch: &mut Branch,
+    classes: &mut Classes,
+    trail: &mut Trail,
     step: Step,
     kept: &mut Vec<Step>,
 ) -> Result<bool, NoMemory>
-    requires problem { IsProblem (nodes branch.old.classes.table) problem.now }
+    requires problem { IsProblem (nodes classes.old.table) problem.now }
     requires atom { Has problem.now.ground.atoms step.literal.atom }
-    requires quiet { IsQuiet problem.now branch.old.classes branch.old.trail }
-    requires undecided { IsUndecided branch.old.trail step.literal.atom }
-    requires trail { branch.old.trail ≡ literals_of kept.old.items }
+    requires quiet { IsQuiet problem.now classes.old trail.old }
+    requires undecided { IsUndecided trail.old step.literal.atom }
+    requires trail { trail.old ≡ literals_of kept.old.items }
     ensures kept { OnOk result (kept.new.items ≡ kept.old.items ++ step ∷ []) }
-    ensures trail { OnOk result (branch.new.trail ≡ literals_of (kept.old.items ++ step ∷ [])) }
-    ensures table { branch.new.classes.table ≡ branch.old.classes.table }
-    ensures clash { IfOk result (λ yes. yes ≡ true → Clash (instances_in (nodes branch.old.classes.table) problem.now) (trees_of (nodes branch.old.classes.table) (kept.old.items ++ step ∷ []))) }
-    ensures quiet { IfOk result (λ yes. yes ≡ false → IsQuiet problem.now branch.new.classes branch.new.trail) }
+    ensures trail { OnOk result (trail.new ≡ literals_of (kept.old.items ++ step ∷ [])) }
+    ensures table { classes.new.table ≡ classes.old.table }
+    ensures clash { IfOk result (λ yes. yes ≡ true → Clash (instances_in (nodes problem.now.table) problem.now) (trees_of (nodes problem.now.table) (kept.old.items ++ step ∷ []))) }
+    ensures quiet { IfOk result (λ yes. yes ≡ false → IsQuiet problem.now classes.new trail.new) }
 {
     kept.push(step)?;
-    keep(problem, branch, step.literal)
+    keep(problem, classes, trail, step.literal)
 }
 
 /// Goes one step further: keeps it where it is kept. The answer is whether what is kept clashes.
 fn take(
     problem: &Problem,
-    branch: &mut Branch,
+    classes: &mut Classes,
+    trail: &mut Trail,
     steps: &[Step],
     index: usize,
     out: Decided,
     kept: &mut Vec<Step>,
 ) -> Result<bool, NoMemory>
-    requires problem { IsProblem (nodes branch.old.classes.table) problem.now }
+    requires problem { IsProblem (nodes classes.old.table) problem.now }
     requires inside { index < length steps.now }
     requires over { AreOverAtoms problem.now.ground (literals_of steps.now) }
     requires out { Has problem.now.ground.atoms out.atom }
-    requires quiet { IsQuiet problem.now branch.old.classes branch.old.trail }
-    requires trail { branch.old.trail ≡ literals_of kept.old.items }
-    requires kept { AreKept (nodes branch.old.classes.table) problem.now steps.now out index kept.old.items }
-    ensures table { branch.new.classes.table ≡ branch.old.classes.table }
-    ensures trail { OnOk result (branch.new.trail ≡ literals_of kept.new.items) }
-    ensures kept { OnOk result (AreKept (nodes branch.old.classes.table) problem.now steps.now out (index + 1) kept.new.items) }
-    ensures clash { IfOk result (λ yes. yes ≡ true → Clash (instances_in (nodes branch.old.classes.table) problem.now) (trees_of (nodes branch.old.classes.table) kept.new.items)) }
-    ensures quiet { IfOk result (λ yes. yes ≡ false → IsQuiet problem.now branch.new.classes branch.new.trail) }
+    requires quiet { IsQuiet problem.now classes.old trail.old }
+    requires trail { trail.old ≡ literals_of kept.old.items }
+    requires kept { AreKept (nodes problem.now.table) problem.now steps.now out index kept.old.items }
+    ensures table { classes.new.table ≡ classes.old.table }
+    ensures trail { OnOk result (trail.new ≡ literals_of kept.new.items) }
+    ensures kept { OnOk result (AreKept (nodes problem.now.table) problem.now steps.now out (index + 1) kept.new.items) }
+    ensures clash { IfOk result (λ yes. yes ≡ true → Clash (instances_in (nodes problem.now.table) problem.now) (trees_of (nodes problem.now.table) kept.new.items)) }
+    ensures quiet { IfOk result (λ yes. yes ≡ false → IsQuiet problem.now classes.new trail.new) }
 {
     most_is_kept();
-    branch.classes.table().nodes_differ();
+    problem.table.nodes_differ();
     let step = step_at(steps, index);
-    let keeps = is_kept(problem, branch, step, out)?;
+    let keeps = is_kept(problem, classes, trail, step, out)?;
     if keeps {
-        keep_step(problem, branch, step, kept)
+        keep_step(problem, classes, trail, step, kept)
     } else {
         Ok(false)
     }
@@ -102,24 +105,25 @@ fn take(
 /// Of an explanation those steps that still follow without a decision. None comes where they don't clash.
 fn without(
     problem: &Problem,
-    branch: &mut Branch,
+    classes: &mut Classes,
+    trail: &mut Trail,
     steps: &[Step],
     out: Decided,
 ) -> Result<Option<Vec<Step>>, NoMemory>
-    requires problem { IsProblem (nodes branch.old.classes.table) problem.now }
+    requires problem { IsProblem (nodes classes.old.table) problem.now }
     requires over { AreOverAtoms problem.now.ground (literals_of steps.now) }
     requires out { Has problem.now.ground.atoms out.atom }
-    requires quiet { Clash (instances_in (nodes branch.old.classes.table) problem.now) [] → ⊥ }
-    ensures table { branch.new.classes.table ≡ branch.old.classes.table }
-    ensures tried { IfOk result (λ found. IsTried (nodes branch.old.classes.table) problem.now steps.now out (kept_items found)) }
+    requires quiet { Clash (instances_in (nodes problem.now.table) problem.now) [] → ⊥ }
+    ensures table { classes.new.table ≡ classes.old.table }
+    ensures tried { IfOk result (λ found. IsTried (nodes problem.now.table) problem.now steps.now out (kept_items found)) }
 {
     most_is_kept();
-    branch.classes.table().nodes_differ();
-    let alloc = branch.classes.table().alloc();
-    clear(branch);
+    problem.table.nodes_differ();
+    let alloc = classes.table().alloc();
+    clear(classes, trail);
     let mut kept = Vec::new(alloc);
     for index in 0..steps.len() {
-        let clash = take(problem, branch, steps, index, out, &mut kept)?;
+        let clash = take(problem, classes, trail, steps, index, out, &mut kept)?;
         if clash {
             return Ok(Some(kept));
         }
@@ -130,21 +134,22 @@ fn without(
 /// An explanation without a decision that stands in it, where there is one.
 fn taken_out(
     problem: &Problem,
-    branch: &mut Branch,
+    classes: &mut Classes,
+    trail: &mut Trail,
     steps: Vec<Step>,
     out: Decided,
 ) -> Result<Vec<Step>, NoMemory>
-    requires problem { IsProblem (nodes branch.old.classes.table) problem.now }
+    requires problem { IsProblem (nodes classes.old.table) problem.now }
     requires over { AreOverAtoms problem.now.ground (literals_of steps.items) }
     requires out { Has problem.now.ground.atoms out.atom }
-    requires quiet { Clash (instances_in (nodes branch.old.classes.table) problem.now) [] → ⊥ }
-    ensures table { branch.new.classes.table ≡ branch.old.classes.table }
-    ensures tries { IfOk result (λ made. (ds tried : List Decided) → AreTried (nodes branch.old.classes.table) problem.now ds tried steps.items → AreTried (nodes branch.old.classes.table) problem.now ds (out ∷ tried) made.items) }
+    requires quiet { Clash (instances_in (nodes problem.now.table) problem.now) [] → ⊥ }
+    ensures table { classes.new.table ≡ classes.old.table }
+    ensures tries { IfOk result (λ made. (ds tried : List Decided) → AreTried (nodes problem.now.table) problem.now ds tried steps.items → AreTried (nodes problem.now.table) problem.now ds (out ∷ tried) made.items) }
 {
     most_is_kept();
     shortening_is_exact();
-    branch.classes.table().nodes_differ();
-    let found = without(problem, branch, steps.as_slice(), out)?;
+    problem.table.nodes_differ();
+    let found = without(problem, classes, trail, steps.as_slice(), out)?;
     match found {
         Some(kept) => Ok(kept),
         None => Ok(steps),
@@ -154,51 +159,53 @@ fn taken_out(
 /// An explanation without a decision, where there is one.
 fn shortened_by(
     problem: &Problem,
-    branch: &mut Branch,
+    classes: &mut Classes,
+    trail: &mut Trail,
     steps: Vec<Step>,
     out: Decided,
 ) -> Result<Vec<Step>, NoMemory>
-    requires problem { IsProblem (nodes branch.old.classes.table) problem.now }
+    requires problem { IsProblem (nodes classes.old.table) problem.now }
     requires over { AreOverAtoms problem.now.ground (literals_of steps.items) }
     requires out { Has problem.now.ground.atoms out.atom }
-    requires quiet { Clash (instances_in (nodes branch.old.classes.table) problem.now) [] → ⊥ }
-    ensures table { branch.new.classes.table ≡ branch.old.classes.table }
-    ensures tries { IfOk result (λ made. (ds tried : List Decided) → AreTried (nodes branch.old.classes.table) problem.now ds tried steps.items → AreTried (nodes branch.old.classes.table) problem.now ds (out ∷ tried) made.items) }
+    requires quiet { Clash (instances_in (nodes problem.now.table) problem.now) [] → ⊥ }
+    ensures table { classes.new.table ≡ classes.old.table }
+    ensures tries { IfOk result (λ made. (ds tried : List Decided) → AreTried (nodes problem.now.table) problem.now ds tried steps.items → AreTried (nodes problem.now.table) problem.now ds (out ∷ tried) made.items) }
 {
     most_is_kept();
     shortening_is_exact();
-    branch.classes.table().nodes_differ();
+    problem.table.nodes_differ();
     if holds(steps.as_slice(), out) {
-        taken_out(problem, branch, steps, out)
+        taken_out(problem, classes, trail, steps, out)
     } else {
         Ok(steps)
     }
 }
 
 /// An explanation in which each decision is needed: without it, whatever else is left out, what is left explains nothing. It is
-/// made of one in which each step says whether it was decided, where the instances don't clash by themselves. The branch forgets
-/// all.
+/// made of one in which each step says whether it was decided, where the instances don't clash by themselves. What the classes and
+/// the trail held before is forgotten.
 pub fn shortened(
     problem: &Problem,
-    branch: &mut Branch,
+    classes: &mut Classes,
+    trail: &mut Trail,
     steps: Vec<Step>,
     decisions: &[Decided],
 ) -> Result<Vec<Step>, NoMemory>
-    requires problem { IsProblem (nodes branch.old.classes.table) problem.now }
+    requires problem { IsProblem (nodes classes.old.table) problem.now }
     requires right { AreRight problem.now decisions.now steps.items }
-    requires closes { Closes (instances_in (nodes branch.old.classes.table) problem.now) (literals_at (nodes branch.old.classes.table) decisions.now) (trees_of (nodes branch.old.classes.table) steps.items) }
-    requires quiet { Clash (instances_in (nodes branch.old.classes.table) problem.now) [] → ⊥ }
-    ensures explains { IfOk result (λ made. IsExplanation (instances_in (nodes branch.old.classes.table) problem.now) (literals_at (nodes branch.old.classes.table) decisions.now) (trees_of (nodes branch.old.classes.table) made.items)) }
+    requires closes { Closes (instances_in (nodes problem.now.table) problem.now) (literals_at (nodes problem.now.table) decisions.now) (trees_of (nodes problem.now.table) steps.items) }
+    requires quiet { Clash (instances_in (nodes problem.now.table) problem.now) [] → ⊥ }
+    ensures explains { IfOk result (λ made. IsExplanation (instances_in (nodes problem.now.table) problem.now) (literals_at (nodes problem.now.table) decisions.now) (trees_of (nodes problem.now.table) made.items)) }
     ensures right { IfOk result (λ made. AreRight problem.now decisions.now made.items) }
-    ensures table { branch.new.classes.table ≡ branch.old.classes.table }
+    ensures table { classes.new.table ≡ classes.old.table }
 {
     shortening_is_exact();
-    branch.classes.table().nodes_differ();
+    problem.table.nodes_differ();
     let mut steps = steps;
     let count = decisions.len();
     for index in 0..count {
         let decision = literal_at(decisions, count - 1 - index);
-        let made = shortened_by(problem, branch, steps, decision)?;
+        let made = shortened_by(problem, classes, trail, steps, decision)?;
         steps = made;
     }
     Ok(steps)

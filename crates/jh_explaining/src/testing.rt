@@ -6,7 +6,7 @@ ghost use Rattle.jh_models.specs.Clashes.{Clash};
 ghost use Rattle.jh_models.specs.Truths.{IsFalse, SomeFalse};
 ghost use Rattle.jh_trail.specs.declared.decided.Decided.{Decided};
 ghost use Rattle.jh_trail.specs.Saying.{IsTruth, literals_at, opposite_of, truth_at};
-ghost use Rattle.jh_propagating.specs.Problems.{IsProblem, instances_in};
+ghost use Rattle.jh_propagating.specs.Problems.{IsPosed, IsProblem, instances_in};
 ghost use Rattle.jh_propagating.specs.Speaking.{AreSpoken};
 ghost use Rattle.jh_explaining.specs.Keeping.{IsQuiet};
 ghost use Rattle.jh_explaining.specs.Testing.{IsAsked};
@@ -15,7 +15,7 @@ use crate::places::{instance_at, place_at, said_of};
 use crate::step::has;
 use jh_cong::{Classes, CongError};
 use jh_name::NoMemory;
-use jh_propagating::{Branch, Problem};
+use jh_propagating::Problem;
 use jh_table::Table;
 use jh_trail::{Decided, Looked, Trail, forced_stands, look, more_say_more, opposite};
 
@@ -38,7 +38,7 @@ fn is_forced(
     trail: &Trail,
     literal: Decided,
 ) -> Result<bool, NoMemory>
-    requires problem { IsProblem (nodes table.now) problem.now }
+    requires problem { IsPosed (nodes table.now) problem.now }
     requires atom { Has problem.now.ground.atoms literal.atom }
     requires none_false { SomeFalse (instances_in (nodes table.now) problem.now) (literals_at (nodes table.now) trail.now) → ⊥ }
     ensures { IfOk result (λ yes. IsTrue yes ↔ SomeFalse (instances_in (nodes table.now) problem.now) (literals_at (nodes table.now) (opposite_of literal ∷ trail.now))) }
@@ -67,7 +67,7 @@ pub(crate) fn is_met(
 ) -> Result<bool, NoMemory>
     requires problem { IsProblem (nodes classes.old.table) problem.now }
     requires atom { Has problem.now.ground.atoms literal.atom }
-    ensures asked { IfOk result (λ yes. IsAsked classes.old classes.new literal yes) }
+    ensures asked { IfOk result (λ yes. IsAsked (nodes problem.now.table) classes.old classes.new literal yes) }
     ensures table { classes.new.table ≡ classes.old.table }
 {
     let alloc = classes.table().alloc();
@@ -85,7 +85,7 @@ fn is_equal(problem: &Problem, classes: &mut Classes, literal: Decided) -> Resul
     requires atom { Has problem.now.ground.atoms literal.atom }
     ensures classes { OnOk result (classes.new ≡ classes.old) }
     ensures table { classes.new.table ≡ classes.old.table }
-    ensures unmet { IfOk result (λ yes. (ds : List Decided) → AreSpoken (nodes classes.old.table) ds classes.old.said → IsTrue yes ↔ NotMet (literals_at (nodes classes.old.table) (opposite_of literal ∷ ds))) }
+    ensures unmet { IfOk result (λ yes. (ds : List Decided) → AreSpoken (nodes classes.old.table) (nodes problem.now.table) ds classes.old.said → IsTrue yes ↔ NotMet (literals_at (nodes problem.now.table) (opposite_of literal ∷ ds))) }
 {
     let count = classes.len();
     if is_met(problem, classes, opposite(literal))? {
@@ -98,19 +98,19 @@ fn is_equal(problem: &Problem, classes: &mut Classes, literal: Decided) -> Resul
 /// Whether the opposite of a literal clashes with the trail, which doesn't clash.
 pub(crate) fn clashes(
     problem: &Problem,
-    branch: &mut Branch,
+    classes: &mut Classes,
+    trail: &Trail,
     literal: Decided,
 ) -> Result<bool, NoMemory>
-    requires problem { IsProblem (nodes branch.old.classes.table) problem.now }
+    requires problem { IsProblem (nodes classes.old.table) problem.now }
     requires atom { Has problem.now.ground.atoms literal.atom }
-    requires quiet { IsQuiet problem.now branch.old.classes branch.old.trail }
-    ensures clash { IfOk result (λ yes. IsTrue yes ↔ Clash (instances_in (nodes branch.old.classes.table) problem.now) (literals_at (nodes branch.old.classes.table) (opposite_of literal ∷ branch.old.trail))) }
-    ensures classes { OnOk result (branch.new.classes ≡ branch.old.classes) }
-    ensures table { branch.new.classes.table ≡ branch.old.classes.table }
-    ensures trail { branch.new.trail ≡ branch.old.trail }
+    requires quiet { IsQuiet problem.now classes.old trail.now }
+    ensures clash { IfOk result (λ yes. IsTrue yes ↔ Clash (instances_in (nodes problem.now.table) problem.now) (literals_at (nodes problem.now.table) (opposite_of literal ∷ trail.now))) }
+    ensures classes { OnOk result (classes.new ≡ classes.old) }
+    ensures table { classes.new.table ≡ classes.old.table }
 {
-    if is_forced(branch.classes.table(), problem, &branch.trail, literal)? {
+    if is_forced(&problem.table, problem, trail, literal)? {
         return Ok(true);
     }
-    is_equal(problem, &mut branch.classes, literal)
+    is_equal(problem, classes, literal)
 }

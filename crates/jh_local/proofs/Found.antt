@@ -1,5 +1,5 @@
 -- What a search found has formulas for its atoms.
-use Rattle.std.proofs.Common.{◌≡◌, refl, sym, ap, ◌∙◌, subst, ℕ, zero, suc, true, ◌⊎◌, inl, inr, List, [], ◌∷◌, ◌++◌, Some, slice_get}
+use Rattle.std.proofs.Common.{◌≡◌, refl, subst, ℕ, zero, suc, true, inl, inr, List, [], ◌∷◌, ◌++◌, Some, slice_get}
 use Rattle.jh_tree.specs.Tree.{FormulaTree, ValueTree}
 use Rattle.jh_table.specs.Entries.{is_truth}
 use Rattle.jh_structure.specs.Literals.{LiteralTree, IsListed}
@@ -10,7 +10,7 @@ use Rattle.jh_models.specs.Explanations.{GoesOn, IsExplanation}
 use Rattle.jh_models.specs.GroundModel.{IsGroundModel}
 use Rattle.jh_trail.specs.declared.decided.Decided.{Decided}
 use Rattle.jh_trail.specs.Saying.{literal_tree_at, literals_at, truth_at}
-use Rattle.jh_search.specs.Paths.{all_closed, closed_at}
+use Rattle.jh_search.specs.Paths.{all_closed}
 use Rattle.jh_search.specs.declared.turn.ClosedBranch.{ClosedBranch}
 use Rattle.jh_local.specs.Standing.{AreFormulas, HasFormulas, EachFormulas}
 use Rattle.jh_local.proofs.Grounds.{is-formula}

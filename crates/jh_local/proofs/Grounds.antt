@@ -1,5 +1,5 @@
 -- A node whose tree is a ground atom is a formula: what is none counts as True, which is no atom.
-use Rattle.std.proofs.Common.{◌≡◌, refl, sym, ap, ℕ, Bool, true, false, ◌⊎◌, inl, inr, List, [], ◌∷◌, ◌++◌, Option, Some, None, slice_get}
+use Rattle.std.proofs.Common.{◌≡◌, refl, sym, ap, Bool, true, false, ◌⊎◌, inl, inr, List, [], ◌∷◌, ◌++◌, Option, Some, None}
 use Rattle.std.proofs.lemmas.Bool.{true≢false}
 use Rattle.jh_tree.specs.Tree.{FormulaTree, ValueTree, of_object, of_number, of_set, of_field, of_truth}
 use Rattle.jh_tree.specs.Tree as t

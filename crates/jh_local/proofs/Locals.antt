@@ -1,5 +1,5 @@
 -- Instances of a sequent of local shape are And and Or over literals of local shape.
-use Rattle.std.proofs.Common.{◌≡◌, refl, sym, ℕ, Bool, true, false, ◌&&◌, if◌then◌else◌, List, [], ◌∷◌, ◌++◌, map}
+use Rattle.std.proofs.Common.{◌≡◌, refl, sym, Bool, true, false, ◌&&◌, if◌then◌else◌, List, [], ◌∷◌, ◌++◌, map}
 use Rattle.std.specs.List.{list_all}
 use Rattle.std.proofs.lemmas.Bool.{true≢false}
 use Rattle.jh_tree.specs.Tree.{FormulaTree}
@@ -8,7 +8,7 @@ use Rattle.jh_tree.proofs.ClosedLemmas.{both-left, both-right}
 use Rattle.jh_compare.specs.Unmarked.{unmarked_formula}
 use Rattle.jh_normal.specs.Normal.{is_atom, normal}
 use Rattle.jh_sequent.specs.Sequents.{HypTree, SequentTree}
-use Rattle.jh_split.specs.Local.{has_local_shape, is_local}
+use Rattle.jh_split.specs.Local.{has_local_shape}
 use Rattle.jh_instances.specs.Entries.{Entry, formulas}
 use Rattle.jh_instances.specs.Instances.{is_ground, instances_of, normal_facts}
 use Rattle.jh_interpreted.specs.Instances.{is_local_atom, is_local_instance}

@@ -1,19 +1,16 @@
 -- The instances among entries that stand in a table.
-use Rattle.std.proofs.Common.{◌≡◌, refl, sym, ap, ◌∙◌, ℕ, zero, suc, ◌+◌, Bool, true, false, inl, inr, if◌then◌else◌, List, [], ◌∷◌, ◌++◌, map, take, length, Option, None, Some, slice_get, subst}
+use Rattle.std.proofs.Common.{◌≡◌, refl, sym, ap, ◌∙◌, ℕ, zero, suc, Bool, true, false, inl, inr, if◌then◌else◌, List, [], ◌∷◌, ◌++◌, take, length, Option, Some, Result, Ok, Err, IfOk, slice_get, subst}
 use Rattle.std.proofs.lemmas.Bool.{true≢false}
 use Rattle.std.proofs.lemmas.List.{map_push}
 use Rattle.jh_tree.specs.Tree.{FormulaTree, ValueTree, of_truth}
 use Rattle.jh_closure.proofs.Having.{has-pushed}
 use Rattle.jh_table.specs.Entries.{Listing, is_truth, the_truth}
-use Rattle.jh_table.specs.Growth.{Extends}
-use Rattle.jh_table.specs.Nodes.{nodes}
 use Rattle.jh_closure.specs.Nodes.{Has}
 use Rattle.jh_trail.specs.Saying.{AreTruths, truths_at}
 use Rattle.jh_instances.specs.Entries.{Entry}
 use Rattle.jh_instances.specs.Instances.{is_ground, instances_of}
-use Rattle.jh_entries.specs.declared.entry.NodeEntries.{NodeEntries}
 use Rattle.jh_entries.specs.declared.entry.NodeEntry.{NodeEntry}
-use Rattle.jh_entries.specs.Standing.{IsEntry, IsMade, AreEntries}
+use Rattle.jh_entries.specs.Standing.{IsEntry, AreEntries}
 
 some-same : {X : Type 0} (x y : X) → Some x ≡ Some y → x ≡ y
 some-same x y e = cc
@@ -44,15 +41,6 @@ instances-next (f ∷ es) zero e at = first-instance f e (some-same f e at)
 instances-next (f ∷ es) (suc i) e at =
     later-instance (is_ground f.formula) f.formula (instances_of (take (suc i) es)) (instances_of (take i es)) (if is_ground e.formula then e.formula ∷ [] else []) (instances-next es i e at)
 
--- formulas stay while the table grows
-kept-there : (t u : Listing) (n : ℕ) → Extends t u → (v : Option ValueTree) → is_truth v ≡ true → slice_get (nodes t) n ≡ v → slice_get (nodes u) n ≡ slice_get (nodes t) n
-unfolding is_truth
-kept-there t u n g None h e = absurd (true≢false (sym h))
-kept-there t u n g (Some w) h e = g.nodes.keeps n w e ∙ sym e
-
-still-there : (t u : Listing) (n : ℕ) → Extends t u → is_truth (slice_get (nodes t) n) ≡ true → slice_get (nodes u) n ≡ slice_get (nodes t) n
-still-there t u n g h = kept-there t u n g (slice_get (nodes t) n) h refl
-
 -- one more instance
 pub truth-is : (v : Option ValueTree) (a : FormulaTree) → v ≡ Some (of_truth a) → the_truth v ≡ a
 unfolding the_truth
@@ -71,13 +59,6 @@ truths-more ts ns more n is there h m k =
       | inr same ↦ subst (λ l. is_truth (slice_get ts l) ≡ true) same there
     ]
 
-pub truths-stay : (t u : Listing) (ns : List ℕ) → Extends t u → AreTruths (nodes t) ns → AreTruths (nodes u) ns
-truths-stay t u ns g h n there = ap is_truth (still-there t u n g (h n there)) ∙ h n there
-
-pub truths-same : (t u : Listing) (ns : List ℕ) → Extends t u → AreTruths (nodes t) ns → truths_at (nodes u) ns ≡ truths_at (nodes t) ns
-truths-same t u [] g h = refl
-truths-same t u (n ∷ ns) g h = λ i. the_truth (still-there t u n g (h n (inl refl)) i) ∷ truths-same t u ns g (λ m k. h m (inr k)) i
-
 pub entries-length : (t : Listing) (pool : List ℕ) (xs : List NodeEntry) (es : List Entry) → AreEntries t pool xs es → length es ≡ length xs
 entries-length t pool [] [] h = refl
 entries-length t pool [] (e ∷ es) h = absurd h
@@ -87,3 +68,8 @@ entries-length t pool (x ∷ xs) (e ∷ es) h = ap suc (entries-length t pool xs
 pub truth-there : (v : Option ValueTree) (a : FormulaTree) → v ≡ Some (of_truth a) → is_truth v ≡ true
 unfolding is_truth
 truth-there v a e = ap is_truth e
+
+-- what is made has both, and so what follows from both
+pub both-made : {X E : Type 0} {P Q R : X → Type 0} (r : Result X E) → ((x : X) → P x → Q x → R x) → IfOk r P → IfOk r Q → IfOk r R
+both-made (Ok x) f p q = f x p q
+both-made (Err e) f p q = tt

@@ -1,5 +1,5 @@
 -- What the ground search may say of a sequent of local shape.
-use Rattle.std.specs.Prelude.{◌≡◌, ◌<◌, ◌≤◌, ℕ, List, map, length}
+use Rattle.std.specs.Prelude.{◌≡◌, ◌<◌, ◌≤◌, ℕ, List, map}
 use Rattle.jh_tree.specs.Tree.{FormulaTree}
 use Rattle.jh_sequent.specs.Sequents.{SequentTree}
 use Rattle.jh_structure.specs.declared.literal.Literal.{Literal}

@@ -3,7 +3,6 @@ ghost use Rattle.jh_table.specs.Nodes.{nodes};
 ghost use Rattle.jh_sequent.specs.Sequents.{SequentTree};
 ghost use Rattle.jh_localized.specs.Forming.{IsFormed};
 ghost use Rattle.jh_propagating.specs.Problems.{IsProblem, instances_in};
-ghost use Rattle.jh_propagating.specs.declared.problem.Problem.{Problem};
 ghost use Rattle.jh_search.specs.Outcomes.{IsFound};
 ghost use Rattle.jh_apart.specs.Standing.{IsPosed};
 ghost use Rattle.jh_local.specs.Answers.{IsSearched, IsSearchedFor};
@@ -22,34 +21,33 @@ use jh_search::{Found, Searching, search, start_search};
 use jh_table::Table;
 
 /// What is said where this was found.
-fn answer_of(searching: &Searching, found: Found) -> Result<Searched, NoMemory>
-    requires { (p : Problem) × (leaves : ℕ) × IsFound p leaves searching.now found }
-    ensures { IfOk result (λ made. (p : Problem) (leaves many : ℕ) → many ≤ 100000 → IsFound p leaves searching.now found → IsSearchedFor (instances_in (nodes searching.now.branch.classes.table) p) many leaves made) }
+fn answer_of(problem: &Problem, searching: &Searching, found: Found) -> Result<Searched, NoMemory>
+    requires { (leaves : ℕ) × IsFound problem.now leaves searching.now found }
+    ensures { IfOk result (λ made. (leaves many : ℕ) → many ≤ 100000 → IsFound problem.now leaves searching.now found → IsSearchedFor (instances_in (nodes problem.now.table) problem.now) many leaves made) }
 {
     match found {
         Found::NoModel => Ok(Searched::Proved),
         Found::Model => {
-            let literals = boxed_trail(&searching.branch)?;
+            let literals = boxed_trail(&problem.table, &searching.branch.trail)?;
             Ok(Searched::Unproved(LocalCause::Open(Branch { literals })))
         }
         Found::Spent => {
-            let table = searching.branch.classes.table();
-            let closed = boxed_branches(table, searching.closed.as_slice())?;
+            let closed = boxed_branches(&problem.table, searching.closed.as_slice())?;
             Ok(Searched::Unproved(LocalCause::Budget(closed)))
         }
     }
 }
 
-/// Searches a problem whose formulas are nodes of this table.
-fn searched(table: Table, problem: &Problem, leaves: usize) -> Result<Searched, NoMemory>
-    requires problem { IsProblem (nodes table) problem.now }
+/// Searches a problem with this table of names.
+fn searched(atoms: Table, problem: &Problem, leaves: usize) -> Result<Searched, NoMemory>
+    requires problem { IsProblem (nodes atoms) problem.now }
     requires leaves { 0 < leaves }
-    ensures { IfOk result (λ made. (many : ℕ) → many ≤ 100000 → IsSearchedFor (instances_in (nodes table) problem.now) many leaves made) }
+    ensures { IfOk result (λ made. (many : ℕ) → many ≤ 100000 → IsSearchedFor (instances_in (nodes problem.now.table) problem.now) many leaves made) }
 {
-    let classes = Classes::new(table.alloc(), table)?;
+    let classes = Classes::new(atoms.alloc(), atoms)?;
     let mut searching = start_search(problem, classes)?;
     let found = search(problem, &mut searching, leaves)?;
-    answer_of(&searching, found)
+    answer_of(problem, &searching, found)
 }
 
 /// Searches the instances of facts.
@@ -67,8 +65,8 @@ fn answer_for(mut apart: Apart, rounds: u32, leaves: usize) -> Result<Searched, 
         rounds,
     ) {
         Ok(made) => {
-            let problem = posed(&mut apart.table, &made)?;
-            searched(apart.table, &problem, leaves)
+            let (problem, atoms) = posed(apart.table, &made)?;
+            searched(atoms, &problem, leaves)
         }
         Err(InstanceError::TooMany(count)) => { Ok(Searched::Unproved(LocalCause::TooMany(count))) }
         Err(InstanceError::Memory) => Err(NoMemory),

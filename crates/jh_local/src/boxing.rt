@@ -12,11 +12,10 @@ ghost use Rattle.jh_local.specs.Standing.{AreFormulas, EachFormulas};
 
 use crate::answer::Closed;
 use jh_name::{NoMemory, Row};
-use jh_propagating::Branch;
 use jh_search::ClosedBranch;
 use jh_structure::Literal;
 use jh_table::Table;
-use jh_trail::Decided;
+use jh_trail::{Decided, Trail};
 use jh_value::boxed_formula;
 
 /// A literal with its atom boxed.
@@ -51,14 +50,13 @@ pub(crate) fn boxed_literals(table: &Table, literals: &[Decided]) -> Result<Row<
 }
 
 /// The literals of the trail with their atoms boxed.
-pub(crate) fn boxed_trail(branch: &Branch) -> Result<Row<Literal>, NoMemory>
-    requires there { AreFormulas (nodes branch.now.classes.table) branch.now.trail }
-    ensures { IfOk result (λ made. literal_trees made ≡ literals_at (nodes branch.now.classes.table) branch.now.trail) }
+pub(crate) fn boxed_trail(table: &Table, trail: &Trail) -> Result<Row<Literal>, NoMemory>
+    requires there { AreFormulas (nodes table.now) trail.now }
+    ensures { IfOk result (λ made. literal_trees made ≡ literals_at (nodes table.now) trail.now) }
 {
-    let table = branch.classes.table();
     let mut made = Vec::new(table.alloc());
-    for place in 0..branch.trail.len() {
-        made.push(boxed(table, branch.trail.literal(place))?)?;
+    for place in 0..trail.len() {
+        made.push(boxed(table, trail.literal(place))?)?;
     }
     Ok(Row::of(made))
 }

@@ -12,7 +12,6 @@ ghost use Rattle.jh_entries.specs.Standing.{IsMade};
 ghost use Rattle.jh_propagating.specs.Problems.{IsProblem, instances_in};
 
 use jh_entries::{NodeEntries, NodeEntry};
-use jh_make::{falsehood, truth};
 use jh_name::NoMemory;
 use jh_propagating::{Problem, pose};
 use jh_table::Table;
@@ -52,14 +51,12 @@ fn instances(table: &Table, entries: &NodeEntries) -> Result<Vec<usize>, NoMemor
     Ok(made)
 }
 
-/// The problem of the instances among entries.
-pub(crate) fn posed(table: &mut Table, entries: &NodeEntries) -> Result<Problem, NoMemory>
-    requires made { (es : List Entry) × IsMade table.old entries.now es × (list_all are_literals (instances_of es) ≡ true) }
-    ensures problem { IfOk result (λ made. IsProblem (nodes table.new) made) }
-    ensures instances { IfOk result (λ made. (es : List Entry) → IsMade table.old entries.now es → instances_in (nodes table.new) made ≡ instances_of es) }
+/// The problem of the instances among entries, with its table of names.
+pub(crate) fn posed(table: Table, entries: &NodeEntries) -> Result<(Problem, Table), NoMemory>
+    requires made { (es : List Entry) × IsMade table entries.now es × (list_all are_literals (instances_of es) ≡ true) }
+    ensures problem { IfOk result (λ made. IsProblem (nodes made.1) made.0) }
+    ensures instances { IfOk result (λ made. (es : List Entry) → IsMade table entries.now es → instances_in (nodes made.0.table) made.0 ≡ instances_of es) }
 {
-    let instances = instances(table, entries)?;
-    let yes = truth(table)?;
-    let no = falsehood(table)?;
-    pose(table, instances, yes, no)
+    let instances = instances(&table, entries)?;
+    pose(table, instances)
 }

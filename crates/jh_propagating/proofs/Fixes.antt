@@ -61,7 +61,7 @@ false-here ts ls (i ∷ is) zero n e h = let f : i ≡ n = cc in inl (subst (λ 
 false-here ts ls (i ∷ is) (suc j) n e h = inr (false-here ts ls is j n e h)
 
 -- the first ones of a list
-taken-has : {X : Type 0} (c : ℕ) (xs : List X) (x : X) → Has (take c xs) x → Has xs x
+pub taken-has : {X : Type 0} (c : ℕ) (xs : List X) (x : X) → Has (take c xs) x → Has xs x
 taken-has zero xs x h = absurd h
 taken-has (suc c) [] x h = h
 taken-has (suc c) (y ∷ xs) x (inl e) = inl e
@@ -69,7 +69,10 @@ taken-has (suc c) (y ∷ xs) x (inr h) = inr (taken-has c xs x h)
 
 module _ (p : Problem) (b : Branch) (h : IsBranch p [] b) where
   abbrev ts : List ValueTree
-  ts = nodes b.classes.table
+  ts = nodes p.table
+
+  abbrev us : List ValueTree
+  us = nodes b.classes.table
 
   abbrev is : List FormulaTree
   is = instances_in ts p
@@ -94,12 +97,12 @@ module _ (p : Problem) (b : Branch) (h : IsBranch p [] b) where
   one-added : (n : ℕ) (d : Decided) (r : Reason) → ((e : Decided) → Has (take n b.trail) e → Added e) → Has b.trail d → Why ts p b.decisions.items (take n b.trail) d r → Added d
   one-added n d reason.Decision before there why = given (literal_tree_at ts d) (has-listed ts b.decisions.items d why)
   one-added n d (reason.Instance place) before there why =
-      forced (literals_at ts (take n b.trail)) (literal_tree_at ts d) (all-added (take n b.trail) before) (h.problem.occurrences.stand d.atom (h.over_atoms d there))
+      forced (literals_at ts (take n b.trail)) (literal_tree_at ts d) (all-added (take n b.trail) before) (h.problem.posed.occurrences.stand d.atom (h.over_atoms d there))
       (false-here ts (literals_at ts (opposite_of d ∷ take n b.trail)) p.instances.items place why.instance why.here why.makes_false)
   one-added n d (reason.Equality count) before there why =
       equal-added (take count (take n b.trail)) d d.holds (is_equality (truth_at ts d.atom)) refl refl why.may
       (all-added (take count (take n b.trail)) (λ e g. before e (taken-has count (take n b.trail) e g)))
-      (h.problem.occurrences.stand d.atom (h.over_atoms d there)) why.implied
+      (h.problem.posed.occurrences.stand d.atom (h.over_atoms d there)) why.implied
 
   reason-at : (n : ℕ) → n < length b.trail → (r : Reason) × (slice_get b.reasons.items n ≡ Some r)
   reason-at n lt = let same = h.reasoned in (get_or b.reasons.items n reason.Decision, slice_get-get_or b.reasons.items n reason.Decision (omega (arith, lt, same)))
@@ -119,9 +122,9 @@ module _ (p : Problem) (b : Branch) (h : IsBranch p [] b) where
   pub trail-added : AllPropagated is ds (literals_at ts b.trail)
   trail-added = all-added b.trail (λ d g. first-added (length b.trail) (omega arith) d (subst (λ (xs : List Decided). Has xs d) (sym (take_all (length b.trail) b.trail (omega arith))) g))
 
-  module _ (over : drop b.head b.waiting.items ≡ []) (told : length b.classes.said ≡ length b.trail) (met : IsUnmet ts b.classes.said → ⊥) (followed : (k : ℕ) → Has p.ground.atoms k → IsUnforced b k) where
-    whole-told : AreSpoken ts b.trail b.classes.said
-    whole-told = subst (λ (xs : List Decided). AreSpoken ts xs b.classes.said) (take_all (length b.classes.said) b.trail (omega (arith, told))) h.spoken
+  module _ (over : drop b.head b.waiting.items ≡ []) (told : length b.classes.said ≡ length b.trail) (met : IsUnmet us b.classes.said → ⊥) (followed : (k : ℕ) → Has p.ground.atoms k → IsUnforced p b k) where
+    whole-told : AreSpoken us ts b.trail b.classes.said
+    whole-told = subst (λ (xs : List Decided). AreSpoken us ts xs b.classes.said) (take_all (length b.classes.said) b.trail (omega (arith, told))) h.spoken
 
     all-quiet : (n : ℕ) → Has p.instances.items n → IsQuiet ts b.trail (truth_at ts n)
     all-quiet n g = let there = place-of p.instances.items n g in chosen there.0 (h.quiet there.0 n there.1)
@@ -132,8 +135,8 @@ module _ (p : Problem) (b : Branch) (h : IsBranch p [] b) where
         chosen j (inr (inr f)) = f
 
     -- a structure that meets what was told meets the trail
-    met-trail : (m : NumberStructure) → Meets m (literals ts b.classes.said) → Meets m (literals_at ts b.trail)
-    met-trail m g = told-meets m ts b.trail b.classes.said whole-told g
+    met-trail : (m : NumberStructure) → Meets m (literals us b.classes.said) → Meets m (literals_at ts b.trail)
+    met-trail m g = told-meets m us ts b.trail b.classes.said whole-told g
 
     -- what follows of an atom is said of it
     follows-said : (k : ℕ) (p q : Bool) → q ≡ p → Has b.trail (decided k q) → Has b.trail (decided k p)
@@ -154,7 +157,7 @@ module _ (p : Problem) (b : Branch) (h : IsBranch p [] b) where
 
     -- the node of a ground atom
     node-of : (a : FormulaTree) → IsGroundAtom is a → (k : ℕ) × (Has p.ground.atoms k × (truth_at ts k ≡ a))
-    node-of a at = h.problem.occurrences.all a at
+    node-of a at = h.problem.posed.occurrences.all a at
 
     forced-listed : (l : LiteralTree) → IsGroundAtom is l.atom → SomeFalse is (opposite l ∷ literals_at ts b.trail) → IsListed (literals_at ts b.trail) l
     forced-listed l at f =

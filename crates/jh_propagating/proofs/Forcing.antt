@@ -11,7 +11,7 @@ use Rattle.jh_models.specs.Atoms.{atom_of, atoms_of, ground_atoms, StandsIn}
 use Rattle.jh_trail.specs.Saying.{IsTruth, truth_at, truths_at}
 use Rattle.jh_trail.specs.Occurring.{places_in}
 use Rattle.jh_propagating.specs.declared.problem.Problem.{Problem}
-use Rattle.jh_propagating.specs.Problems.{IsProblem}
+use Rattle.jh_propagating.specs.Problems.{IsPosed}
 
 stands-either : (xs ys : List FormulaTree) (a : FormulaTree) → StandsIn (xs ++ ys) a → StandsIn xs a ⊎ StandsIn ys a
 stands-either [] ys a h = inr h
@@ -61,7 +61,7 @@ ground-stands ts [] j n a e h = absurd (let l : j < 0 = slice_get_within [] j n 
 ground-stands ts (i ∷ is) zero n a e h = let f : i ≡ n = cc in stands-left (atoms_of (truth_at ts i)) (ground_atoms (truths_at ts is)) a (subst (λ k. StandsIn (atoms_of (truth_at ts k)) a) (sym f) h)
 ground-stands ts (i ∷ is) (suc j) n a e h = stands-right (atoms_of (truth_at ts i)) (ground_atoms (truths_at ts is)) a (ground-stands ts is j n a e h)
 
-module _ (ts : List ValueTree) (p : Problem) (h : IsProblem ts p) (different : AreDifferent ts) (place n k : ℕ) (here : slice_get p.instances.items place ≡ Some n) (stands : StandsIn (atoms_of (truth_at ts n)) (truth_at ts k)) where
+module _ (ts : List ValueTree) (p : Problem) (h : IsPosed ts p) (different : AreDifferent ts) (place n k : ℕ) (here : slice_get p.instances.items place ≡ Some n) (stands : StandsIn (atoms_of (truth_at ts n)) (truth_at ts k)) where
   formula : IsTruth ts k
   formula = known-truth (truth_at ts n) (slice_get ts k) stands
 

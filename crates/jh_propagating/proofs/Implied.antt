@@ -15,47 +15,36 @@ use Rattle.jh_propagating.specs.declared.problem.Problem.{Problem}
 use Rattle.jh_propagating.specs.declared.branch.Branch.{Branch}
 use Rattle.jh_propagating.specs.Branches.{IsEqual, Parts, AreParts, IsUnforced, Moved, left_over, undecided_count}
 use Rattle.jh_propagating.specs.Speaking.{Speaks, IsTold, MayFollow}
-use Rattle.jh_propagating.proofs.Saids.{speaks-yes, speaks-no, meets-told}
+use Rattle.jh_propagating.proofs.Saids.{meets-told}
 
-module _ (ts : List ValueTree) (told : List Said) (l r : ℕ) (d : Decided) (speaks : Speaks ts (record { left = l; right = r; holds = true }) d) where
-  pub entailed-told : Entails ts told l r → IsTold ts told d
+module _ (us ts : List ValueTree) (told : List Said) (l r : ℕ) (d : Decided) (speaks : Speaks us ts (record { left = l; right = r; holds = true }) d) where
+  pub entailed-told : Entails us told l r → IsTold us ts told d
   entailed-told h = λ m met. (speaks.same m).0 (h m met)
 
-  pub told-entailed : IsTold ts told d → Entails ts told l r
+  pub told-entailed : IsTold us ts told d → Entails us told l r
   told-entailed h = λ m met. (speaks.same m).1 (h m met)
 
-module _ (p : Problem) (busy : List ℕ) (b : Parts) (h : AreParts p busy b) (k : ℕ) (at : Has p.ground.atoms k) where
-  abbrev ts : List ValueTree
-  ts = nodes b.classes.table
-
-  pub yes-speaks : is_equality (truth_at ts k) ≡ false → Speaks ts (record { left = k; right = p.yes; holds = true }) (decided k true)
-  yes-speaks none = speaks-yes ts k p.yes (h.problem.occurrences.truths k at) none (h.problem.unlabelled k at) h.problem.yes
-
-  pub no-speaks : is_equality (truth_at ts k) ≡ false → Speaks ts (record { left = k; right = p.no; holds = true }) (decided k false)
-  no-speaks none = speaks-no ts k p.no (h.problem.occurrences.truths k at) none (h.problem.unlabelled k at) h.problem.no
-
-  -- what was told follows from the literals that were told
-  pub implied-equal : (holds : Bool) → MayFollow ts (decided k holds) → IsTold ts b.classes.said (decided k holds) → IsEqual ts b.trail (decided k holds) (length b.classes.said)
-  implied-equal holds may told = record {
-    inside = h.told;
-    may = may;
-    implied = λ m met. told m (meets-told m ts (take (length b.classes.said) b.trail) b.classes.said h.spoken met);
-  }
+-- what was told follows from the literals that were told
+pub implied-equal : (p : Problem) (busy : List ℕ) (b : Parts) → AreParts p busy b → (k : ℕ) (holds : Bool) → MayFollow (nodes p.table) (decided k holds) → IsTold (nodes b.classes.table) (nodes p.table) b.classes.said (decided k holds) → IsEqual (nodes p.table) b.trail (decided k holds) (length b.classes.said)
+implied-equal p busy b h k holds may told = record {
+  inside = h.told;
+  may = may;
+  implied = λ m met. told m (meets-told m (nodes b.classes.table) (nodes p.table) (take (length b.classes.said) b.trail) b.classes.said h.spoken met);
+}
 
 -- no equation may follow either way
 pub may-both : (trees : List ValueTree) (k : ℕ) (holds : Bool) → is_equality (truth_at trees k) ≡ false → MayFollow trees (decided k holds)
 may-both trees k holds none some = absurd (true≢false (sym some ∙ none))
 
 -- what doesn't follow doesn't with more literals in the trail
-pub unforced-more : (old new : Branch) (more : List Decided) → new.classes ≡ old.classes → new.trail ≡ old.trail ++ more → (k : ℕ) → IsUnforced old k → IsUnforced new k
-unforced-more old new more cs trails k h undecided holds may told =
-    h (λ b g. undecided b (subst (λ (xs : List Decided). Has xs (decided k b)) (sym trails) (has-left old.trail more (decided k b) g))) holds
-    (subst (λ (a : Asserted). MayFollow (nodes a.table) (decided k holds)) cs may)
-    (subst (λ (a : Asserted). IsTold (nodes a.table) a.said (decided k holds)) cs told)
+pub unforced-more : (p : Problem) (old new : Branch) (more : List Decided) → new.classes ≡ old.classes → new.trail ≡ old.trail ++ more → (k : ℕ) → IsUnforced p old k → IsUnforced p new k
+unforced-more p old new more cs trails k h undecided holds may told =
+    h (λ b g. undecided b (subst (λ (xs : List Decided). Has xs (decided k b)) (sym trails) (has-left old.trail more (decided k b) g))) holds may
+    (subst (λ (a : Asserted). IsTold (nodes a.table) (nodes p.table) a.said (decided k holds)) cs told)
 
 -- a literal that was put to the trail is decided
-pub forced-last : (old new : Branch) (k : ℕ) (holds : Bool) → new.trail ≡ old.trail ++ decided k holds ∷ [] → IsUnforced new k
-forced-last old new k holds trails undecided _ may told = undecided holds (subst (λ (xs : List Decided). Has xs (decided k holds)) (sym trails) (has-last old.trail (decided k holds)))
+pub forced-last : (p : Problem) (old new : Branch) (k : ℕ) (holds : Bool) → new.trail ≡ old.trail ++ decided k holds ∷ [] → IsUnforced p new k
+forced-last p old new k holds trails undecided _ may told = undecided holds (subst (λ (xs : List Decided). Has xs (decided k holds)) (sym trails) (has-last old.trail (decided k holds)))
 
 pub moved-twice : (p : Problem) (a b c : Branch) → Moved p a b → Moved p b c → Moved p a c
 moved-twice p a b c (inl e) (inl f) = inl (f.0 ∙ e.0, f.1 ∙ e.1)

@@ -5,6 +5,9 @@ mod Quieting
 mod Forcing
 mod Saids
 mod Talking
+mod Names
 mod Implied
 mod Fixes
 mod Starts
+mod Longer
+pub mod Levels

@@ -39,9 +39,9 @@ quiet-pushed law ts trail d i never h = record {
 abbrev pub with_one : Problem → Parts → List Decided → Decided → Reason → Parts
 with_one p b ds d r = record { decisions = ds; classes = b.classes; trail = b.trail ++ d ∷ []; reasons = b.reasons ++ r ∷ []; waiting = b.waiting ++ places_in p.ground d.atom; head = b.head }
 
-module _ (law : OthersSayNothing) (p : Problem) (busy : List ℕ) (b : Parts) (ds : List Decided) (d : Decided) (r : Reason) (h : AreParts p busy b) (keeps : (x : Decided) → Has b.decisions x → Has ds x) (adds : (x : Decided) → Has ds x → Has (b.trail ++ d ∷ []) x) (at : Has p.ground.atoms d.atom) (why : Why (nodes b.classes.table) p ds b.trail d r) (latest : (count : ℕ) → r ≡ reason.Equality count → count ≡ length b.classes.said) where
+module _ (law : OthersSayNothing) (p : Problem) (busy : List ℕ) (b : Parts) (ds : List Decided) (d : Decided) (r : Reason) (h : AreParts p busy b) (keeps : (x : Decided) → Has b.decisions x → Has ds x) (adds : (x : Decided) → Has ds x → Has (b.trail ++ d ∷ []) x) (at : Has p.ground.atoms d.atom) (why : Why (nodes p.table) p ds b.trail d r) (latest : (count : ℕ) → r ≡ reason.Equality count → count ≡ length b.classes.said) where
   abbrev ts : List ValueTree
-  ts = nodes b.classes.table
+  ts = nodes p.table
 
   abbrev new : Parts
   new = with_one p b ds d r
@@ -93,7 +93,7 @@ module _ (law : OthersSayNothing) (p : Problem) (busy : List ℕ) (b : Parts) (d
           omega (arith, one, other)
 
   waits : (j : ℕ) → Has (b.waiting ++ places_in p.ground d.atom) j → j < length p.instances.items
-  waits j g = elim (has-either b.waiting (places_in p.ground d.atom) j g) [ inl l ↦ h.waits j l | inr k ↦ h.problem.occurrences.inside d.atom j k ]
+  waits j g = elim (has-either b.waiting (places_in p.ground d.atom) j g) [ inl l ↦ h.waits j l | inr k ↦ h.problem.posed.occurrences.inside d.atom j k ]
 
   quiet : (j n : ℕ) → slice_get p.instances.items j ≡ Some n → Has busy j ⊎ (Has (drop b.head (b.waiting ++ places_in p.ground d.atom)) j ⊎ IsQuiet ts (b.trail ++ d ∷ []) (truth_at ts n))
   quiet j n e = chosen (h.quiet j n e) (has-or-not (places_in p.ground d.atom) j)
@@ -105,7 +105,7 @@ module _ (law : OthersSayNothing) (p : Problem) (busy : List ℕ) (b : Parts) (d
       chosen (inl g) _ = inl g
       chosen (inr (inl g)) _ = inr (inl (subst (λ (xs : List ℕ). Has xs j) more (has-left (drop b.head b.waiting) (places_in p.ground d.atom) j g)))
       chosen (inr (inr g)) (inl k) = inr (inl (subst (λ (xs : List ℕ). Has xs j) more (has-right (drop b.head b.waiting) (places_in p.ground d.atom) j k)))
-      chosen (inr (inr g)) (inr never) = inr (inr (quiet-pushed law ts b.trail d (truth_at ts n) (λ s. never (h.problem.occurrences.occur j n d.atom e (h.problem.occurrences.truths d.atom at) s)) g))
+      chosen (inr (inr g)) (inr never) = inr (inr (quiet-pushed law ts b.trail d (truth_at ts n) (λ s. never (h.problem.posed.occurrences.occur j n d.atom e (h.problem.posed.occurrences.truths d.atom at) s)) g))
 
   pub pushed : AreParts p busy new
   pushed = record {
@@ -117,7 +117,7 @@ module _ (law : OthersSayNothing) (p : Problem) (busy : List ℕ) (b : Parts) (d
     counts = counts;
     rising = rising;
     told = let long : length (b.trail ++ d ∷ []) ≡ length b.trail + 1 = length-append b.trail (d ∷ []) in omega (arith, long, h.told);
-    spoken = subst (λ k. AreSpoken ts k b.classes.said) (sym (take-append-le (length b.classes.said) b.trail (d ∷ []) h.told)) h.spoken;
+    spoken = subst (λ k. AreSpoken (nodes b.classes.table) ts k b.classes.said) (sym (take-append-le (length b.classes.said) b.trail (d ∷ []) h.told)) h.spoken;
     begun = let long : length (b.waiting ++ places_in p.ground d.atom) ≡ length b.waiting + length (places_in p.ground d.atom) = length-append b.waiting (places_in p.ground d.atom) in omega (arith, long, h.begun);
     waits = waits;
     quiet = quiet;
@@ -126,7 +126,7 @@ module _ (law : OthersSayNothing) (p : Problem) (busy : List ℕ) (b : Parts) (d
 -- the same of any branch that has these parts
 pub branch-pushed : (law : OthersSayNothing) (p : Problem) (busy : List ℕ) (b more : Parts) (d : Decided) (r : Reason) →
     more.decisions ≡ b.decisions → more.classes ≡ b.classes → more.trail ≡ b.trail ++ d ∷ [] → more.reasons ≡ b.reasons ++ r ∷ [] → more.waiting ≡ b.waiting ++ places_in p.ground d.atom → more.head ≡ b.head →
-    AreParts p busy b → Has p.ground.atoms d.atom → Why (nodes b.classes.table) p b.decisions b.trail d r → ((count : ℕ) → r ≡ reason.Equality count → count ≡ length b.classes.said) →
+    AreParts p busy b → Has p.ground.atoms d.atom → Why (nodes p.table) p b.decisions b.trail d r → ((count : ℕ) → r ≡ reason.Equality count → count ≡ length b.classes.said) →
     AreParts p busy more
 branch-pushed law p busy b more d r ds cs ts rs ws hs h at why latest =
     subst (AreParts p busy) (sym (λ i. record { decisions = ds i; classes = cs i; trail = ts i; reasons = rs i; waiting = ws i; head = hs i }))

@@ -5,7 +5,6 @@ use Rattle.jh_tree.specs.Tree.{FormulaTree, ValueTree}
 use Rattle.jh_table.specs.Nodes.{nodes}
 use Rattle.jh_closure.specs.Nodes.{Has}
 use Rattle.jh_closure.proofs.Having.{has-left, has-right}
-use Rattle.jh_cong.specs.Saying.{Asserted}
 use Rattle.jh_models.specs.Atoms.{atoms_of, StandsIn}
 use Rattle.jh_models.specs.Truths.{IsFalse}
 use Rattle.jh_models.proofs.Growing.{false-more}
@@ -33,10 +32,10 @@ next-busy p b new place ds cs ts rs ws hs here h =
     lt : b.head < length b.waiting
     lt = slice_get_within b.waiting b.head place here
 
-    quiet : (j n : ℕ) → slice_get p.instances.items j ≡ Some n → Has (place ∷ []) j ⊎ (Has (drop (b.head + 1) b.waiting) j ⊎ IsQuiet (nodes b.classes.table) b.trail (truth_at (nodes b.classes.table) n))
+    quiet : (j n : ℕ) → slice_get p.instances.items j ≡ Some n → Has (place ∷ []) j ⊎ (Has (drop (b.head + 1) b.waiting) j ⊎ IsQuiet (nodes p.table) b.trail (truth_at (nodes p.table) n))
     quiet j n e = chosen (h.quiet j n e)
       where
-        chosen : ⊥ ⊎ (Has (drop b.head b.waiting) j ⊎ IsQuiet (nodes b.classes.table) b.trail (truth_at (nodes b.classes.table) n)) → Has (place ∷ []) j ⊎ (Has (drop (b.head + 1) b.waiting) j ⊎ IsQuiet (nodes b.classes.table) b.trail (truth_at (nodes b.classes.table) n))
+        chosen : ⊥ ⊎ (Has (drop b.head b.waiting) j ⊎ IsQuiet (nodes p.table) b.trail (truth_at (nodes p.table) n)) → Has (place ∷ []) j ⊎ (Has (drop (b.head + 1) b.waiting) j ⊎ IsQuiet (nodes p.table) b.trail (truth_at (nodes p.table) n))
         chosen (inl f) = absurd f
         chosen (inr (inl f)) = elim (drop-next b.waiting b.head place j here f) [ inl e ↦ inl (inl e) | inr g ↦ inr (inl (subst (λ n. Has (drop n b.waiting) j) (sym (add-one b.head)) g)) ]
         chosen (inr (inr f)) = inr (inr f)
@@ -58,7 +57,7 @@ next-busy p b new place ds cs ts rs ws hs here h =
     }
 
 -- The instance that was looked at is quiet, or waits again.
-pub busy-done : (p : Problem) (b : Parts) (place : ℕ) → AreParts p (place ∷ []) b → ((n : ℕ) → slice_get p.instances.items place ≡ Some n → Has (drop b.head b.waiting) place ⊎ IsQuiet (nodes b.classes.table) b.trail (truth_at (nodes b.classes.table) n)) → AreParts p [] b
+pub busy-done : (p : Problem) (b : Parts) (place : ℕ) → AreParts p (place ∷ []) b → ((n : ℕ) → slice_get p.instances.items place ≡ Some n → Has (drop b.head b.waiting) place ⊎ IsQuiet (nodes p.table) b.trail (truth_at (nodes p.table) n)) → AreParts p [] b
 busy-done p b place h done = record {
   problem = h.problem;
   over_atoms = h.over_atoms;
@@ -74,10 +73,10 @@ busy-done p b place h done = record {
   quiet = quiet;
 }
   where
-    quiet : (j n : ℕ) → slice_get p.instances.items j ≡ Some n → ⊥ ⊎ (Has (drop b.head b.waiting) j ⊎ IsQuiet (nodes b.classes.table) b.trail (truth_at (nodes b.classes.table) n))
+    quiet : (j n : ℕ) → slice_get p.instances.items j ≡ Some n → ⊥ ⊎ (Has (drop b.head b.waiting) j ⊎ IsQuiet (nodes p.table) b.trail (truth_at (nodes p.table) n))
     quiet j n e = chosen (h.quiet j n e)
       where
-        chosen : Has (place ∷ []) j ⊎ (Has (drop b.head b.waiting) j ⊎ IsQuiet (nodes b.classes.table) b.trail (truth_at (nodes b.classes.table) n)) → ⊥ ⊎ (Has (drop b.head b.waiting) j ⊎ IsQuiet (nodes b.classes.table) b.trail (truth_at (nodes b.classes.table) n))
+        chosen : Has (place ∷ []) j ⊎ (Has (drop b.head b.waiting) j ⊎ IsQuiet (nodes p.table) b.trail (truth_at (nodes p.table) n)) → ⊥ ⊎ (Has (drop b.head b.waiting) j ⊎ IsQuiet (nodes p.table) b.trail (truth_at (nodes p.table) n))
         chosen (inl (inl f)) = elim (done n (ap (λ k. slice_get p.instances.items k) f ∙ e)) [ inl g ↦ inr (inl (subst (Has (drop b.head b.waiting)) f g)) | inr g ↦ inr (inr g) ]
         chosen (inl (inr f)) = absurd f
         chosen (inr f) = inr f
@@ -136,6 +135,7 @@ more-same p b = record {
   decisions = refl;
   classes = refl;
   trail = ([], sym (append-nil b.trail));
+  reasons = ([], sym (append-nil b.reasons.items));
   waiting = ([], sym (append-nil b.waiting.items));
   head = refl;
   looks = omega arith;
@@ -147,6 +147,7 @@ more-twice p a b c h k = record {
   decisions = k.decisions ∙ h.decisions;
   classes = k.classes ∙ h.classes;
   trail = (h.trail.0 ++ k.trail.0, k.trail.1 ∙ (ap (λ xs. xs ++ k.trail.0) h.trail.1 ∙ append_assoc a.trail h.trail.0 k.trail.0));
+  reasons = (h.reasons.0 ++ k.reasons.0, k.reasons.1 ∙ (ap (λ xs. xs ++ k.reasons.0) h.reasons.1 ∙ append_assoc a.reasons.items h.reasons.0 k.reasons.0));
   waiting = (h.waiting.0 ++ k.waiting.0, k.waiting.1 ∙ (ap (λ xs. xs ++ k.waiting.0) h.waiting.1 ∙ append_assoc a.waiting.items h.waiting.0 k.waiting.0));
   head = k.head ∙ h.head;
   looks = let one = h.looks in let two = k.looks in omega (arith, one, two);
@@ -166,22 +167,21 @@ waits-twice p a b c place h le _ (inr g) = inr g
 waits-twice p a b c place h le (inr g) (inl e) = inr (waits-more p b c place h le g)
 waits-twice p a b c place h le (inl f) (inl e) = inl (e ∙ f)
 
-pub forced-now : (p : Problem) (old new : Branch) → HasMore p old new → (place n : ℕ) (l : Decided) → slice_get p.instances.items place ≡ Some n → IsFalse (literals_at (nodes old.classes.table) (opposite_of l ∷ old.trail)) (truth_at (nodes old.classes.table) n) → IsForced (nodes new.classes.table) p new.trail l place
+pub forced-now : (p : Problem) (old new : Branch) → HasMore p old new → (place n : ℕ) (l : Decided) → slice_get p.instances.items place ≡ Some n → IsFalse (literals_at (nodes p.table) (opposite_of l ∷ old.trail)) (truth_at (nodes p.table) n) → IsForced (nodes p.table) p new.trail l place
 forced-now p old new h place n l here f =
-    let wide : IsFalse (literals_at (nodes old.classes.table) (opposite_of l ∷ (old.trail ++ h.trail.0))) (truth_at (nodes old.classes.table) n) = forced-more (nodes old.classes.table) old.trail h.trail.0 l (truth_at (nodes old.classes.table) n) f in
+    let wide : IsFalse (literals_at (nodes p.table) (opposite_of l ∷ (old.trail ++ h.trail.0))) (truth_at (nodes p.table) n) = forced-more (nodes p.table) old.trail h.trail.0 l (truth_at (nodes p.table) n) f in
     record {
       instance = n;
       here = here;
-      makes_false = subst (λ (ts : List ValueTree). IsFalse (literals_at ts (opposite_of l ∷ new.trail)) (truth_at ts n)) (λ i. nodes (sym h.classes i).table) (subst (λ (xs : List Decided). IsFalse (literals_at (nodes old.classes.table) (opposite_of l ∷ xs)) (truth_at (nodes old.classes.table) n)) (sym h.trail.1) wide);
+      makes_false = subst (λ (xs : List Decided). IsFalse (literals_at (nodes p.table) (opposite_of l ∷ xs)) (truth_at (nodes p.table) n)) (sym h.trail.1) wide;
     }
 
 -- An instance whose forced literals are decided is quiet, unless it waits again.
-pub quiet-again : (p : Problem) (old new : Branch) (place n : ℕ) (list : List Decided) → HasMore p old new → slice_get p.instances.items place ≡ Some n → AreForced (nodes old.classes.table) old.trail (truth_at (nodes old.classes.table) n) list → ((l : Decided) → Has list l → IsSaid new.trail l.atom) → WaitsAgain old new place →
-    (m : ℕ) → slice_get p.instances.items place ≡ Some m → Has (drop new.head new.waiting.items) place ⊎ IsQuiet (nodes new.classes.table) new.trail (truth_at (nodes new.classes.table) m)
+pub quiet-again : (p : Problem) (old new : Branch) (place n : ℕ) (list : List Decided) → HasMore p old new → slice_get p.instances.items place ≡ Some n → AreForced (nodes p.table) old.trail (truth_at (nodes p.table) n) list → ((l : Decided) → Has list l → IsSaid new.trail l.atom) → WaitsAgain old new place →
+    (m : ℕ) → slice_get p.instances.items place ≡ Some m → Has (drop new.head new.waiting.items) place ⊎ IsQuiet (nodes p.table) new.trail (truth_at (nodes p.table) m)
 quiet-again p old new place n list h here forced said (inr w) m e = inl w
 quiet-again p old new place n list h here forced said (inl same) m e =
     let one : n ≡ m = cc in
-    let trailed : AreForced (nodes old.classes.table) new.trail (truth_at (nodes old.classes.table) n) list = subst (λ (xs : List Decided). AreForced (nodes old.classes.table) xs (truth_at (nodes old.classes.table) n) list) (sym same) forced in
-    let placed : AreForced (nodes old.classes.table) new.trail (truth_at (nodes old.classes.table) m) list = subst (λ k. AreForced (nodes old.classes.table) new.trail (truth_at (nodes old.classes.table) k) list) one trailed in
-    let now : AreForced (nodes new.classes.table) new.trail (truth_at (nodes new.classes.table) m) list = subst (λ (a : Asserted). AreForced (nodes a.table) new.trail (truth_at (nodes a.table) m) list) (sym h.classes) placed in
-    inr (all-decided (nodes new.classes.table) new.trail (truth_at (nodes new.classes.table) m) list now said)
+    let trailed : AreForced (nodes p.table) new.trail (truth_at (nodes p.table) n) list = subst (λ (xs : List Decided). AreForced (nodes p.table) xs (truth_at (nodes p.table) n) list) (sym same) forced in
+    let placed : AreForced (nodes p.table) new.trail (truth_at (nodes p.table) m) list = subst (λ k. AreForced (nodes p.table) new.trail (truth_at (nodes p.table) k) list) one trailed in
+    inr (all-decided (nodes p.table) new.trail (truth_at (nodes p.table) m) list placed said)

@@ -1,5 +1,5 @@
 -- What the classes are told of literals, and what follows from it.
-use Rattle.std.proofs.Common.{◌≡◌, refl, sym, ap, ◌∙◌, subst, ℕ, suc, zero, Bool, true, false, List, [], ◌∷◌, ◌++◌, length, Some, None, slice_get, inl, inr}
+use Rattle.std.proofs.Common.{◌≡◌, ◌↔◌, refl, sym, ap, ◌∙◌, subst, ℕ, suc, zero, Bool, true, false, List, [], ◌∷◌, ◌++◌, length, Some, None, slice_get, inl, inr}
 use Rattle.std.proofs.lemmas.Bool.{true≢false}
 use Rattle.std.proofs.lemmas.Option.{slice_get_within, same_Some}
 use Rattle.jh_tree.specs.Tree.{TermTree, FormulaTree, ValueTree, of_object, of_number, of_set, of_truth}
@@ -36,7 +36,7 @@ unfolding the_value
 tree-is ts k v e = ap the_value e
 
 -- an equation whose tree is that of the atom
-equal-speaks : (ts : List ValueTree) (d : Decided) (l r : ℕ) (v w : ValueTree) → slice_get ts l ≡ Some v → slice_get ts r ≡ Some w → AreEquatable v w → truth_at ts d.atom ≡ equation_of v w → (h : Bool) → h ≡ d.holds → Speaks ts (said l r h) d
+equal-speaks : (ts : List ValueTree) (d : Decided) (l r : ℕ) (v w : ValueTree) → slice_get ts l ≡ Some v → slice_get ts r ≡ Some w → AreEquatable v w → truth_at ts d.atom ≡ equation_of v w → (h : Bool) → h ≡ d.holds → Speaks ts ts (said l r h) d
 equal-speaks ts d l r v w e f can same h g = record {
   can = record {
     left = slice_get_within ts l v e;
@@ -81,19 +81,19 @@ module _ (u : Listing) (d : Decided) where
   here_in = nodes u
 
   -- the sides of an equation
-  pub speaks-sides : (x : Shape) (l r : ℕ) → slice_get here_in d.atom ≡ Some (tree_in u x) → fits_in u x ≡ true → sides_of x ≡ Some (l, r) → Speaks here_in (said l r d.holds) d
+  pub speaks-sides : (x : Shape) (l r : ℕ) → slice_get here_in d.atom ≡ Some (tree_in u x) → fits_in u x ≡ true → sides_of x ≡ Some (l, r) → Speaks here_in here_in (said l r d.holds) d
   unfolding sides_of shape_tree the_truth
   speaks-sides (s.EqObject a b) l r tree fits e =
-      subst (λ k. Speaks here_in (said k r d.holds) d) (pair-left (a, b) (l, r) e) (subst (λ k. Speaks here_in (said a k d.holds) d) (pair-right (a, b) (l, r) e)
+      subst (λ k. Speaks here_in here_in (said k r d.holds) d) (pair-left (a, b) (l, r) e) (subst (λ k. Speaks here_in here_in (said a k d.holds) d) (pair-right (a, b) (l, r) e)
       (equal-speaks here_in d a b (of_object (the_object (slice_get here_in a))) (of_object (the_object (slice_get here_in b))) (it-is-object (slice_get here_in a) (part-EqObject-a u.pools here_in a b fits)) (it-is-object (slice_get here_in b) (part-EqObject-b u.pools here_in a b fits)) tt (ap the_truth tree) d.holds refl))
   speaks-sides (s.EqNumber a b) l r tree fits e =
-      subst (λ k. Speaks here_in (said k r d.holds) d) (pair-left (a, b) (l, r) e) (subst (λ k. Speaks here_in (said a k d.holds) d) (pair-right (a, b) (l, r) e)
+      subst (λ k. Speaks here_in here_in (said k r d.holds) d) (pair-left (a, b) (l, r) e) (subst (λ k. Speaks here_in here_in (said a k d.holds) d) (pair-right (a, b) (l, r) e)
       (equal-speaks here_in d a b (of_number (the_number (slice_get here_in a))) (of_number (the_number (slice_get here_in b))) (it-is-number (slice_get here_in a) (part-EqNumber-a u.pools here_in a b fits)) (it-is-number (slice_get here_in b) (part-EqNumber-b u.pools here_in a b fits)) tt (ap the_truth tree) d.holds refl))
   speaks-sides (s.EqSet a b) l r tree fits e =
-      subst (λ k. Speaks here_in (said k r d.holds) d) (pair-left (a, b) (l, r) e) (subst (λ k. Speaks here_in (said a k d.holds) d) (pair-right (a, b) (l, r) e)
+      subst (λ k. Speaks here_in here_in (said k r d.holds) d) (pair-left (a, b) (l, r) e) (subst (λ k. Speaks here_in here_in (said a k d.holds) d) (pair-right (a, b) (l, r) e)
       (equal-speaks here_in d a b (of_set (the_set (slice_get here_in a))) (of_set (the_set (slice_get here_in b))) (it-is-set (slice_get here_in a) (part-EqSet-a u.pools here_in a b fits)) (it-is-set (slice_get here_in b) (part-EqSet-b u.pools here_in a b fits)) tt (ap the_truth tree) d.holds refl))
   speaks-sides (s.Iff a b) l r tree fits e =
-      subst (λ k. Speaks here_in (said k r d.holds) d) (pair-left (a, b) (l, r) e) (subst (λ k. Speaks here_in (said a k d.holds) d) (pair-right (a, b) (l, r) e)
+      subst (λ k. Speaks here_in here_in (said k r d.holds) d) (pair-left (a, b) (l, r) e) (subst (λ k. Speaks here_in here_in (said a k d.holds) d) (pair-right (a, b) (l, r) e)
       (equal-speaks here_in d a b (of_truth (the_truth (slice_get here_in a))) (of_truth (the_truth (slice_get here_in b))) (it-is-truth (slice_get here_in a) (part-Iff-a u.pools here_in a b fits)) (it-is-truth (slice_get here_in b) (part-Iff-b u.pools here_in a b fits)) tt (ap the_truth tree) d.holds refl))
   speaks-sides _ l r tree fits e = absurd (none-some e)
 
@@ -136,64 +136,71 @@ module _ (ts : List ValueTree) (k other : ℕ) (truth : IsTruth ts k) (no_equati
   equation a e = λ i. equation_of (tree-is ts k (of_truth (truth_at ts k)) here i) (tree-is ts other (of_truth a) e i)
 
   -- an atom that holds is True, and one that doesn't is False
-  pub speaks-yes : slice_get ts other ≡ Some (of_truth t.true_formula) → Speaks ts (said k other true) (decided k true)
+  pub speaks-yes : slice_get ts other ≡ Some (of_truth t.true_formula) → Speaks ts ts (said k other true) (decided k true)
   speaks-yes e = record {
     can = sayable t.true_formula e;
     same = λ m. both (ap (λ a. MeetsOne m true a) (equation t.true_formula e) ∙ sym (plain-says m (truth_at ts k) no_equation no_label));
   }
 
-  pub speaks-no : slice_get ts other ≡ Some (of_truth t.false_formula) → Speaks ts (said k other true) (decided k false)
+  pub speaks-no : slice_get ts other ≡ Some (of_truth t.false_formula) → Speaks ts ts (said k other true) (decided k false)
   speaks-no e = record {
     can = sayable t.false_formula e;
     same = λ m. both (ap (λ a. MeetsOne m true a) (equation t.false_formula e) ∙ sym (plain-denies m (truth_at ts k) no_equation no_label));
   }
 
+-- What is told of a node of one table is told of a node of another that is the same formula.
+pub renamed : (us ts : List ValueTree) (e : Said) (name : ℕ) (d : Decided) → slice_get us name ≡ slice_get ts d.atom → Speaks us us e (decided name d.holds) → Speaks us ts e d
+renamed us ts e name d same h = record {
+  can = h.can;
+  same = λ m. subst (λ (a : FormulaTree). MeetsOne m (literal_of us e).holds (literal_of us e).atom ↔ MeetsOne m d.holds a) (ap the_truth same) (h.same m);
+}
+
 -- lists of literals and of what is told of them
-pub spoken-more : (ts : List ValueTree) (ds : List Decided) (es : List Said) (d : Decided) (e : Said) → AreSpoken ts ds es → Speaks ts e d → AreSpoken ts (ds ++ d ∷ []) (es ++ e ∷ [])
-spoken-more ts [] [] d e h k = (k, tt)
-spoken-more ts [] (f ∷ es) d e h k = absurd h
-spoken-more ts (c ∷ ds) [] d e h k = absurd h
-spoken-more ts (c ∷ ds) (f ∷ es) d e h k = (h.0, spoken-more ts ds es d e h.1 k)
+pub spoken-more : (us ts : List ValueTree) (ds : List Decided) (es : List Said) (d : Decided) (e : Said) → AreSpoken us ts ds es → Speaks us ts e d → AreSpoken us ts (ds ++ d ∷ []) (es ++ e ∷ [])
+spoken-more us ts [] [] d e h k = (k, tt)
+spoken-more us ts [] (f ∷ es) d e h k = absurd h
+spoken-more us ts (c ∷ ds) [] d e h k = absurd h
+spoken-more us ts (c ∷ ds) (f ∷ es) d e h k = (h.0, spoken-more us ts ds es d e h.1 k)
 
-pub spoken-both : (ts : List ValueTree) (ds cs : List Decided) (es fs : List Said) → AreSpoken ts ds es → AreSpoken ts cs fs → AreSpoken ts (ds ++ cs) (es ++ fs)
-spoken-both ts [] cs [] fs h k = k
-spoken-both ts [] cs (f ∷ es) fs h k = absurd h
-spoken-both ts (c ∷ ds) cs [] fs h k = absurd h
-spoken-both ts (c ∷ ds) cs (f ∷ es) fs h k = (h.0, spoken-both ts ds cs es fs h.1 k)
+pub spoken-both : (us ts : List ValueTree) (ds cs : List Decided) (es fs : List Said) → AreSpoken us ts ds es → AreSpoken us ts cs fs → AreSpoken us ts (ds ++ cs) (es ++ fs)
+spoken-both us ts [] cs [] fs h k = k
+spoken-both us ts [] cs (f ∷ es) fs h k = absurd h
+spoken-both us ts (c ∷ ds) cs [] fs h k = absurd h
+spoken-both us ts (c ∷ ds) cs (f ∷ es) fs h k = (h.0, spoken-both us ts ds cs es fs h.1 k)
 
-pub spoken-long : (ts : List ValueTree) (ds : List Decided) (es : List Said) → AreSpoken ts ds es → length es ≡ length ds
-spoken-long ts [] [] h = refl
-spoken-long ts [] (f ∷ es) h = absurd h
-spoken-long ts (c ∷ ds) [] h = absurd h
-spoken-long ts (c ∷ ds) (f ∷ es) h = ap suc (spoken-long ts ds es h.1)
+pub spoken-long : (us ts : List ValueTree) (ds : List Decided) (es : List Said) → AreSpoken us ts ds es → length es ≡ length ds
+spoken-long us ts [] [] h = refl
+spoken-long us ts [] (f ∷ es) h = absurd h
+spoken-long us ts (c ∷ ds) [] h = absurd h
+spoken-long us ts (c ∷ ds) (f ∷ es) h = ap suc (spoken-long us ts ds es h.1)
 
-pub spoken-can : (ts : List ValueTree) (ds : List Decided) (es : List Said) → AreSpoken ts ds es → (e : Said) → Has es e → CanBeSaid ts e.left e.right
-spoken-can ts [] [] h e g = absurd g
-spoken-can ts [] (f ∷ es) h e g = absurd h
-spoken-can ts (c ∷ ds) [] h e g = absurd h
-spoken-can ts (c ∷ ds) (f ∷ es) h e (inl k) = subst (λ (z : Said). CanBeSaid ts z.left z.right) k h.0.can
-spoken-can ts (c ∷ ds) (f ∷ es) h e (inr k) = spoken-can ts ds es h.1 e k
+pub spoken-can : (us ts : List ValueTree) (ds : List Decided) (es : List Said) → AreSpoken us ts ds es → (e : Said) → Has es e → CanBeSaid us e.left e.right
+spoken-can us ts [] [] h e g = absurd g
+spoken-can us ts [] (f ∷ es) h e g = absurd h
+spoken-can us ts (c ∷ ds) [] h e g = absurd h
+spoken-can us ts (c ∷ ds) (f ∷ es) h e (inl k) = subst (λ (z : Said). CanBeSaid us z.left z.right) k h.0.can
+spoken-can us ts (c ∷ ds) (f ∷ es) h e (inr k) = spoken-can us ts ds es h.1 e k
 
-pub meets-told : (m : NumberStructure) (ts : List ValueTree) (ds : List Decided) (es : List Said) → AreSpoken ts ds es → Meets m (literals_at ts ds) → Meets m (literals ts es)
-meets-told m ts [] [] h k = tt
-meets-told m ts [] (f ∷ es) h k = absurd h
-meets-told m ts (c ∷ ds) [] h k = absurd h
-meets-told m ts (c ∷ ds) (f ∷ es) h k = ((h.0.same m).1 k.0, meets-told m ts ds es h.1 k.1)
+pub meets-told : (m : NumberStructure) (us ts : List ValueTree) (ds : List Decided) (es : List Said) → AreSpoken us ts ds es → Meets m (literals_at ts ds) → Meets m (literals us es)
+meets-told m us ts [] [] h k = tt
+meets-told m us ts [] (f ∷ es) h k = absurd h
+meets-told m us ts (c ∷ ds) [] h k = absurd h
+meets-told m us ts (c ∷ ds) (f ∷ es) h k = ((h.0.same m).1 k.0, meets-told m us ts ds es h.1 k.1)
 
-pub told-meets : (m : NumberStructure) (ts : List ValueTree) (ds : List Decided) (es : List Said) → AreSpoken ts ds es → Meets m (literals ts es) → Meets m (literals_at ts ds)
-told-meets m ts [] [] h k = tt
-told-meets m ts [] (f ∷ es) h k = absurd h
-told-meets m ts (c ∷ ds) [] h k = absurd h
-told-meets m ts (c ∷ ds) (f ∷ es) h k = ((h.0.same m).0 k.0, told-meets m ts ds es h.1 k.1)
+pub told-meets : (m : NumberStructure) (us ts : List ValueTree) (ds : List Decided) (es : List Said) → AreSpoken us ts ds es → Meets m (literals us es) → Meets m (literals_at ts ds)
+told-meets m us ts [] [] h k = tt
+told-meets m us ts [] (f ∷ es) h k = absurd h
+told-meets m us ts (c ∷ ds) [] h k = absurd h
+told-meets m us ts (c ∷ ds) (f ∷ es) h k = ((h.0.same m).0 k.0, told-meets m us ts ds es h.1 k.1)
 
 -- what stands at a place of both
-spoken-one : (ts : List ValueTree) (ds : List Decided) (es : List Said) → AreSpoken ts ds es → (n : ℕ) (xs : List Decided) (ys : List Said) → AreSpoken ts xs ys → AreSpoken ts (one_more (slice_get ds n) xs) (cong.one_more (slice_get es n) ys)
-spoken-one ts [] [] h n xs ys k = k
-spoken-one ts [] (f ∷ es) h n xs ys k = absurd h
-spoken-one ts (c ∷ ds) [] h n xs ys k = absurd h
-spoken-one ts (c ∷ ds) (f ∷ es) h zero xs ys k = (h.0, k)
-spoken-one ts (c ∷ ds) (f ∷ es) h (suc n) xs ys k = spoken-one ts ds es h.1 n xs ys k
+spoken-one : (us ts : List ValueTree) (ds : List Decided) (es : List Said) → AreSpoken us ts ds es → (n : ℕ) (xs : List Decided) (ys : List Said) → AreSpoken us ts xs ys → AreSpoken us ts (one_more (slice_get ds n) xs) (cong.one_more (slice_get es n) ys)
+spoken-one us ts [] [] h n xs ys k = k
+spoken-one us ts [] (f ∷ es) h n xs ys k = absurd h
+spoken-one us ts (c ∷ ds) [] h n xs ys k = absurd h
+spoken-one us ts (c ∷ ds) (f ∷ es) h zero xs ys k = (h.0, k)
+spoken-one us ts (c ∷ ds) (f ∷ es) h (suc n) xs ys k = spoken-one us ts ds es h.1 n xs ys k
 
-pub spoken-picked : (ts : List ValueTree) (ds : List Decided) (es : List Said) → AreSpoken ts ds es → (ns : List ℕ) → AreSpoken ts (picked ds ns) (cong.picked es ns)
-spoken-picked ts ds es h [] = tt
-spoken-picked ts ds es h (n ∷ ns) = spoken-one ts ds es h n (picked ds ns) (cong.picked es ns) (spoken-picked ts ds es h ns)
+pub spoken-picked : (us ts : List ValueTree) (ds : List Decided) (es : List Said) → AreSpoken us ts ds es → (ns : List ℕ) → AreSpoken us ts (picked ds ns) (cong.picked es ns)
+spoken-picked us ts ds es h [] = tt
+spoken-picked us ts ds es h (n ∷ ns) = spoken-one us ts ds es h n (picked ds ns) (cong.picked es ns) (spoken-picked us ts ds es h ns)

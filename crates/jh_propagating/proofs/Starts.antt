@@ -1,11 +1,9 @@
 -- Branches in which nothing is decided.
-use Rattle.std.proofs.Common.{◌≡◌, refl, sym, ap, subst, ℕ, zero, suc, ◌+◌, ◌<◌, ◌↔◌, arith, List, [], ◌∷◌, ◌++◌, length, take, Some, slice_get, ◌⊎◌, inl, inr}
+use Rattle.std.proofs.Common.{◌≡◌, refl, sym, ap, subst, ℕ, zero, suc, ◌+◌, ◌<◌, ◌↔◌, arith, List, [], ◌∷◌, ◌++◌, length, Some, slice_get, ◌⊎◌, inl, inr}
 use Rattle.std.proofs.lemmas.Option.{slice_get_within}
 use Rattle.jh_table.specs.Nodes.{nodes}
 use Rattle.jh_closure.specs.Nodes.{Has}
 use Rattle.jh_closure.proofs.Having.{has-left, has-last, has-pushed}
-use Rattle.jh_trail.specs.declared.decided.Decided.{Decided}
-use Rattle.jh_trail.specs.Listing.{decided, DecideOnce, IsUndecided}
 use Rattle.jh_propagating.specs.declared.problem.Problem.{Problem}
 use Rattle.jh_propagating.specs.Problems.{IsProblem}
 use Rattle.jh_propagating.specs.Branches.{Parts, AreParts}
@@ -50,17 +48,3 @@ nothing-decided p b problem ds ss ts rs hs ws =
   where
     nowhere : {X : Type 0} (n : ℕ) (x : X) → slice_get [] n ≡ Some x → ⊥
     nowhere n x e = let lt : n < 0 = slice_get_within [] n x e in omega (arith, lt)
-
--- a decision that comes after others of which none is on its atom
-pub not-before : (ds : List Decided) (n : ℕ) (d : Decided) → DecideOnce ds → slice_get ds n ≡ Some d → IsUndecided (take n ds) d.atom
-not-before ds n d once here b h =
-    let there = taken-at ds n (decided d.atom b) h in
-    let same : there.0 ≡ n = once there.0 n (decided d.atom b) d there.1.1 here refl in
-    let lt = there.1.0 in
-    omega (arith, same, lt)
-  where
-    taken-at : (xs : List Decided) (n : ℕ) (x : Decided) → Has (take n xs) x → (m : ℕ) × ((m < n) × (slice_get xs m ≡ Some x))
-    taken-at xs zero x g = absurd g
-    taken-at [] (suc n) x g = absurd g
-    taken-at (y ∷ xs) (suc n) x (inl e) = (zero, (omega arith, ap Some e))
-    taken-at (y ∷ xs) (suc n) x (inr g) = let r = taken-at xs n x g in let lt = r.1.0 in (suc r.0, (omega (arith, lt), r.1.1))

@@ -23,16 +23,16 @@ drop-taken xs c n x le lt e =
     let long : length (take n xs) ≡ n = length-take-le n xs (omega (arith, lt)) in
     ap (drop c) (take-next xs n x e) ∙ drop-more c (take n xs) (x ∷ []) (omega (arith, le, long))
 
-pub spoken-next : (ts : List ValueTree) (trail : List Decided) (c n : ℕ) (d : Decided) (es : List Said) (e : Said) → c ≤ n → n < length trail → slice_get trail n ≡ Some d → AreSpoken ts (drop c (take n trail)) es → Speaks ts e d → AreSpoken ts (drop c (take (n + 1) trail)) (es ++ e ∷ [])
-spoken-next ts trail c n d es e le lt here h k = subst (λ xs. AreSpoken ts xs (es ++ e ∷ [])) (sym (drop-taken trail c n d le lt here)) (spoken-more ts (drop c (take n trail)) es d e h k)
+pub spoken-next : (us ts : List ValueTree) (trail : List Decided) (c n : ℕ) (d : Decided) (es : List Said) (e : Said) → c ≤ n → n < length trail → slice_get trail n ≡ Some d → AreSpoken us ts (drop c (take n trail)) es → Speaks us ts e d → AreSpoken us ts (drop c (take (n + 1) trail)) (es ++ e ∷ [])
+spoken-next us ts trail c n d es e le lt here h k = subst (λ xs. AreSpoken us ts xs (es ++ e ∷ [])) (sym (drop-taken trail c n d le lt here)) (spoken-more us ts (drop c (take n trail)) es d e h k)
 
-module _ (p : Problem) (b : Parts) (h : AreParts p [] b) (batch : List Said) (all : AreSpoken (nodes b.classes.table) (drop (length b.classes.said) b.trail) batch) where
+module _ (p : Problem) (b : Parts) (h : AreParts p [] b) (batch : List Said) (all : AreSpoken (nodes b.classes.table) (nodes p.table) (drop (length b.classes.said) b.trail) batch) where
   -- with these the classes know the trail
-  pub whole-spoken : AreSpoken (nodes b.classes.table) b.trail (b.classes.said ++ batch)
-  whole-spoken = subst (λ xs. AreSpoken (nodes b.classes.table) xs (b.classes.said ++ batch)) (take-append-drop (length b.classes.said) b.trail) (spoken-both (nodes b.classes.table) (take (length b.classes.said) b.trail) (drop (length b.classes.said) b.trail) b.classes.said batch h.spoken all)
+  pub whole-spoken : AreSpoken (nodes b.classes.table) (nodes p.table) b.trail (b.classes.said ++ batch)
+  whole-spoken = subst (λ xs. AreSpoken (nodes b.classes.table) (nodes p.table) xs (b.classes.said ++ batch)) (take-append-drop (length b.classes.said) b.trail) (spoken-both (nodes b.classes.table) (nodes p.table) (take (length b.classes.said) b.trail) (drop (length b.classes.said) b.trail) b.classes.said batch h.spoken all)
 
   pub whole-long : length (b.classes.said ++ batch) ≡ length b.trail
-  whole-long = spoken-long (nodes b.classes.table) b.trail (b.classes.said ++ batch) whole-spoken
+  whole-long = spoken-long (nodes b.classes.table) (nodes p.table) b.trail (b.classes.said ++ batch) whole-spoken
 
   abbrev told : Asserted
   told = record { table = b.classes.table; said = b.classes.said ++ batch }
@@ -50,15 +50,15 @@ module _ (p : Problem) (b : Parts) (h : AreParts p [] b) (batch : List Said) (al
     counts = λ n count f. let small : count ≤ length b.classes.said = h.counts n count f in let more = more-told in omega (arith, small, more);
     rising = h.rising;
     told = let long = whole-long in omega (arith, long);
-    spoken = subst (λ xs. AreSpoken (nodes b.classes.table) xs (b.classes.said ++ batch)) (sym (take_all (length (b.classes.said ++ batch)) b.trail (let long = whole-long in omega (arith, long)))) whole-spoken;
+    spoken = subst (λ xs. AreSpoken (nodes b.classes.table) (nodes p.table) xs (b.classes.said ++ batch)) (sym (take_all (length (b.classes.said ++ batch)) b.trail (let long = whole-long in omega (arith, long)))) whole-spoken;
     begun = h.begun;
     waits = h.waits;
     quiet = h.quiet;
   })
 
   -- literals that no structure meets
-  pub unmet-places : (ns : List ℕ) → ((n : ℕ) → Has ns n → n < length (b.classes.said ++ batch)) → IsUnmet (nodes b.classes.table) (cong.picked (b.classes.said ++ batch) ns) → AreUnmet (nodes b.classes.table) b.trail ns
+  pub unmet-places : (ns : List ℕ) → ((n : ℕ) → Has ns n → n < length (b.classes.said ++ batch)) → IsUnmet (nodes b.classes.table) (cong.picked (b.classes.said ++ batch) ns) → AreUnmet (nodes p.table) b.trail ns
   unmet-places ns inside unmet = record {
     inside = λ n g. let lt : n < length (b.classes.said ++ batch) = inside n g in let long = whole-long in omega (arith, lt, long);
-    unmet = λ m met. unmet m (meets-told m (nodes b.classes.table) (picked b.trail ns) (cong.picked (b.classes.said ++ batch) ns) (spoken-picked (nodes b.classes.table) b.trail (b.classes.said ++ batch) whole-spoken ns) met);
+    unmet = λ m met. unmet m (meets-told m (nodes b.classes.table) (nodes p.table) (picked b.trail ns) (cong.picked (b.classes.said ++ batch) ns) (spoken-picked (nodes b.classes.table) (nodes p.table) b.trail (b.classes.said ++ batch) whole-spoken ns) met);
   }

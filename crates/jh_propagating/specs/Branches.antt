@@ -2,6 +2,7 @@
 use Rattle.std.specs.Prelude.{◌≡◌, ◌⊎◌, ◌<◌, ◌≤◌, ◌+◌, ℕ, Bool, if◌then◌else◌, ◌==◌, List, [], ◌∷◌, ◌++◌, Some, slice_get, length, take, drop}
 use Rattle.std.specs.List.{list_any}
 use Rattle.jh_tree.specs.Tree.{FormulaTree, ValueTree}
+use Rattle.jh_closure.specs.Cores.{Begins}
 use Rattle.jh_closure.specs.Nodes.{Has}
 use Rattle.jh_table.specs.Nodes.{nodes}
 use Rattle.jh_cong.specs.Saying.{Asserted}
@@ -59,14 +60,14 @@ pub record AreParts (p : Problem) (busy : List ℕ) (b : Parts) : Type 0 where
   pub over_atoms : (d : Decided) → Has b.trail d → Has p.ground.atoms d.atom
   pub decided : (d : Decided) → Has b.decisions d → Has b.trail d
   pub reasoned : length b.reasons ≡ length b.trail
-  pub justified : (n : ℕ) (d : Decided) (r : Reason) → slice_get b.trail n ≡ Some d → slice_get b.reasons n ≡ Some r → Why (nodes b.classes.table) p b.decisions (take n b.trail) d r
+  pub justified : (n : ℕ) (d : Decided) (r : Reason) → slice_get b.trail n ≡ Some d → slice_get b.reasons n ≡ Some r → Why (nodes p.table) p b.decisions (take n b.trail) d r
   pub counts : (n count : ℕ) → slice_get b.reasons n ≡ Some (reason.Equality count) → count ≤ length b.classes.said
   pub rising : (m n first later : ℕ) → m ≤ n → slice_get b.reasons m ≡ Some (reason.Equality first) → slice_get b.reasons n ≡ Some (reason.Equality later) → first ≤ later
   pub told : length b.classes.said ≤ length b.trail
-  pub spoken : AreSpoken (nodes b.classes.table) (take (length b.classes.said) b.trail) b.classes.said
+  pub spoken : AreSpoken (nodes b.classes.table) (nodes p.table) (take (length b.classes.said) b.trail) b.classes.said
   pub begun : b.head ≤ length b.waiting
   pub waits : (j : ℕ) → Has b.waiting j → j < length p.instances.items
-  pub quiet : (j n : ℕ) → slice_get p.instances.items j ≡ Some n → Has busy j ⊎ (Has (drop b.head b.waiting) j ⊎ IsQuiet (nodes b.classes.table) b.trail (truth_at (nodes b.classes.table) n))
+  pub quiet : (j n : ℕ) → slice_get p.instances.items j ≡ Some n → Has busy j ⊎ (Has (drop b.head b.waiting) j ⊎ IsQuiet (nodes p.table) b.trail (truth_at (nodes p.table) n))
 
 abbrev pub IsBranch : Problem → List ℕ → Branch → Type 0
 IsBranch p busy b = AreParts p busy (parts_of b)
@@ -96,11 +97,17 @@ looks_left p b = left_over (λ k. length (places_in p.ground k)) b.trail p.groun
 abbrev pub IsSaid : List Decided → ℕ → Type 0
 IsSaid trail k = (b : Bool) × Has trail (decided k b)
 
+-- the trail goes on, and its reasons
+pub record IsLonger (old new : Branch) : Type 0 where
+  pub trail : Begins old.trail new.trail
+  pub reasons : Begins old.reasons.items new.reasons.items
+
 -- Literals were put to the trail, instances to those that wait, and there is less to look at.
 pub record HasMore (p : Problem) (old new : Branch) : Type 0 where
   pub decisions : new.decisions.items ≡ old.decisions.items
   pub classes : new.classes ≡ old.classes
   pub trail : (more : List Decided) × (new.trail ≡ old.trail ++ more)
+  pub reasons : (more : List Reason) × (new.reasons.items ≡ old.reasons.items ++ more)
   pub waiting : (more : List ℕ) × (new.waiting.items ≡ old.waiting.items ++ more)
   pub head : new.head ≡ old.head
   pub looks : looks_left p new ≤ looks_left p old
@@ -115,5 +122,5 @@ abbrev pub Moved : Problem → Branch → Branch → Type 0
 Moved p old new = ((new.trail ≡ old.trail) × (new.waiting.items ≡ old.waiting.items)) ⊎ ((length old.trail < length new.trail) × (undecided_count p new < undecided_count p old))
 
 -- The literal of an atom that isn't decided doesn't follow by equality.
-abbrev pub IsUnforced : Branch → ℕ → Type 0
-IsUnforced b k = IsUndecided b.trail k → (holds : Bool) → MayFollow (nodes b.classes.table) (decided k holds) → IsTold (nodes b.classes.table) b.classes.said (decided k holds) → ⊥
+abbrev pub IsUnforced : Problem → Branch → ℕ → Type 0
+IsUnforced p b k = IsUndecided b.trail k → (holds : Bool) → MayFollow (nodes p.table) (decided k holds) → IsTold (nodes b.classes.table) (nodes p.table) b.classes.said (decided k holds) → ⊥

@@ -3,3 +3,4 @@ pub mod Speaking
 pub mod Branches
 pub mod Closings
 pub mod Passing
+pub mod Levels

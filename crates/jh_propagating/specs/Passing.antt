@@ -1,5 +1,5 @@
 -- What a pass over the rules of propagation comes to.
-use Rattle.std.specs.Prelude.{◌≡◌, ◌<◌, ◌≤◌, ℕ, List, []}
+use Rattle.std.specs.Prelude.{◌≡◌, ◌<◌, ◌≤◌, ℕ, List, [], drop}
 use Rattle.jh_table.specs.Nodes.{nodes}
 use Rattle.jh_models.specs.Fixpoints.{IsFixpoint}
 use Rattle.jh_trail.specs.Saying.{literals_at}
@@ -9,19 +9,20 @@ use Rattle.jh_propagating.specs.declared.branch.Cause.{Cause}
 use Rattle.jh_propagating.specs.declared.propagating.Passed.{Passed}
 use Rattle.jh_propagating.specs.declared.propagating.Passed.TheVariants as passed
 use Rattle.jh_propagating.specs.Problems.{instances_in}
-use Rattle.jh_propagating.specs.Branches.{IsBranch, undecided_count}
+use Rattle.jh_propagating.specs.Branches.{IsBranch, IsLonger, undecided_count}
 use Rattle.jh_propagating.specs.Closings.{IsCause}
 
--- the same table and decisions, and no more atoms that aren't decided
+-- the same table and decisions, a trail that goes on, and no more atoms that aren't decided
 pub record GoesOn (p : Problem) (old new : Branch) : Type 0 where
   pub table : new.classes.table ≡ old.classes.table
   pub decisions : new.decisions.items ≡ old.decisions.items
+  pub longer : IsLonger old new
   pub count : undecided_count p new ≤ undecided_count p old
 
 pub record IsClosed (p : Problem) (new : Branch) (c : Cause) : Type 0 where
   pub busy : List ℕ
   pub branch : IsBranch p busy new
-  pub cause : IsCause (nodes new.classes.table) p new.trail c
+  pub cause : IsCause (nodes p.table) p new.trail c
 
 pub record IsMore (p : Problem) (old new : Branch) : Type 0 where
   pub branch : IsBranch p [] new
@@ -29,7 +30,8 @@ pub record IsMore (p : Problem) (old new : Branch) : Type 0 where
 
 pub record IsFixed (p : Problem) (new : Branch) : Type 0 where
   pub branch : IsBranch p [] new
-  pub fixpoint : IsFixpoint (instances_in (nodes new.classes.table) p) (literals_at (nodes new.classes.table) new.decisions.items) (literals_at (nodes new.classes.table) new.trail)
+  pub over : drop new.head new.waiting.items ≡ []
+  pub fixpoint : IsFixpoint (instances_in (nodes p.table) p) (literals_at (nodes p.table) new.decisions.items) (literals_at (nodes p.table) new.trail)
 
 abbrev pub IsPassed : Problem → Branch → Branch → Passed → Type 0
 IsPassed p old new (passed.Closed c) = GoesOn p old new × IsClosed p new c

@@ -12,25 +12,26 @@ use Rattle.jh_cong.specs.declared.literal.Said.{Said}
 use Rattle.jh_trail.specs.declared.decided.Decided.{Decided}
 use Rattle.jh_trail.specs.Saying.{truth_at, literal_tree_at, literals_at}
 
--- a structure meets what is told exactly where it meets the literal
-pub record Speaks (ts : List ValueTree) (e : Said) (d : Decided) : Type 0 where
-  pub can : CanBeSaid ts e.left e.right
-  pub same : (s : NumberStructure) → MeetsOne s (literal_of ts e).holds (literal_of ts e).atom ↔ MeetsOne s d.holds (truth_at ts d.atom)
+-- What is told is over nodes of one table, the literal over those of another: a structure meets the one exactly where it meets the
+-- other.
+pub record Speaks (us ts : List ValueTree) (e : Said) (d : Decided) : Type 0 where
+  pub can : CanBeSaid us e.left e.right
+  pub same : (s : NumberStructure) → MeetsOne s (literal_of us e).holds (literal_of us e).atom ↔ MeetsOne s d.holds (truth_at ts d.atom)
 
 -- one for each literal, in their order
-abbrev pub AreSpoken : List ValueTree → List Decided → List Said → Type 0
-AreSpoken ts [] [] = Unit {0}
-AreSpoken ts [] (e ∷ es) = ⊥
-AreSpoken ts (d ∷ ds) [] = ⊥
-AreSpoken ts (d ∷ ds) (e ∷ es) = Speaks ts e d × AreSpoken ts ds es
+abbrev pub AreSpoken : List ValueTree → List ValueTree → List Decided → List Said → Type 0
+AreSpoken us ts [] [] = Unit {0}
+AreSpoken us ts [] (e ∷ es) = ⊥
+AreSpoken us ts (d ∷ ds) [] = ⊥
+AreSpoken us ts (d ∷ ds) (e ∷ es) = Speaks us ts e d × AreSpoken us ts ds es
 
 -- An equation follows where it holds alone; any other literal may follow.
 abbrev pub MayFollow : List ValueTree → Decided → Type 0
 MayFollow ts d = is_equality (truth_at ts d.atom) ≡ true → d.holds ≡ true
 
 -- A literal follows from what the classes were told.
-abbrev pub IsTold : List ValueTree → List Said → Decided → Type 0
-IsTold ts said d = (s : NumberStructure) → Meets s (literals ts said) → MeetsOne s d.holds (truth_at ts d.atom)
+abbrev pub IsTold : List ValueTree → List ValueTree → List Said → Decided → Type 0
+IsTold us ts said d = (s : NumberStructure) → Meets s (literals us said) → MeetsOne s d.holds (truth_at ts d.atom)
 
 -- A literal follows from literals.
 abbrev pub IsImplied : List ValueTree → List Decided → Decided → Type 0

@@ -3,6 +3,7 @@ ghost use Rattle.jh_closure.specs.Nodes.{Has};
 ghost use Rattle.jh_table.specs.Nodes.{nodes};
 ghost use Rattle.jh_trail.specs.Listing.{IsUndecided};
 ghost use Rattle.jh_trail.specs.declared.decided.Decided.{Decided};
+ghost use Rattle.jh_propagating.specs.declared.branch.Reason.TheVariants as reason;
 ghost use Rattle.jh_trail.specs.Occurring.{places_in};
 ghost use Rattle.jh_propagating.specs.Branches.{IsBranch, IsLatest, Why, left_over, undecided_count};
 
@@ -75,10 +76,11 @@ pub(crate) fn push(
 ) -> Result<(), NoMemory>
     requires undecided { IsUndecided branch.old.trail literal.atom }
     requires atom { Has problem.now.ground.atoms literal.atom }
-    requires why { Why (nodes branch.old.classes.table) problem.now branch.old.decisions.items branch.old.trail literal reason }
+    requires why { Why (nodes problem.now.table) problem.now branch.old.decisions.items branch.old.trail literal reason }
     requires latest { IsLatest branch.old reason }
     ensures branch { OnOk result ((busy : List ℕ) → IsBranch problem.now busy branch.old → IsBranch problem.now busy branch.new) }
     ensures trail { OnOk result (branch.new.trail ≡ branch.old.trail ++ literal ∷ []) }
+    ensures reasons { OnOk result (branch.new.reasons.items ≡ branch.old.reasons.items ++ reason ∷ []) }
     ensures waiting { OnOk result (branch.new.waiting.items ≡ branch.old.waiting.items ++ places_in problem.now.ground literal.atom) }
     ensures left { OnOk result ((weight : ℕ → ℕ) → left_over weight branch.new.trail problem.now.ground.atoms + weight literal.atom ≤ left_over weight branch.old.trail problem.now.ground.atoms) }
     ensures head { branch.new.head ≡ branch.old.head }
@@ -97,6 +99,7 @@ pub fn decide(problem: &Problem, branch: &mut Branch, literal: Decided) -> Resul
     ensures branch { OnOk result (IsBranch problem.now [] branch.new) }
     ensures decisions { OnOk result (branch.new.decisions.items ≡ branch.old.decisions.items ++ literal ∷ []) }
     ensures trail { OnOk result (branch.new.trail ≡ branch.old.trail ++ literal ∷ []) }
+    ensures reasons { OnOk result (branch.new.reasons.items ≡ branch.old.reasons.items ++ reason.Decision ∷ []) }
     ensures count { OnOk result (undecided_count problem.now branch.new < undecided_count problem.now branch.old) }
     ensures classes { branch.new.classes ≡ branch.old.classes }
 {

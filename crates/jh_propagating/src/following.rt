@@ -4,11 +4,11 @@ ghost use Rattle.jh_table.specs.Nodes.{nodes};
 ghost use Rattle.jh_models.specs.Atoms.{is_equality};
 ghost use Rattle.jh_trail.specs.Listing.{IsUndecided, decided};
 ghost use Rattle.jh_trail.specs.Saying.{truth_at};
-ghost use Rattle.jh_propagating.specs.Branches.{IsBranch, IsUnforced, Moved};
+ghost use Rattle.jh_propagating.specs.Branches.{IsBranch, IsLonger, IsUnforced, Moved};
 ghost use Rattle.jh_propagating.specs.Speaking.{IsTold, MayFollow};
 
 use crate::branch::push;
-use crate::speaking::sides;
+use crate::speaking::named_sides;
 use crate::{Branch, Problem, Reason};
 use jh_name::NoMemory;
 use jh_trail::Decided;
@@ -17,13 +17,14 @@ use jh_trail::Decided;
 fn truth_follows(problem: &Problem, branch: &Branch, atom: usize) -> Option<bool>
     requires branch { IsBranch problem.now [] branch.now }
     requires atom { Has problem.now.ground.atoms atom }
-    requires no_equation { is_equality (truth_at (nodes branch.now.classes.table) atom) ≡ false }
-    ensures some { IfSome result (λ holds. MayFollow (nodes branch.now.classes.table) (decided atom holds) × IsTold (nodes branch.now.classes.table) branch.now.classes.said (decided atom holds)) }
-    ensures none { IfNone result ((holds : Bool) → IsTold (nodes branch.now.classes.table) branch.now.classes.said (decided atom holds) → ⊥) }
+    requires no_equation { is_equality (truth_at (nodes problem.now.table) atom) ≡ false }
+    ensures some { IfSome result (λ holds. MayFollow (nodes problem.now.table) (decided atom holds) × IsTold (nodes branch.now.classes.table) (nodes problem.now.table) branch.now.classes.said (decided atom holds)) }
+    ensures none { IfNone result ((holds : Bool) → IsTold (nodes branch.now.classes.table) (nodes problem.now.table) branch.now.classes.said (decided atom holds) → ⊥) }
 {
-    if branch.classes.same(atom, problem.yes) {
+    let name = problem.name(atom);
+    if branch.classes.same(name, problem.yes) {
         Some(true)
-    } else if branch.classes.same(atom, problem.no) {
+    } else if branch.classes.same(name, problem.no) {
         Some(false)
     } else {
         None
@@ -34,10 +35,10 @@ fn truth_follows(problem: &Problem, branch: &Branch, atom: usize) -> Option<bool
 fn follows(problem: &Problem, branch: &Branch, atom: usize) -> Option<bool>
     requires branch { IsBranch problem.now [] branch.now }
     requires atom { Has problem.now.ground.atoms atom }
-    ensures some { IfSome result (λ holds. MayFollow (nodes branch.now.classes.table) (decided atom holds) × IsTold (nodes branch.now.classes.table) branch.now.classes.said (decided atom holds)) }
-    ensures none { IfNone result ((holds : Bool) → MayFollow (nodes branch.now.classes.table) (decided atom holds) → IsTold (nodes branch.now.classes.table) branch.now.classes.said (decided atom holds) → ⊥) }
+    ensures some { IfSome result (λ holds. MayFollow (nodes problem.now.table) (decided atom holds) × IsTold (nodes branch.now.classes.table) (nodes problem.now.table) branch.now.classes.said (decided atom holds)) }
+    ensures none { IfNone result ((holds : Bool) → MayFollow (nodes problem.now.table) (decided atom holds) → IsTold (nodes branch.now.classes.table) (nodes problem.now.table) branch.now.classes.said (decided atom holds) → ⊥) }
 {
-    match sides(branch.classes.table().shape(atom)) {
+    match named_sides(branch.classes.table(), problem, atom) {
         Some((left, right)) => {
             if branch.classes.same(left, right) {
                 Some(true)
@@ -55,9 +56,10 @@ fn follow_new(problem: &Problem, branch: &mut Branch, atom: usize) -> Result<(),
     requires atom { Has problem.now.ground.atoms atom }
     requires undecided { IsUndecided branch.old.trail atom }
     ensures branch { OnOk result (IsBranch problem.now [] branch.new) }
-    ensures followed { OnOk result (IsUnforced branch.new atom) }
+    ensures followed { OnOk result (IsUnforced problem.now branch.new atom) }
     ensures moved { OnOk result (Moved problem.now branch.old branch.new) }
-    ensures kept { OnOk result ((k : ℕ) → IsUnforced branch.old k → IsUnforced branch.new k) }
+    ensures longer { OnOk result (IsLonger branch.old branch.new) }
+    ensures kept { OnOk result ((k : ℕ) → IsUnforced problem.now branch.old k → IsUnforced problem.now branch.new k) }
     ensures classes { OnOk result (branch.new.classes ≡ branch.old.classes) }
     ensures head { OnOk result (branch.new.head ≡ branch.old.head) }
     ensures decisions { OnOk result (branch.new.decisions.items ≡ branch.old.decisions.items) }
@@ -81,9 +83,10 @@ fn follow_one(problem: &Problem, branch: &mut Branch, atom: usize) -> Result<(),
     requires branch { IsBranch problem.now [] branch.old }
     requires atom { Has problem.now.ground.atoms atom }
     ensures branch { OnOk result (IsBranch problem.now [] branch.new) }
-    ensures followed { OnOk result (IsUnforced branch.new atom) }
+    ensures followed { OnOk result (IsUnforced problem.now branch.new atom) }
     ensures moved { OnOk result (Moved problem.now branch.old branch.new) }
-    ensures kept { OnOk result ((k : ℕ) → IsUnforced branch.old k → IsUnforced branch.new k) }
+    ensures longer { OnOk result (IsLonger branch.old branch.new) }
+    ensures kept { OnOk result ((k : ℕ) → IsUnforced problem.now branch.old k → IsUnforced problem.now branch.new k) }
     ensures classes { OnOk result (branch.new.classes ≡ branch.old.classes) }
     ensures head { OnOk result (branch.new.head ≡ branch.old.head) }
     ensures decisions { OnOk result (branch.new.decisions.items ≡ branch.old.decisions.items) }
@@ -106,8 +109,9 @@ fn atom_at(atoms: &[usize], index: usize) -> usize
 pub(crate) fn follow(problem: &Problem, branch: &mut Branch) -> Result<(), NoMemory>
     requires branch { IsBranch problem.now [] branch.old }
     ensures branch { OnOk result (IsBranch problem.now [] branch.new) }
-    ensures followed { OnOk result ((k : ℕ) → Has problem.now.ground.atoms k → IsUnforced branch.new k) }
+    ensures followed { OnOk result ((k : ℕ) → Has problem.now.ground.atoms k → IsUnforced problem.now branch.new k) }
     ensures moved { OnOk result (Moved problem.now branch.old branch.new) }
+    ensures longer { OnOk result (IsLonger branch.old branch.new) }
     ensures classes { OnOk result (branch.new.classes ≡ branch.old.classes) }
     ensures head { OnOk result (branch.new.head ≡ branch.old.head) }
     ensures decisions { OnOk result (branch.new.decisions.items ≡ branch.old.decisions.items) }

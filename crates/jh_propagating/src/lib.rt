@@ -2,6 +2,7 @@
 #![tactic(auto)]
 
 mod branch;
+mod cutting;
 mod following;
 mod problem;
 mod propagating;
@@ -11,7 +12,8 @@ mod starting;
 mod telling;
 
 pub use branch::{Branch, Cause, Reason, decide};
+pub use cutting::cut;
 pub use problem::{Problem, pose};
 pub use propagating::propagate;
 pub use speaking::spoken;
-pub use starting::{begin, restart};
+pub use starting::begin;

@@ -1,43 +1,175 @@
-ghost use Rattle.std.specs.Prelude.{◌≡◌, IfOk, Some, false, slice_get};
+ghost use Rattle.std.specs.Prelude.{◌≡◌, ◌<◌, ℕ, IfOk, OnOk, Some, length, slice_get, slice_set};
 ghost use Rattle.jh_closure.specs.Nodes.{Has};
+ghost use Rattle.jh_table.specs.Growth.{Extends};
 ghost use Rattle.jh_table.specs.Nodes.{nodes};
-ghost use Rattle.jh_tree.specs.Tree.{of_truth};
-ghost use Rattle.jh_tree.specs.Tree as t;
-ghost use Rattle.jh_trail.specs.Saying.{AreTruths, truth_at};
-ghost use Rattle.jh_propagating.specs.Problems.{AreUnlabelled, IsProblem};
+ghost use Rattle.jh_trail.specs.Occurring.{AreOccurrences};
+ghost use Rattle.jh_trail.specs.Saying.{AreTruths};
+ghost use Rattle.jh_propagating.specs.Problems.{AreNames, AreUnlabelled, IsNamed, IsProblem};
 
+use jh_carry::carry;
+use jh_make::{falsehood, truth};
 use jh_name::NoMemory;
 use jh_table::Table;
 use jh_trail::Ground;
 
-/// The instances of a search with their ground atoms, and the nodes of True and False.
+/// The instances of a search, which are nodes of a table, with their ground atoms. Each atom has a name: its node in a second table, which
+/// has the atoms and their parts alone, and in which True and False are these nodes. So what is equal is asked of few nodes.
 #[derive(Drop)]
 pub struct Problem {
+    pub table: Table,
     pub instances: Vec<usize>,
     pub ground: Ground,
+    pub names: Vec<usize>,
     pub yes: usize,
     pub no: usize,
 }
 
-/// Poses the problem of instances that are nodes, with the nodes of True and False.
-pub fn pose(
+impl Problem {
+    /// The name of an atom.
+    pub fn name(&self, atom: usize) -> usize
+        requires { atom < length self.now.names.items }
+        ensures { slice_get self.now.names.items atom ≡ Some result }
+    {
+        self.names[atom]
+    }
+}
+
+/// An atom of a list.
+fn atom_at(atoms: &[usize], index: usize) -> usize
+    requires { index < length atoms.now }
+    ensures { slice_get atoms.now index ≡ Some result }
+{
+    atoms[index]
+}
+
+/// Gives an atom its name.
+fn give_name(names: &mut Vec<usize>, atom: usize, name: usize)
+    requires { atom < length names.old.items }
+    ensures { names.new.items ≡ slice_set names.old.items atom name }
+{
+    names[atom] = name;
+}
+
+/// Makes an atom's node in another table, and gives it as its name.
+fn name_one(
     table: &Table,
-    instances: Vec<usize>,
+    into: &mut Table,
+    names: &mut Vec<usize>,
+    atom: usize,
+) -> Result<(), NoMemory>
+    requires inside { atom < length (nodes table.now) }
+    requires long { length names.old.items ≡ length (nodes table.now) }
+    ensures long { OnOk result (length names.new.items ≡ length (nodes table.now)) }
+    ensures here { OnOk result (IsNamed (nodes into.new) (nodes table.now) names.new.items atom) }
+    ensures kept { OnOk result ((k : ℕ) → k < length (nodes table.now) → IsNamed (nodes into.old) (nodes table.now) names.old.items k → IsNamed (nodes into.new) (nodes table.now) names.new.items k) }
+    ensures grows { Extends into.old into.new }
+{
+    let name = carry(table, into, atom)?;
+    give_name(names, atom, name);
+    Ok(())
+}
+
+/// The names of the atoms of instances: their nodes in another table, which are made there.
+fn names_of(table: &Table, ground: &Ground, into: &mut Table) -> Result<Vec<usize>, NoMemory>
+    requires atoms { (k : ℕ) → Has ground.now.atoms k → k < length (nodes table.now) }
+    ensures names { IfOk result (λ names. (k : ℕ) → Has ground.now.atoms k → IsNamed (nodes into.new) (nodes table.now) names.items k) }
+    ensures grows { Extends into.old into.new }
+{
+    let mut names = vec![in into.alloc(); 0; table.len()]?;
+    let atoms = ground.atoms();
+    for index in 0..atoms.len() {
+        name_one(table, into, &mut names, atom_at(atoms, index))?;
+    }
+    Ok(names)
+}
+
+/// The names of atoms, and the nodes of True and False in their table.
+#[derive(Drop)]
+struct Names {
+    list: Vec<usize>,
     yes: usize,
     no: usize,
-) -> Result<Problem, NoMemory>
-    requires instances { AreTruths (nodes table.now) instances.items }
-    requires unlabelled { AreUnlabelled (nodes table.now) instances.items }
-    requires yes { slice_get (nodes table.now) yes ≡ Some (of_truth t.true_formula) }
-    requires no { slice_get (nodes table.now) no ≡ Some (of_truth t.false_formula) }
-    ensures problem { IfOk result (λ made. IsProblem (nodes table.now) made) }
-    ensures instances { IfOk result (λ made. made.instances.items ≡ instances.items) }
+}
+
+/// Makes True, False and the atoms of instances in another table.
+fn fill(table: &Table, ground: &Ground, into: &mut Table) -> Result<Names, NoMemory>
+    requires atoms { (k : ℕ) → Has ground.now.atoms k → k < length (nodes table.now) }
+    ensures { IfOk result (λ made. AreNames (nodes into.new) (nodes table.now) ground.now.atoms made.list.items made.yes made.no) }
 {
-    let ground = Ground::new(table, instances.as_slice())?;
-    Ok(Problem {
+    let yes = truth(into)?;
+    let no = falsehood(into)?;
+    let list = names_of(table, ground, into)?;
+    Ok(Names { list, yes, no })
+}
+
+/// The atoms of instances in a table of their own, with True and False.
+fn atoms_of(table: &Table, ground: &Ground) -> Result<(Table, Names), NoMemory>
+    requires atoms { (k : ℕ) → Has ground.now.atoms k → k < length (nodes table.now) }
+    ensures { IfOk result (λ made. AreNames (nodes made.0) (nodes table.now) ground.now.atoms made.1.list.items made.1.yes made.1.no) }
+{
+    let mut atoms = Table::new(table.alloc())?;
+    let names = fill(table, ground, &mut atoms)?;
+    Ok((atoms, names))
+}
+
+/// The parts of a problem beside its instances.
+#[derive(Drop)]
+struct Parts {
+    ground: Ground,
+    atoms: Table,
+    names: Names,
+}
+
+/// The parts of the problem of instances.
+fn parts_of(table: &Table, instances: &[usize]) -> Result<Parts, NoMemory>
+    requires instances { AreTruths (nodes table.now) instances.now }
+    ensures occurrences { IfOk result (λ made. AreOccurrences (nodes table.now) instances.now made.ground) }
+    ensures names { IfOk result (λ made. AreNames (nodes made.atoms) (nodes table.now) made.ground.atoms made.names.list.items made.names.yes made.names.no) }
+{
+    let ground = Ground::new(table, instances)?;
+    let (atoms, names) = atoms_of(table, &ground)?;
+    Ok(Parts {
+        ground,
+        atoms,
+        names,
+    })
+}
+
+/// A problem of these parts, and the table of its names.
+fn assembled(table: Table, instances: Vec<usize>, parts: Parts) -> (Problem, Table)
+    requires instances { AreTruths (nodes table) instances.items }
+    requires unlabelled { AreUnlabelled (nodes table) instances.items }
+    requires occurrences { AreOccurrences (nodes table) instances.items parts.ground }
+    requires names { AreNames (nodes parts.atoms) (nodes table) parts.ground.atoms parts.names.list.items parts.names.yes parts.names.no }
+    ensures problem { IsProblem (nodes result.1) result.0 }
+    ensures instances { result.0.instances.items ≡ instances.items }
+    ensures table { result.0.table ≡ table }
+{
+    let Parts {
+        ground,
+        atoms,
+        names,
+    } = parts;
+    let Names { list, yes, no } = names;
+    let problem = Problem {
+        table,
         instances,
         ground,
+        names: list,
         yes,
         no,
-    })
+    };
+    (problem, atoms)
+}
+
+/// Poses the problem of instances that are nodes of a table. Beside it comes the table of the names.
+pub fn pose(table: Table, instances: Vec<usize>) -> Result<(Problem, Table), NoMemory>
+    requires instances { AreTruths (nodes table) instances.items }
+    requires unlabelled { AreUnlabelled (nodes table) instances.items }
+    ensures problem { IfOk result (λ made. IsProblem (nodes made.1) made.0) }
+    ensures instances { IfOk result (λ made. made.0.instances.items ≡ instances.items) }
+    ensures table { IfOk result (λ made. made.0.table ≡ table) }
+{
+    let parts = parts_of(&table, instances.as_slice())?;
+    Ok(assembled(table, instances, parts))
 }

@@ -3,7 +3,7 @@ ghost use Rattle.jh_table.specs.Nodes.{nodes};
 ghost use Rattle.jh_cong.specs.Saying.{IsUnmet};
 ghost use Rattle.jh_models.specs.Fixpoints.{IsFixpoint};
 ghost use Rattle.jh_trail.specs.Saying.{literals_at};
-ghost use Rattle.jh_propagating.specs.Branches.{IsBranch, undecided_count};
+ghost use Rattle.jh_propagating.specs.Branches.{IsBranch, IsLonger, undecided_count};
 ghost use Rattle.jh_propagating.specs.Closings.{IsCause};
 ghost use Rattle.jh_propagating.specs.Passing.{GoesOn, IsFixed, IsMore, IsPassed};
 ghost use Rattle.jh_propagating.specs.Problems.{instances_in};
@@ -60,12 +60,14 @@ fn pass(problem: &Problem, branch: &mut Branch) -> Result<Passed, NoMemory>
 /// isn't, nothing more can be added.
 pub fn propagate(problem: &Problem, branch: &mut Branch) -> Result<Option<Cause>, NoMemory>
     requires branch { IsBranch problem.now [] branch.old }
-    ensures fixpoint { IfOk result (λ found. IfNone found (IsFixpoint (instances_in (nodes branch.new.classes.table) problem.now) (literals_at (nodes branch.new.classes.table) branch.new.decisions.items) (literals_at (nodes branch.new.classes.table) branch.new.trail))) }
+    ensures fixpoint { IfOk result (λ found. IfNone found (IsFixpoint (instances_in (nodes problem.now.table) problem.now) (literals_at (nodes problem.now.table) branch.new.decisions.items) (literals_at (nodes problem.now.table) branch.new.trail))) }
     ensures branch { IfOk result (λ found. IfNone found (IsBranch problem.now [] branch.new)) }
-    ensures cause { IfOk result (λ found. IfSome found (λ cause. IsCause (nodes branch.new.classes.table) problem.now branch.new.trail cause)) }
+    ensures over { IfOk result (λ found. IfNone found (drop branch.new.head branch.new.waiting.items ≡ [])) }
+    ensures cause { IfOk result (λ found. IfSome found (λ cause. IsCause (nodes problem.now.table) problem.now branch.new.trail cause)) }
     ensures closed { IfOk result (λ found. IfSome found (λ cause. (busy : List ℕ) × IsBranch problem.now busy branch.new)) }
     ensures table { OnOk result (branch.new.classes.table ≡ branch.old.classes.table) }
     ensures decisions { OnOk result (branch.new.decisions.items ≡ branch.old.decisions.items) }
+    ensures longer { OnOk result (IsLonger branch.old branch.new) }
     ensures count { OnOk result (undecided_count problem.now branch.new ≤ undecided_count problem.now branch.old) }
 {
     loop {

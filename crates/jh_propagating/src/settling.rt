@@ -5,7 +5,7 @@ ghost use Rattle.jh_trail.specs.Looks.{AreForced};
 ghost use Rattle.jh_trail.specs.Saying.{truth_at};
 ghost use Rattle.jh_trail.specs.declared.decided.Decided.{Decided};
 ghost use Rattle.jh_trail.specs.Occurring.{places_in};
-ghost use Rattle.jh_propagating.specs.Branches.{HasMore, IsBranch, IsForced, IsSaid, WaitsAgain, undecided_count};
+ghost use Rattle.jh_propagating.specs.Branches.{HasMore, IsBranch, IsForced, IsLonger, IsSaid, WaitsAgain, undecided_count};
 ghost use Rattle.jh_propagating.specs.Closings.{IsFalseAt};
 
 use crate::branch::push;
@@ -23,7 +23,7 @@ fn take_one(
     requires branch { IsBranch problem.now (place ∷ []) branch.old }
     requires atom { Has problem.now.ground.atoms literal.atom }
     requires occurs { Has (places_in problem.now.ground literal.atom) place }
-    requires forced { IsForced (nodes branch.old.classes.table) problem.now branch.old.trail literal place }
+    requires forced { IsForced (nodes problem.now.table) problem.now branch.old.trail literal place }
     ensures branch { OnOk result (IsBranch problem.now (place ∷ []) branch.new) }
     ensures more { OnOk result (HasMore problem.now branch.old branch.new) }
     ensures said { OnOk result (IsSaid branch.new.trail literal.atom) }
@@ -61,14 +61,14 @@ fn take_all(
 ) -> Result<(), NoMemory>
     requires branch { IsBranch problem.now (place ∷ []) branch.old }
     requires here { slice_get problem.now.instances.items place ≡ Some instance }
-    requires forced { AreForced (nodes branch.old.classes.table) branch.old.trail (truth_at (nodes branch.old.classes.table) instance) list.now }
+    requires forced { AreForced (nodes problem.now.table) branch.old.trail (truth_at (nodes problem.now.table) instance) list.now }
     ensures branch { OnOk result (IsBranch problem.now (place ∷ []) branch.new) }
     ensures more { OnOk result (HasMore problem.now branch.old branch.new) }
     ensures said { OnOk result ((l : Decided) → Has list.now l → IsSaid branch.new.trail l.atom) }
     ensures waits { OnOk result (WaitsAgain branch.old branch.new place) }
 {
     forced_stands();
-    branch.classes.table().nodes_differ();
+    problem.table.nodes_differ();
     for index in 0..list.len() {
         take_one(problem, branch, place, literal_at(list, index))?;
     }
@@ -81,11 +81,11 @@ fn look_at(problem: &Problem, branch: &mut Branch, place: usize) -> Result<bool,
     requires inside { place < length problem.now.instances.items }
     ensures more { OnOk result (HasMore problem.now branch.old branch.new) }
     ensures quiet { IfOk result (λ goes. goes ≡ true → IsBranch problem.now [] branch.new) }
-    ensures is_false { IfOk result (λ goes. goes ≡ false → IsFalseAt (nodes branch.new.classes.table) problem.now branch.new.trail place) }
+    ensures is_false { IfOk result (λ goes. goes ≡ false → IsFalseAt (nodes problem.now.table) problem.now branch.new.trail place) }
     ensures branch { IfOk result (λ goes. goes ≡ false → IsBranch problem.now (place ∷ []) branch.new) }
 {
     let instance = instance_at(problem, place);
-    match look(branch.classes.table(), &branch.trail, instance)? {
+    match look(&problem.table, &branch.trail, instance)? {
         Looked::False => Ok(false),
         Looked::Forces(list) => {
             take_all(problem, branch, place, instance, list.items())?;
@@ -112,6 +112,7 @@ fn next_waiting(problem: &Problem, branch: &mut Branch) -> Option<usize>
     ensures classes { branch.new.classes ≡ branch.old.classes }
     ensures decisions { branch.new.decisions.items ≡ branch.old.decisions.items }
     ensures trail { branch.new.trail ≡ branch.old.trail }
+    ensures reasons { branch.new.reasons ≡ branch.old.reasons }
     ensures none { IfNone result (IsBranch problem.now [] branch.new) }
     ensures over { IfNone result (drop branch.new.head branch.new.waiting.items ≡ []) }
 {
@@ -126,10 +127,11 @@ pub(crate) fn settle(problem: &Problem, branch: &mut Branch) -> Result<Option<us
     requires branch { IsBranch problem.now [] branch.old }
     ensures quiet { IfOk result (λ found. IfNone found (IsBranch problem.now [] branch.new)) }
     ensures over { IfOk result (λ found. IfNone found (drop branch.new.head branch.new.waiting.items ≡ [])) }
-    ensures is_false { IfOk result (λ found. IfSome found (λ place. IsFalseAt (nodes branch.new.classes.table) problem.now branch.new.trail place)) }
+    ensures is_false { IfOk result (λ found. IfSome found (λ place. IsFalseAt (nodes problem.now.table) problem.now branch.new.trail place)) }
     ensures branch { IfOk result (λ found. IfSome found (λ place. IsBranch problem.now (place ∷ []) branch.new)) }
     ensures classes { OnOk result (branch.new.classes ≡ branch.old.classes) }
     ensures decisions { OnOk result (branch.new.decisions.items ≡ branch.old.decisions.items) }
+    ensures longer { OnOk result (IsLonger branch.old branch.new) }
     ensures count { OnOk result (undecided_count problem.now branch.new ≤ undecided_count problem.now branch.old) }
 {
     while let Some(place) = next_waiting(problem, branch) {

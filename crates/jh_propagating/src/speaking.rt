@@ -1,9 +1,12 @@
 #![tactic(auto, unfolding(crate::specs::Speaking::sides_of))]
 
-ghost use Rattle.std.specs.Prelude.{◌≡◌, false, true};
+ghost use Rattle.std.specs.Prelude.{◌≡◌, Bool, IfNone, IfSome, false, true};
+ghost use Rattle.jh_closure.specs.Nodes.{Has};
 ghost use Rattle.jh_table.specs.Nodes.{nodes};
-ghost use Rattle.jh_trail.specs.Saying.{IsTruth, truth_at};
-ghost use Rattle.jh_propagating.specs.Problems.{IsProblem, is_label};
+ghost use Rattle.jh_models.specs.Atoms.{is_equality};
+ghost use Rattle.jh_trail.specs.Listing.{decided};
+ghost use Rattle.jh_trail.specs.Saying.{truth_at};
+ghost use Rattle.jh_propagating.specs.Problems.{IsProblem};
 ghost use Rattle.jh_propagating.specs.Speaking.{MayFollow, Speaks, sides_of};
 
 use crate::Problem;
@@ -24,22 +27,33 @@ pub(crate) fn sides(shape: Shape) -> Option<(usize, usize)>
     }
 }
 
-/// What the classes are told of a literal: the equation or inequation that it is, or that its atom is True or False.
+/// The sides of an atom that is an equation, as nodes of the table of names.
+pub(crate) fn named_sides(table: &Table, problem: &Problem, atom: usize) -> Option<(usize, usize)>
+    requires problem { IsProblem (nodes table.now) problem.now }
+    requires atom { Has problem.now.ground.atoms atom }
+    ensures speaks { IfSome result (λ sides. (h : Bool) → Speaks (nodes table.now) (nodes problem.now.table) (record { left = sides.0; right = sides.1; holds = h }) (decided atom h)) }
+    ensures equation { IfSome result (λ sides. is_equality (truth_at (nodes problem.now.table) atom) ≡ true) }
+    ensures none { IfNone result (is_equality (truth_at (nodes problem.now.table) atom) ≡ false) }
+{
+    sides(table.shape(problem.name(atom)))
+}
+
+/// What the classes, over the table of names, are told of a literal: the equation or inequation that it is, or that its atom is True or
+/// False.
 pub fn spoken(table: &Table, problem: &Problem, literal: Decided) -> Said
     requires problem { IsProblem (nodes table.now) problem.now }
-    requires formula { IsTruth (nodes table.now) literal.atom }
-    requires unlabelled { is_label (truth_at (nodes table.now) literal.atom) ≡ false }
-    ensures speaks { Speaks (nodes table.now) result literal }
-    ensures equal { MayFollow (nodes table.now) literal → result.holds ≡ true }
+    requires atom { Has problem.now.ground.atoms literal.atom }
+    ensures speaks { Speaks (nodes table.now) (nodes problem.now.table) result literal }
+    ensures equal { MayFollow (nodes problem.now.table) literal → result.holds ≡ true }
 {
-    match sides(table.shape(literal.atom)) {
+    match named_sides(table, problem, literal.atom) {
         Some((left, right)) => Said {
             left,
             right,
             holds: literal.holds,
         },
         None => Said {
-            left: literal.atom,
+            left: problem.name(literal.atom),
             right: if literal.holds {
                 problem.yes
             } else {

@@ -1,18 +1,17 @@
 -- How what is closed goes back over nodes.
-use Rattle.std.proofs.Common.{◌≡◌, refl, sym, ap, ◌∙◌, subst, ℕ, ◌<◌, ◌≤◌, arith, Bool, true, false, not, List, [], ◌∷◌, ◌++◌, length, map, Some, slice_get, ◌⊎◌, inl, inr}
+use Rattle.std.proofs.Common.{◌≡◌, refl, sym, ap, ◌∙◌, subst, ℕ, true, false, List, [], ◌∷◌, ◌++◌, length, Some, slice_get, ◌⊎◌, inl, inr}
 use Rattle.std.proofs.lemmas.List.{map-append, length-map}
 use Rattle.jh_tree.specs.Tree.{ValueTree}
 use Rattle.jh_table.proofs.Listed.{slice_get-append, slice_get-last}
 use Rattle.jh_structure.specs.Literals.{LiteralTree, IsListed}
 use Rattle.jh_closure.specs.Nodes.{Has}
 use Rattle.jh_closure.proofs.Having.{has-left, has-last, has-pushed}
-use Rattle.jh_models.specs.GroundModel.{IsGroundModel}
 use Rattle.jh_models.specs.Budget.{IsSpent}
 use Rattle.jh_backjumping.specs.Paths as paths
 use Rattle.jh_backjumping.specs.Laws.{SearchGoesBack}
 use Rattle.jh_trail.specs.declared.decided.Decided.{Decided}
 use Rattle.jh_trail.specs.Listing.{DecideOnce}
-use Rattle.jh_trail.specs.Saying.{IsTruth, literal_tree_at, literals_at, opposite_of}
+use Rattle.jh_trail.specs.Saying.{literal_tree_at, literals_at, opposite_of}
 use Rattle.jh_propagating.specs.declared.problem.Problem.{Problem}
 use Rattle.jh_propagating.specs.Problems.{instances_in}
 use Rattle.jh_search.specs.declared.turn.Turn.{Turn}
@@ -72,14 +71,14 @@ module _ (law : SearchGoesBack) (ts : List ValueTree) (p : Problem) (path : List
   listed-needed : (l : Decided) → Has p.ground.atoms l.atom → (ks : List Decided) → ((d : Decided) → Has ks d → Has p.ground.atoms d.atom) → IsListed (literals_at ts ks) (literal_tree_at ts l) → Has ks l
   listed-needed l at ks all g =
       let r = listed-has ts ks (literal_tree_at ts l) g in
-      subst (Has ks) (one-literal ts h.different r.0 l (h.problem.occurrences.truths r.0.atom (all r.0 r.1.0)) (h.problem.occurrences.truths l.atom at) r.1.1) r.1.0
+      subst (Has ks) (one-literal ts h.different r.0 l (h.posed.occurrences.truths r.0.atom (all r.0 r.1.0)) (h.posed.occurrences.truths l.atom at) r.1.1) r.1.0
 
   before : AreDecisions p path
   before = decisions-before p path t h.decisions
 
   pub dropped : (Has needs t.literal → ⊥) → IsGoingBack ts p path closed needs
   dropped never = record {
-    problem = h.problem;
+    posed = h.posed;
     different = h.different;
     decisions = before;
     needs_over = h.needs_over;
@@ -98,7 +97,7 @@ module _ (law : SearchGoesBack) (ts : List ValueTree) (p : Problem) (path : List
       only-one k r = chosen (j.only r.0 r.1.0)
         where
           chosen : (Has needs r.0 × (t.literal ≡ r.0 → ⊥)) ⊎ Has more r.0 → (IsListed (literals_at ts needs) k × (literal_tree_at ts t.literal ≡ k → ⊥)) ⊎ IsListed (literals_at ts more) k
-          chosen (inl g) = inl (subst (IsListed (literals_at ts needs)) r.1.1 (has-listed ts needs r.0 g.0), λ e. g.1 (one-literal ts h.different t.literal r.0 (h.problem.occurrences.truths t.literal.atom over) (h.problem.occurrences.truths r.0.atom (h.needs_over r.0 g.0)) (e ∙ sym r.1.1)))
+          chosen (inl g) = inl (subst (IsListed (literals_at ts needs)) r.1.1 (has-listed ts needs r.0 g.0), λ e. g.1 (one-literal ts h.different t.literal r.0 (h.posed.occurrences.truths t.literal.atom over) (h.posed.occurrences.truths r.0.atom (h.needs_over r.0 g.0)) (e ∙ sym r.1.1)))
           chosen (inr g) = inr (subst (IsListed (literals_at ts more)) r.1.1 (has-listed ts more r.0 g))
 
       first-one : (k : LiteralTree) → (d : Decided) × (Has needs d × (literal_tree_at ts d ≡ k)) → (literal_tree_at ts t.literal ≡ k) ⊎ IsListed (literals_at ts joined) k
@@ -115,7 +114,7 @@ module _ (law : SearchGoesBack) (ts : List ValueTree) (p : Problem) (path : List
 
   pub joined-back : (joined : List Decided) → Has needs t.literal → t.is_second ≡ true → AreJoined needs t.literal t.needs.items joined → IsGoingBack ts p path closed joined
   joined-back joined here second j = record {
-    problem = h.problem;
+    posed = h.posed;
     different = h.different;
     decisions = before;
     needs_over = joined-over t.needs.items joined turn-needs j;

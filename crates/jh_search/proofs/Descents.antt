@@ -1,9 +1,9 @@
 -- How a search over nodes decides one more atom, and what it has where each is decided.
-use Rattle.std.proofs.Common.{◌≡◌, refl, sym, ap, ◌∙◌, subst, ℕ, ◌<◌, arith, Bool, true, false, List, [], ◌∷◌, ◌++◌, length, Some, slice_get, ◌⊎◌, inl, inr}
+use Rattle.std.proofs.Common.{◌≡◌, sym, ap, ◌∙◌, subst, ℕ, ◌<◌, arith, Bool, true, false, List, [], ◌∷◌, ◌++◌, length, drop, Some, slice_get, ◌⊎◌, inl, inr}
+use Rattle.std.proofs.lemmas.List.{length-map}
 use Rattle.std.proofs.lemmas.Option.{slice_get_within}
 use Rattle.jh_tree.specs.Tree.{FormulaTree, ValueTree}
 use Rattle.jh_table.specs.Nodes.{nodes}
-use Rattle.jh_table.specs.Entries.{Listing}
 use Rattle.jh_table.specs.Growth.{AreDifferent}
 use Rattle.jh_structure.specs.Literals.{LiteralTree, IsListed}
 use Rattle.jh_closure.specs.Nodes.{Has}
@@ -13,7 +13,6 @@ use Rattle.jh_models.specs.Clashes.{DecidesAtom, IsOpen}
 use Rattle.jh_models.specs.Fixpoints.{IsFixpoint}
 use Rattle.jh_models.specs.GroundModel.{IsGroundModel}
 use Rattle.jh_models.specs.Laws.{FixpointIsOpen, WholeFixpointIsModel}
-use Rattle.jh_models.specs.Branches.{ClosedTree}
 use Rattle.jh_backjumping.specs.Paths as paths
 use Rattle.jh_backjumping.specs.Laws.{SearchGoesOn}
 use Rattle.jh_trail.specs.declared.decided.Decided.{Decided}
@@ -21,15 +20,18 @@ use Rattle.jh_trail.specs.Listing.{decided, DecideOnce, IsUndecided}
 use Rattle.jh_trail.specs.Saying.{truth_at, literal_tree_at, literals_at}
 use Rattle.jh_propagating.specs.declared.problem.Problem.{Problem}
 use Rattle.jh_propagating.specs.declared.branch.Branch.{Branch}
+use Rattle.jh_propagating.specs.declared.branch.Reason.TheVariants as reason
 use Rattle.jh_propagating.specs.Problems.{instances_in}
-use Rattle.jh_propagating.specs.Branches.{IsBranch, IsSaid}
+use Rattle.jh_propagating.specs.Branches.{IsBranch, IsSaid, parts_of}
 use Rattle.jh_search.specs.declared.turn.Turn.{Turn}
 use Rattle.jh_search.specs.declared.turn.Searching.{Searching}
 use Rattle.jh_search.specs.declared.turn.ClosedBranch.{ClosedBranch}
 use Rattle.jh_search.specs.Paths.{turn_at, path_at, decisions_of, all_closed}
 use Rattle.jh_search.specs.Searches.{AreDecisions, IsSearching}
 use Rattle.jh_search.proofs.Backs.{path-more, decided-more}
+use Rattle.jh_search.specs.Levels.{AreLevels}
 use Rattle.jh_search.proofs.Leaves.{path-decisions}
+use Rattle.jh_search.proofs.Levels.{levels-more, no-levels}
 use Rattle.jh_search.proofs.Lists.{has-listed, listed-has, one-literal, slice-pushed}
 
 -- one more decision is on an atom that the others aren't on
@@ -46,9 +48,9 @@ once-more ds d h new p q x y e f same = both (slice-pushed ds d x p e) (slice-pu
 says-itself : (ds : List Decided) (d : Decided) → Has ds d → Has ds (decided d.atom d.holds)
 says-itself ds d h = h
 
-module _ (p : Problem) (s : Searching) (h : IsSearching p s) (different : AreDifferent (nodes s.branch.classes.table)) where
+module _ (p : Problem) (s : Searching) (h : IsSearching p s) (different : AreDifferent (nodes p.table)) where
   abbrev ts : List ValueTree
-  ts = nodes s.branch.classes.table
+  ts = nodes p.table
 
   same-decisions : paths.decisions (path_at ts s.path.items) ≡ literals_at ts s.branch.decisions.items
   same-decisions = path-decisions ts s.path.items ∙ ap (literals_at ts) (sym h.path)
@@ -57,7 +59,7 @@ module _ (p : Problem) (s : Searching) (h : IsSearching p s) (different : AreDif
   listed-decided : (k : ℕ) (b : Bool) → Has p.ground.atoms k → IsListed (literals_at ts s.branch.trail) (literal (truth_at ts k) b) → Has s.branch.trail (decided k b)
   listed-decided k b at g =
       let r = listed-has ts s.branch.trail (literal (truth_at ts k) b) g in
-      subst (Has s.branch.trail) (one-literal ts different r.0 (decided k b) (h.branch.problem.occurrences.truths r.0.atom (h.branch.over_atoms r.0 r.1.0)) (h.branch.problem.occurrences.truths k at) r.1.1) r.1.0
+      subst (Has s.branch.trail) (one-literal ts different r.0 (decided k b) (h.branch.problem.posed.occurrences.truths r.0.atom (h.branch.over_atoms r.0 r.1.0)) (h.branch.problem.posed.occurrences.truths k at) r.1.1) r.1.0
 
   module _ (law : SearchGoesOn) (opens : FixpointIsOpen) (fix : IsFixpoint (instances_in ts p) (literals_at ts s.branch.decisions.items) (literals_at ts s.branch.trail)) (t : Turn) (first : t.is_second ≡ false) (bare : t.needs.items ≡ []) (atom : Has p.ground.atoms t.literal.atom) (undecided : IsUndecided s.branch.trail t.literal.atom) where
     abbrev is : List FormulaTree
@@ -76,7 +78,7 @@ module _ (p : Problem) (s : Searching) (h : IsSearching p s) (different : AreDif
         (subst (λ (x : paths.Turn). paths.IsSearch is (all_closed ts s.closed.items) (x ∷ path_at ts s.path.items)) side
         (law.decides is (all_closed ts s.closed.items) (path_at ts s.path.items) (literal_tree_at ts t.literal) h.search
         (subst (IsOpen is) (sym same-decisions) (opens.is_open is (literals_at ts s.branch.decisions.items) (literals_at ts s.branch.trail) fix))
-        (h.branch.problem.occurrences.stand t.literal.atom atom)
+        (h.branch.problem.posed.occurrences.stand t.literal.atom atom)
         (λ g. not-decided (subst (λ (ls : List LiteralTree). DecidesAtom is ls (truth_at ts t.literal.atom)) same-decisions g))))
 
     -- the decisions so far aren't on the atom
@@ -97,24 +99,28 @@ module _ (p : Problem) (s : Searching) (h : IsSearching p s) (different : AreDif
     }
 
     -- the search goes on with it
-    pub goes-on : (new : Searching) → IsBranch p [] new.branch → new.branch.classes.table ≡ s.branch.classes.table → new.branch.decisions.items ≡ s.branch.decisions.items ++ t.literal ∷ [] → new.path.items ≡ s.path.items ++ t ∷ [] → new.closed.items ≡ s.closed.items → IsSearching p new
-    goes-on new branch table made path closed = record {
+    pub goes-on : drop s.branch.head s.branch.waiting.items ≡ [] → t.at ≡ length s.branch.trail → (new : Searching) → IsBranch p [] new.branch → new.branch.classes.table ≡ s.branch.classes.table → new.branch.decisions.items ≡ s.branch.decisions.items ++ t.literal ∷ [] →
+        new.branch.trail ≡ s.branch.trail ++ t.literal ∷ [] → new.branch.reasons.items ≡ s.branch.reasons.items ++ reason.Decision ∷ [] → new.path.items ≡ s.path.items ++ t ∷ [] → new.closed.items ≡ s.closed.items → IsSearching p new
+    goes-on over at new branch table made trail reasons path closed = record {
       branch = branch;
       path = made ∙ (ap (λ (ds : List Decided). ds ++ t.literal ∷ []) h.path ∙ (sym (decided-more s.path.items t) ∙ ap decisions_of (sym path)));
       decisions = subst (AreDecisions p) (sym path) decisions-more;
+      levels = subst (AreLevels p (parts_of new.branch)) (sym path) (levels-more p (parts_of s.branch) (parts_of new.branch) s.path.items t reason.Decision h.branch over fix.fixed.met many at table made trail reasons h.levels);
       search = moved;
     }
       where
-        moved : paths.IsSearch (instances_in (nodes new.branch.classes.table) p) (all_closed (nodes new.branch.classes.table) new.closed.items) (path_at (nodes new.branch.classes.table) new.path.items)
+        many : length s.branch.decisions.items ≡ length s.path.items
+        many = ap length h.path ∙ length-map s.path.items (λ (z : Turn). z.literal)
+
+        moved : paths.IsSearch (instances_in (nodes p.table) p) (all_closed (nodes p.table) new.closed.items) (path_at (nodes p.table) new.path.items)
         moved =
-            subst (λ (now : Listing). paths.IsSearch (instances_in (nodes now) p) (all_closed (nodes now) new.closed.items) (path_at (nodes now) new.path.items)) (sym table)
-            (subst (λ (xs : List Turn). paths.IsSearch is (all_closed ts new.closed.items) (path_at ts xs)) (sym path)
-            (subst (λ (bs : List ClosedBranch). paths.IsSearch is (all_closed ts bs) (path_at ts (s.path.items ++ t ∷ []))) (sym closed) search-more))
+            subst (λ (xs : List Turn). paths.IsSearch is (all_closed ts new.closed.items) (path_at ts xs)) (sym path)
+            (subst (λ (bs : List ClosedBranch). paths.IsSearch is (all_closed ts bs) (path_at ts (s.path.items ++ t ∷ []))) (sym closed) search-more)
 
 -- where each atom is decided, the trail is a ground model
 module _ (p : Problem) (b : Branch) (h : IsBranch p [] b) where
   abbrev trees : List ValueTree
-  trees = nodes b.classes.table
+  trees = nodes p.table
 
   pub is-model : WholeFixpointIsModel → IsFixpoint (instances_in trees p) (literals_at trees b.decisions.items) (literals_at trees b.trail) → ((k : ℕ) → Has p.ground.atoms k → IsSaid b.trail k) → IsGroundModel (instances_in trees p) (literals_at trees b.trail)
   is-model law fix all = law (instances_in trees p) (literals_at trees b.trail) fix.fixed on-atoms decides
@@ -122,7 +128,7 @@ module _ (p : Problem) (b : Branch) (h : IsBranch p [] b) where
       on-atoms : (l : LiteralTree) → IsListed (literals_at trees b.trail) l → IsGroundAtom (instances_in trees p) l.atom
       on-atoms l g =
           let r = listed-has trees b.trail l g in
-          subst (λ (z : LiteralTree). IsGroundAtom (instances_in trees p) z.atom) r.1.1 (h.problem.occurrences.stand r.0.atom (h.over_atoms r.0 r.1.0))
+          subst (λ (z : LiteralTree). IsGroundAtom (instances_in trees p) z.atom) r.1.1 (h.problem.posed.occurrences.stand r.0.atom (h.over_atoms r.0 r.1.0))
 
       said : (k : ℕ) → IsSaid b.trail k → IsListed (literals_at trees b.trail) (literal (truth_at trees k) true) ⊎ IsListed (literals_at trees b.trail) (literal (truth_at trees k) false)
       said k (true, g) = inl (has-listed trees b.trail (decided k true) g)
@@ -130,7 +136,7 @@ module _ (p : Problem) (b : Branch) (h : IsBranch p [] b) where
 
       decides : (a : FormulaTree) → IsGroundAtom (instances_in trees p) a → IsListed (literals_at trees b.trail) (literal a true) ⊎ IsListed (literals_at trees b.trail) (literal a false)
       decides a g =
-          let r = h.problem.occurrences.all a g in
+          let r = h.problem.posed.occurrences.all a g in
           subst (λ (x : FormulaTree). IsListed (literals_at trees b.trail) (literal x true) ⊎ IsListed (literals_at trees b.trail) (literal x false)) r.1.1 (said r.0 (all r.0 r.1.0))
 
 -- a search begins with nothing
@@ -139,9 +145,10 @@ begins law p s branch made path closed = record {
   branch = branch;
   path = made ∙ ap decisions_of (sym path);
   decisions = subst (AreDecisions p) (sym path) none-decided;
+  levels = no-levels p (parts_of s.branch) s.path.items path;
   search =
-      subst (λ (xs : List Turn). paths.IsSearch (instances_in (nodes s.branch.classes.table) p) (all_closed (nodes s.branch.classes.table) s.closed.items) (path_at (nodes s.branch.classes.table) xs)) (sym path)
-      (subst (λ (bs : List ClosedBranch). paths.IsSearch (instances_in (nodes s.branch.classes.table) p) (all_closed (nodes s.branch.classes.table) bs) []) (sym closed) (law.begins (instances_in (nodes s.branch.classes.table) p)));
+      subst (λ (xs : List Turn). paths.IsSearch (instances_in (nodes p.table) p) (all_closed (nodes p.table) s.closed.items) (path_at (nodes p.table) xs)) (sym path)
+      (subst (λ (bs : List ClosedBranch). paths.IsSearch (instances_in (nodes p.table) p) (all_closed (nodes p.table) bs) []) (sym closed) (law.begins (instances_in (nodes p.table) p)));
 }
   where
     none-at : (a : ℕ) (x : Decided) → slice_get [] a ≡ Some x → ⊥

@@ -1,12 +1,11 @@
 -- How a branch is closed over nodes.
-use Rattle.std.proofs.Common.{◌≡◌, refl, sym, ap, ◌∙◌, subst, ℕ, suc, ◌+◌, arith, Bool, true, false, List, [], ◌∷◌, ◌++◌, append_assoc, append-nil, length, map, ◌⊎◌, inl, inr}
+use Rattle.std.proofs.Common.{◌≡◌, refl, sym, ap, ◌∙◌, subst, suc, arith, true, List, [], ◌∷◌, ◌++◌, append_assoc, append-nil, length, inl, inr}
 use Rattle.std.proofs.lemmas.List.{map-append}
 use Rattle.jh_tree.specs.Tree.{FormulaTree, ValueTree}
 use Rattle.jh_table.specs.Nodes.{nodes}
 use Rattle.jh_table.specs.Growth.{AreDifferent}
-use Rattle.jh_structure.specs.Literals.{LiteralTree, IsListed, NotMet}
+use Rattle.jh_structure.specs.Literals.{LiteralTree, IsListed}
 use Rattle.jh_closure.specs.Nodes.{Has}
-use Rattle.jh_models.specs.Truths.{SomeFalse}
 use Rattle.jh_models.specs.Clashes.{Clash, none}
 use Rattle.jh_models.specs.Explanations.{Closes, IsExplanation}
 use Rattle.jh_models.specs.Branches.{ClosedTree}
@@ -16,15 +15,14 @@ use Rattle.jh_trail.specs.declared.decided.Decided.{Decided}
 use Rattle.jh_trail.specs.Saying.{literal_tree_at, literals_at}
 use Rattle.jh_propagating.specs.declared.problem.Problem.{Problem}
 use Rattle.jh_propagating.specs.declared.branch.Cause.{Cause}
-use Rattle.jh_propagating.specs.Problems.{IsProblem, instances_in}
+use Rattle.jh_propagating.specs.Problems.{instances_in}
 use Rattle.jh_explaining.specs.declared.step.Step.{Step}
 use Rattle.jh_explaining.specs.Steps.{literals_of, trees_of}
-use Rattle.jh_explaining.specs.Keeping.{AreRight}
 use Rattle.jh_search.specs.declared.turn.Turn.{Turn}
 use Rattle.jh_search.specs.declared.turn.ClosedBranch.{ClosedBranch}
 use Rattle.jh_search.specs.declared.turn.Searching.{Searching}
 use Rattle.jh_search.specs.Paths.{turn_at, path_onto, path_at, decisions_of, closed_at, all_closed}
-use Rattle.jh_search.specs.Searches.{AreDecisions, IsAtLeaf, IsGoingBack}
+use Rattle.jh_search.specs.Searches.{IsAtLeaf, IsGoingBack}
 use Rattle.jh_search.specs.Explained.{IsExplainedBy}
 use Rattle.jh_search.proofs.Lists.{has-listed, listed-has, one-literal}
 
@@ -45,11 +43,11 @@ open-quiet is bs (t ∷ before) h some (inr f) = h.0.open_before.none_false [] n
 nonempty : (ts : List ValueTree) (d : Decided) (ds : List Decided) → literals_at ts (d ∷ ds) ≡ [] → ⊥
 nonempty ts d ds e = let n : suc (length (literals_at ts ds)) ≡ 0 = ap length e in omega (arith, n)
 
-pub leaf-quiet : (p : Problem) (s : Searching) (c : Cause) → IsAtLeaf p s c → (s.branch.decisions.items ≡ [] → ⊥) → Clash (instances_in (nodes s.branch.classes.table) p) [] → ⊥
+pub leaf-quiet : (p : Problem) (s : Searching) (c : Cause) → IsAtLeaf p s c → (s.branch.decisions.items ≡ [] → ⊥) → Clash (instances_in (nodes p.table) p) [] → ⊥
 leaf-quiet p s c h some = open-quiet (instances_in ts p) (all_closed ts s.closed.items) (path_at ts s.path.items) h.search.path_so_far (λ e. never s.branch.decisions.items refl (ap (literals_at ts) h.path ∙ (sym (path-decisions ts s.path.items) ∙ e)))
   where
     ts : List ValueTree
-    ts = nodes s.branch.classes.table
+    ts = nodes p.table
 
     never : (ds : List Decided) → s.branch.decisions.items ≡ ds → literals_at ts s.branch.decisions.items ≡ [] → ⊥
     never [] e f = some e
@@ -60,9 +58,9 @@ pub explained-bare : (is : List FormulaTree) (ls : List LiteralTree) → Closes 
 explained-bare is ls h = record { closes = h; needs = λ l g. absurd g }
 
 -- What a closed branch needs goes back.
-module _ (law : SearchGoesOn) (p : Problem) (s : Searching) (c : Cause) (h : IsAtLeaf p s c) (steps : List Step) (e : IsExplainedBy p s steps) (different : AreDifferent (nodes s.branch.classes.table)) where
+module _ (law : SearchGoesOn) (p : Problem) (s : Searching) (c : Cause) (h : IsAtLeaf p s c) (steps : List Step) (e : IsExplainedBy p s steps) (different : AreDifferent (nodes p.table)) where
   abbrev ts : List ValueTree
-  ts = nodes s.branch.classes.table
+  ts = nodes p.table
 
   abbrev decided : List Decided
   decided = s.branch.decisions.items
@@ -97,13 +95,13 @@ module _ (law : SearchGoesOn) (p : Problem) (s : Searching) (c : Cause) (h : IsA
         all-one : (l : LiteralTree) → (d : Decided) × (Has (literals_of steps) d × (literal_tree_at ts d ≡ l)) → (d : Decided) × (Has decided d × (literal_tree_at ts d ≡ l)) → IsListed (literals_at ts needs) l
         all-one l r q =
             let x = has-literal r.0 steps r.1.0 in
-            let one : r.0 ≡ q.0 = one-literal ts different r.0 q.0 (h.branch.problem.occurrences.truths r.0.atom (e.right.over.over_atoms r.0 r.1.0)) (h.branch.problem.occurrences.truths q.0.atom (e.right.decided_over q.0 q.1.0)) (r.1.1 ∙ sym q.1.1) in
+            let one : r.0 ≡ q.0 = one-literal ts different r.0 q.0 (h.branch.problem.posed.occurrences.truths r.0.atom (e.right.over.over_atoms r.0 r.1.0)) (h.branch.problem.posed.occurrences.truths q.0.atom (e.right.decided_over q.0 q.1.0)) (r.1.1 ∙ sym q.1.1) in
             let marked : x.0.is_decision ≡ true = (e.right.marked x.0 x.1.0).1 (subst (Has decided) (sym (x.1.1 ∙ one)) q.1.0) in
             subst (IsListed (literals_at ts needs)) (ap (literal_tree_at ts) x.1.1 ∙ r.1.1) (has-listed ts needs x.0.literal (all x.0 x.1.0 marked))
 
     pub goes-back : (more : ClosedBranch) → more.decisions.items ≡ decided → more.explanation.items ≡ literals_of steps → IsGoingBack ts p s.path.items (s.closed.items ++ more ∷ []) needs
     goes-back more ds es = record {
-      problem = h.branch.problem;
+      posed = h.branch.problem.posed;
       different = different;
       decisions = h.decisions;
       needs_over = need-over;

@@ -1,5 +1,5 @@
 -- Literals over nodes and over formulas in lists.
-use Rattle.std.proofs.Common.{◌≡◌, refl, sym, ap, ◌∙◌, subst, ℕ, zero, suc, ◌+◌, ◌<◌, ◌≤◌, arith, add-one, Bool, true, false, List, [], ◌∷◌, ◌++◌, append_assoc, length, map, take, Some, None, Result, Ok, Err, IfOk, Option, IfNone, slice_get, ◌⊎◌, inl, inr}
+use Rattle.std.proofs.Common.{◌≡◌, refl, sym, ap, ◌∙◌, subst, ℕ, zero, suc, ◌+◌, ◌<◌, arith, add-one, List, [], ◌∷◌, ◌++◌, length, take, Some, None, Result, Ok, Err, IfOk, OnOk, Option, IfNone, IfSome, slice_get, ◌⊎◌, inl, inr}
 use Rattle.std.proofs.lemmas.Option.{slice_get_within}
 use Rattle.jh_tree.specs.Tree.{ValueTree, of_truth}
 use Rattle.jh_table.specs.Growth.{AreDifferent}
@@ -53,6 +53,15 @@ pub both-ok : {X E : Type 0} {P Q R : X → Type 0} (r : Result X E) → ((x : X
 both-ok (Ok x) f p q = f x p q
 both-ok (Err e) f p q = tt
 
+-- and what follows from four that hold where there was memory
+pub four-ok : {X E P Q R S T : Type 0} (r : Result X E) → (P → Q → R → S → T) → OnOk r P → OnOk r Q → OnOk r R → OnOk r S → OnOk r T
+four-ok (Ok x) f p q r s = f p q r s
+four-ok (Err e) f p q r s = tt
+
 -- what is said where nothing was found
 pub none-so : {X : Type 0} {P : Type 0} (o : Option X) → o ≡ None → IfNone o P → P
 none-so {P} o e h = subst (λ x. IfNone x P) e h
+
+-- what is said of what was found
+pub some-so : {X : Type 0} (P : X → Type 0) (o : Option X) (x : X) → o ≡ Some x → IfSome o P → P x
+some-so P o x e h = subst (λ z. IfSome z P) e h

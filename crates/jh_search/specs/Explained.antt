@@ -12,5 +12,5 @@ use Rattle.jh_search.specs.declared.turn.Searching.{Searching}
 
 -- The steps explain the branch of the decisions, and say of each literal whether it was decided.
 pub record IsExplainedBy (p : Problem) (s : Searching) (steps : List Step) : Type 0 where
-  pub explains : IsExplanation (instances_in (nodes s.branch.classes.table) p) (literals_at (nodes s.branch.classes.table) s.branch.decisions.items) (trees_of (nodes s.branch.classes.table) steps)
+  pub explains : IsExplanation (instances_in (nodes p.table) p) (literals_at (nodes p.table) s.branch.decisions.items) (trees_of (nodes p.table) steps)
   pub right : AreRight p s.branch.decisions.items steps

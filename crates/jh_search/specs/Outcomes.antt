@@ -1,5 +1,5 @@
 -- What a search comes to.
-use Rattle.std.specs.Prelude.{◌≡◌, ◌<◌, ℕ, List, length}
+use Rattle.std.specs.Prelude.{◌<◌, ℕ, List, length}
 use Rattle.jh_table.specs.Nodes.{nodes}
 use Rattle.jh_structure.specs.Literals.{LiteralTree}
 use Rattle.jh_models.specs.GroundModel.{IsGroundModel}
@@ -17,12 +17,12 @@ use Rattle.jh_search.specs.Searches.{IsSearching}
 
 -- what a closed branch leads to
 abbrev pub IsLeft : Problem → ℕ → Searching → Retreat → Type 0
-IsLeft p leaves s retreat.Finished = (m : List LiteralTree) → IsGroundModel (instances_in (nodes s.branch.classes.table) p) m → ⊥
+IsLeft p leaves s retreat.Finished = (m : List LiteralTree) → IsGroundModel (instances_in (nodes p.table) p) m → ⊥
 IsLeft p leaves s retreat.Turned = IsSearching p s × (length s.closed.items < leaves)
-IsLeft p leaves s retreat.Spent = IsSpent (instances_in (nodes s.branch.classes.table) p) leaves (all_closed (nodes s.branch.classes.table) s.closed.items)
+IsLeft p leaves s retreat.Spent = IsSpent (instances_in (nodes p.table) p) leaves (all_closed (nodes p.table) s.closed.items)
 
 -- There is no ground model; or the trail is one; or so many branches are closed that are leaves of one search.
 abbrev pub IsFound : Problem → ℕ → Searching → Found → Type 0
-IsFound p leaves s found.NoModel = (m : List LiteralTree) → IsGroundModel (instances_in (nodes s.branch.classes.table) p) m → ⊥
-IsFound p leaves s found.Model = IsGroundModel (instances_in (nodes s.branch.classes.table) p) (literals_at (nodes s.branch.classes.table) s.branch.trail)
-IsFound p leaves s found.Spent = IsSpent (instances_in (nodes s.branch.classes.table) p) leaves (all_closed (nodes s.branch.classes.table) s.closed.items)
+IsFound p leaves s found.NoModel = (m : List LiteralTree) → IsGroundModel (instances_in (nodes p.table) p) m → ⊥
+IsFound p leaves s found.Model = IsGroundModel (instances_in (nodes p.table) p) (literals_at (nodes p.table) s.branch.trail)
+IsFound p leaves s found.Spent = IsSpent (instances_in (nodes p.table) p) leaves (all_closed (nodes p.table) s.closed.items)

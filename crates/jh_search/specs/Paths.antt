@@ -1,5 +1,5 @@
 -- The path of a search over nodes, and its closed branches, as what they are over formulas.
-use Rattle.std.specs.Prelude.{ℕ, List, [], ◌∷◌, map}
+use Rattle.std.specs.Prelude.{List, [], ◌∷◌, map}
 use Rattle.jh_tree.specs.Tree.{ValueTree}
 use Rattle.jh_models.specs.Branches.{ClosedTree}
 use Rattle.jh_backjumping.specs.Paths as paths

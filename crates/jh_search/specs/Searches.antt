@@ -1,5 +1,5 @@
 -- A search over nodes, between its steps.
-use Rattle.std.specs.Prelude.{◌≡◌, ◌⊎◌, ◌<◌, ◌≤◌, ℕ, List, [], Option, Some, None, length}
+use Rattle.std.specs.Prelude.{◌≡◌, ◌<◌, ℕ, List, [], Option, Some, None, length}
 use Rattle.jh_tree.specs.Tree.{ValueTree}
 use Rattle.jh_table.specs.Nodes.{nodes}
 use Rattle.jh_table.specs.Growth.{AreDifferent}
@@ -12,9 +12,10 @@ use Rattle.jh_trail.specs.declared.decided.Decided.{Decided}
 use Rattle.jh_trail.specs.Listing.{DecideOnce}
 use Rattle.jh_trail.specs.Saying.{literals_at}
 use Rattle.jh_propagating.specs.declared.problem.Problem.{Problem}
+use Rattle.jh_propagating.specs.declared.branch.Branch.{Branch}
 use Rattle.jh_propagating.specs.declared.branch.Cause.{Cause}
-use Rattle.jh_propagating.specs.Problems.{IsProblem, instances_in}
-use Rattle.jh_propagating.specs.Branches.{IsBranch}
+use Rattle.jh_propagating.specs.Problems.{IsPosed, IsProblem, instances_in}
+use Rattle.jh_propagating.specs.Branches.{IsBranch, parts_of}
 use Rattle.jh_propagating.specs.Closings.{IsCause}
 use Rattle.jh_search.specs.declared.turn.Turn.{Turn}
 use Rattle.jh_search.specs.declared.turn.ClosedBranch.{ClosedBranch}
@@ -22,6 +23,7 @@ use Rattle.jh_search.specs.declared.turn.Searching.{Searching}
 use Rattle.jh_search.specs.declared.turn.Retreat.{Retreat}
 use Rattle.jh_search.specs.declared.turn.Retreat.TheVariants as retreat
 use Rattle.jh_search.specs.Paths.{path_at, decisions_of, all_closed}
+use Rattle.jh_search.specs.Levels.{AreLevels, IsTurnedFrom}
 
 -- the decisions of a path are over atoms, no two over one
 pub record AreDecisions (p : Problem) (path : List Turn) : Type 0 where
@@ -34,20 +36,29 @@ pub record IsSearching (p : Problem) (s : Searching) : Type 0 where
   pub branch : IsBranch p [] s.branch
   pub path : s.branch.decisions.items ≡ decisions_of s.path.items
   pub decisions : AreDecisions p s.path.items
-  pub search : IsSearch (instances_in (nodes s.branch.classes.table) p) (all_closed (nodes s.branch.classes.table) s.closed.items) (path_at (nodes s.branch.classes.table) s.path.items)
+  pub levels : AreLevels p (parts_of s.branch) s.path.items
+  pub search : IsSearch (instances_in (nodes p.table) p) (all_closed (nodes p.table) s.closed.items) (path_at (nodes p.table) s.path.items)
 
 -- Its branch is closed.
 pub record IsAtLeaf (p : Problem) (s : Searching) (c : Cause) : Type 0 where
   pub busy : List ℕ
   pub branch : IsBranch p busy s.branch
-  pub cause : IsCause (nodes s.branch.classes.table) p s.branch.trail c
+  pub cause : IsCause (nodes p.table) p s.branch.trail c
   pub path : s.branch.decisions.items ≡ decisions_of s.path.items
   pub decisions : AreDecisions p s.path.items
-  pub search : IsSearch (instances_in (nodes s.branch.classes.table) p) (all_closed (nodes s.branch.classes.table) s.closed.items) (path_at (nodes s.branch.classes.table) s.path.items)
+  pub levels : AreLevels p (parts_of s.branch) s.path.items
+  pub search : IsSearch (instances_in (nodes p.table) p) (all_closed (nodes p.table) s.closed.items) (path_at (nodes p.table) s.path.items)
+
+-- The classes of a branch may know less; all else of it is as before.
+pub record IsKept (old new : Branch) : Type 0 where
+  pub table : new.classes.table ≡ old.classes.table
+  pub decisions : new.decisions.items ≡ old.decisions.items
+  pub trail : new.trail ≡ old.trail
+  pub reasons : new.reasons.items ≡ old.reasons.items
 
 -- A closed branch goes back along the path.
 pub record IsGoingBack (ts : List ValueTree) (p : Problem) (path : List Turn) (closed : List ClosedBranch) (needs : List Decided) : Type 0 where
-  pub problem : IsProblem ts p
+  pub posed : IsPosed ts p
   pub different : AreDifferent ts
   pub decisions : AreDecisions p path
   pub needs_over : (d : Decided) → Has needs d → Has p.ground.atoms d.atom
@@ -57,6 +68,15 @@ pub record IsGoingBack (ts : List ValueTree) (p : Problem) (path : List Turn) (c
 pub record IsTurned (ts : List ValueTree) (p : Problem) (path : List Turn) (closed : List ClosedBranch) : Type 0 where
   pub decisions : AreDecisions p path
   pub search : IsSearch (instances_in ts p) (all_closed ts closed) (path_at ts path)
+
+-- The path has a decision turned round, to which the branch wasn't taken back yet.
+pub record IsBehind (p : Problem) (s : Searching) : Type 0 where
+  pub problem : IsProblem (nodes s.branch.classes.table) p
+  pub path : List Turn
+  pub same : s.branch.decisions.items ≡ decisions_of path
+  pub levels : AreLevels p (parts_of s.branch) path
+  pub from : IsTurnedFrom path s.path.items
+  pub turned : IsTurned (nodes p.table) p s.path.items s.closed.items
 
 -- what going back comes to
 abbrev pub IsRetreat : List ValueTree → Problem → List Turn → List ClosedBranch → ℕ → Retreat → Type 0

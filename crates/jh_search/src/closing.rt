@@ -5,7 +5,7 @@ ghost use Rattle.jh_trail.specs.declared.decided.Decided.{Decided};
 ghost use Rattle.jh_explaining.specs.Steps.{literals_of};
 ghost use Rattle.jh_explaining.specs.declared.step.Step.{Step};
 ghost use Rattle.jh_search.specs.Explained.{IsExplainedBy};
-ghost use Rattle.jh_search.specs.Searches.{IsAtLeaf, IsGoingBack};
+ghost use Rattle.jh_search.specs.Searches.{IsAtLeaf, IsGoingBack, IsKept};
 
 use crate::deciding::bump;
 use crate::turn::{ClosedBranch, Searching};
@@ -13,7 +13,7 @@ use jh_backjumping::search_goes_on;
 use jh_explaining::{Step, explain, shortened};
 use jh_name::NoMemory;
 use jh_propagating::{Cause, Problem};
-use jh_trail::Decided;
+use jh_trail::{Decided, Trail};
 use std::alloc::Global;
 
 /// Adds one to the weights of the atoms of an explanation.
@@ -84,6 +84,7 @@ fn explained(
     ensures table { OnOk result (searching.new.branch.classes.table ≡ searching.old.branch.classes.table) }
     ensures path { searching.new.path.items ≡ searching.old.path.items }
     ensures closed { searching.new.closed.items ≡ searching.old.closed.items }
+    ensures kept { OnOk result (IsKept searching.old.branch searching.new.branch) }
 {
     let steps = explain(problem, &mut searching.branch, cause)?;
     bump_all(&mut searching.weights, steps.as_slice());
@@ -94,7 +95,14 @@ fn explained(
     if decisions.as_slice().len() == 0 {
         return Ok(steps);
     }
-    shortened(problem, &mut searching.branch, steps, decisions.as_slice())
+    let mut bench = Trail::new(searching.branch.classes.table().alloc());
+    shortened(
+        problem,
+        &mut searching.branch.classes,
+        &mut bench,
+        steps,
+        decisions.as_slice(),
+    )
 }
 
 /// Closes the branch of the path: it is one more closed branch, and the answer is what it needs.
@@ -104,13 +112,14 @@ pub(crate) fn close(
     cause: &Cause,
 ) -> Result<Vec<Decided>, NoMemory>
     requires leaf { IsAtLeaf problem.now searching.old cause.now }
-    ensures back { IfOk result (λ needs. IsGoingBack (nodes searching.old.branch.classes.table) problem.now searching.old.path.items searching.new.closed.items needs.items) }
+    ensures back { IfOk result (λ needs. IsGoingBack (nodes problem.now.table) problem.now searching.old.path.items searching.new.closed.items needs.items) }
     ensures count { OnOk result (length searching.new.closed.items ≡ length searching.old.closed.items + 1) }
     ensures table { OnOk result (searching.new.branch.classes.table ≡ searching.old.branch.classes.table) }
     ensures path { searching.new.path.items ≡ searching.old.path.items }
+    ensures kept { OnOk result (IsKept searching.old.branch searching.new.branch) }
 {
     search_goes_on();
-    searching.branch.classes.table().nodes_differ();
+    problem.table.nodes_differ();
     let alloc = searching.branch.classes.table().alloc();
     let decisions = copied(alloc, searching.branch.decisions.as_slice())?;
     let steps = explained(problem, searching, cause)?;

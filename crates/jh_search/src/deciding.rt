@@ -44,7 +44,7 @@ fn is_open(problem: &Problem, branch: &Branch, place: usize) -> Result<bool, NoM
     requires inside { place < length problem.now.instances.items }
 {
     let instance = place_at(&problem.instances, place);
-    Ok(!is_true(branch.classes.table(), &branch.trail, instance)?)
+    Ok(!is_true(&problem.table, &branch.trail, instance)?)
 }
 
 /// Whether an atom stands in an instance that isn't true yet.

@@ -1,4 +1,4 @@
-ghost use Rattle.std.specs.Prelude.{◌≡◌, ◌<◌, [], ℕ, IfNone, IfOk, IfSome, OnOk};
+ghost use Rattle.std.specs.Prelude.{◌≡◌, ◌<◌, [], ℕ, IfNone, IfOk, IfSome, OnOk, drop};
 ghost use Rattle.jh_closure.specs.Nodes.{Has};
 ghost use Rattle.jh_table.specs.Nodes.{nodes};
 ghost use Rattle.jh_models.specs.Fixpoints.{IsFixpoint};
@@ -35,7 +35,8 @@ fn next_atom(
 /// Decides an atom: at first that it doesn't hold.
 fn take(problem: &Problem, searching: &mut Searching, atom: usize) -> Result<(), NoMemory>
     requires searching { IsSearching problem.now searching.old }
-    requires fixpoint { IsFixpoint (instances_in (nodes searching.old.branch.classes.table) problem.now) (literals_at (nodes searching.old.branch.classes.table) searching.old.branch.decisions.items) (literals_at (nodes searching.old.branch.classes.table) searching.old.branch.trail) }
+    requires fixpoint { IsFixpoint (instances_in (nodes problem.now.table) problem.now) (literals_at (nodes problem.now.table) searching.old.branch.decisions.items) (literals_at (nodes problem.now.table) searching.old.branch.trail) }
+    requires over { drop searching.old.branch.head searching.old.branch.waiting.items ≡ [] }
     requires atom { Has problem.now.ground.atoms atom }
     requires undecided { IsUndecided searching.old.branch.trail atom }
     ensures searching { OnOk result (IsSearching problem.now searching.new) }
@@ -45,12 +46,14 @@ fn take(problem: &Problem, searching: &mut Searching, atom: usize) -> Result<(),
 {
     search_goes_on();
     fixpoint_is_open();
-    searching.branch.classes.table().nodes_differ();
+    problem.table.nodes_differ();
     let alloc = searching.branch.classes.table().alloc();
     let literal = denied(atom);
+    let at = searching.branch.trail.len();
     decide(problem, &mut searching.branch, literal)?;
     searching.path.push(Turn {
         literal,
+        at,
         is_second: false,
         needs: Vec::new(alloc),
     })?;
@@ -64,7 +67,7 @@ pub(crate) fn descend(
 ) -> Result<Option<Cause>, NoMemory>
     requires { IsSearching problem.now searching.old }
     ensures leaf { IfOk result (λ found. IfSome found (λ cause. IsAtLeaf problem.now searching.new cause)) }
-    ensures model { IfOk result (λ found. IfNone found (IsGroundModel (instances_in (nodes searching.new.branch.classes.table) problem.now) (literals_at (nodes searching.new.branch.classes.table) searching.new.branch.trail))) }
+    ensures model { IfOk result (λ found. IfNone found (IsGroundModel (instances_in (nodes problem.now.table) problem.now) (literals_at (nodes problem.now.table) searching.new.branch.trail))) }
     ensures table { OnOk result (searching.new.branch.classes.table ≡ searching.old.branch.classes.table) }
     ensures closed { OnOk result (searching.new.closed.items ≡ searching.old.closed.items) }
 {

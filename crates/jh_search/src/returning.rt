@@ -5,7 +5,10 @@ ghost use Rattle.jh_trail.specs.declared.decided.Decided.{Decided};
 ghost use Rattle.jh_propagating.specs.declared.problem.Problem.{Problem};
 ghost use Rattle.jh_search.specs.Joining.{AreJoined};
 ghost use Rattle.jh_search.specs.Searches.{IsGoingBack, IsRetreat, IsStepBack};
+ghost use Rattle.jh_search.specs.Levels.{IsTurnedFrom};
 ghost use Rattle.jh_search.specs.declared.turn.ClosedBranch.{ClosedBranch};
+ghost use Rattle.jh_search.specs.declared.turn.Retreat.TheVariants as retreat;
+ghost use Rattle.jh_search.specs.declared.turn.Turn.{Turn};
 
 use crate::turn::{Retreat, Turn};
 use jh_backjumping::search_goes_back;
@@ -62,6 +65,7 @@ fn step_back(
     requires { count ≤ leaves }
     ensures back { IfOk result (λ back. (ts : List ValueTree) (p : Problem) (closed : List ClosedBranch) → length closed ≡ count → IsGoingBack ts p (path.old.items ++ turn ∷ []) closed needs.old.items → IsStepBack ts p path.new.items closed needs.new.items leaves back) }
     ensures path { IfOk result (λ back. IfNone back (path.new.items ≡ path.old.items)) }
+    ensures turned { IfOk result (λ back. back ≡ Some retreat.Turned → (after : Turn) × ((path.new.items ≡ path.old.items ++ after ∷ []) × ((after.literal.atom ≡ turn.literal.atom) × (after.at ≡ turn.at)))) }
 {
     search_goes_back();
     if !has(needs.as_slice(), turn.literal) {
@@ -77,6 +81,7 @@ fn step_back(
     let rest = joined(alloc, needs.as_slice(), turn.literal, &[])?;
     path.push(Turn {
         literal: opposite(turn.literal),
+        at: turn.at,
         is_second: true,
         needs: rest,
     })?;
@@ -100,7 +105,8 @@ pub(crate) fn go_back(
     leaves: usize,
 ) -> Result<Retreat, NoMemory>
     requires { count ≤ leaves }
-    ensures { IfOk result (λ back. (ts : List ValueTree) (p : Problem) (closed : List ClosedBranch) → length closed ≡ count → IsGoingBack ts p path.old.items closed needs.items → IsRetreat ts p path.new.items closed leaves back) }
+    ensures retreat { IfOk result (λ back. (ts : List ValueTree) (p : Problem) (closed : List ClosedBranch) → length closed ≡ count → IsGoingBack ts p path.old.items closed needs.items → IsRetreat ts p path.new.items closed leaves back) }
+    ensures turned { IfOk result (λ back. back ≡ retreat.Turned → IsTurnedFrom path.old.items path.new.items) }
 {
     search_goes_back();
     let mut needs = needs;

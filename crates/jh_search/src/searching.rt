@@ -3,7 +3,9 @@ ghost use Rattle.jh_table.specs.Nodes.{nodes};
 ghost use Rattle.jh_propagating.specs.Problems.{IsProblem};
 ghost use Rattle.jh_search.specs.Outcomes.{IsFound, IsLeft};
 ghost use Rattle.jh_search.specs.Paths.{decisions_of};
-ghost use Rattle.jh_search.specs.Searches.{IsAtLeaf, IsGoingBack, IsSearching};
+ghost use Rattle.jh_propagating.specs.Branches.{parts_of};
+ghost use Rattle.jh_search.specs.Levels.{AreLevels};
+ghost use Rattle.jh_search.specs.Searches.{IsAtLeaf, IsBehind, IsGoingBack, IsSearching};
 
 use crate::closing::close;
 use crate::descending::descend;
@@ -12,27 +14,33 @@ use crate::turn::{Found, Retreat, Searching, Turn};
 use jh_backjumping::search_goes_on;
 use jh_cong::Classes;
 use jh_name::NoMemory;
-use jh_propagating::{Cause, Problem, begin, restart};
+use jh_propagating::{Cause, Problem, begin, cut, decide};
 use jh_trail::Decided;
 use std::alloc::Global;
 
 /// The turn at a place.
-fn decision_at(path: &[Turn], place: usize) -> Decided
+fn turn_at(path: &[Turn], place: usize) -> &Turn
     requires { place < length path.now }
-    ensures { slice_get (decisions_of path.now) place ≡ Some result }
+    ensures { slice_get path.now place ≡ Some result.now }
 {
-    path[place].literal
+    &path[place]
 }
 
-/// The decisions of a path.
-fn decisions(alloc: Global, path: &[Turn]) -> Result<Vec<Decided>, NoMemory>
-    ensures { IfOk result (λ made. made.items ≡ decisions_of path.now) }
+/// Takes the branch back to the decision that was turned round, and decides the other side.
+fn resume(problem: &Problem, searching: &mut Searching) -> Result<(), NoMemory>
+    requires { IsBehind problem.now searching.old }
+    ensures searching { OnOk result (IsSearching problem.now searching.new) }
+    ensures table { OnOk result (searching.new.branch.classes.table ≡ searching.old.branch.classes.table) }
+    ensures closed { OnOk result (searching.new.closed.items ≡ searching.old.closed.items) }
 {
-    let mut made = Vec::new(alloc);
-    for place in 0..path.len() {
-        made.push(decision_at(path, place))?;
-    }
-    Ok(made)
+    searching.branch.trail.decides_once();
+    let path = searching.path.as_slice();
+    let count = path.len() - 1;
+    let turn = turn_at(path, count);
+    let literal = turn.literal;
+    let at = turn.at;
+    cut(problem, &mut searching.branch, count, at)?;
+    decide(problem, &mut searching.branch, literal)
 }
 
 /// So many weights of nothing.
@@ -49,12 +57,13 @@ pub fn start_search(problem: &Problem, classes: Classes) -> Result<Searching, No
     requires problem { IsProblem (nodes classes.table) problem.now }
     requires said { classes.said ≡ [] }
     ensures searching { IfOk result (λ made. IsSearching problem.now made) }
+    ensures path { IfOk result (λ made. made.path.items ≡ []) }
     ensures closed { IfOk result (λ made. made.closed.items ≡ []) }
     ensures table { IfOk result (λ made. made.branch.classes.table ≡ classes.table) }
 {
     search_goes_on();
     let alloc = classes.table().alloc();
-    let weights = no_weights(alloc, classes.table().len())?;
+    let weights = no_weights(alloc, problem.table.len())?;
     Ok(Searching {
         branch: begin(problem, classes)?,
         path: Vec::new(alloc),
@@ -70,8 +79,11 @@ fn leave(
     needs: Vec<Decided>,
     leaves: usize,
 ) -> Result<Retreat, NoMemory>
-    requires back { IsGoingBack (nodes searching.old.branch.classes.table) problem.now searching.old.path.items searching.old.closed.items needs.items }
+    requires back { IsGoingBack (nodes problem.now.table) problem.now searching.old.path.items searching.old.closed.items needs.items }
     requires room { length searching.old.closed.items ≤ leaves }
+    requires problem { IsProblem (nodes searching.old.branch.classes.table) problem.now }
+    requires path { searching.old.branch.decisions.items ≡ decisions_of searching.old.path.items }
+    requires levels { AreLevels problem.now (parts_of searching.old.branch) searching.old.path.items }
     ensures left { IfOk result (λ back. IsLeft problem.now leaves searching.new back) }
     ensures table { OnOk result (searching.new.branch.classes.table ≡ searching.old.branch.classes.table) }
     ensures closed { OnOk result (searching.new.closed.items ≡ searching.old.closed.items) }
@@ -80,8 +92,7 @@ fn leave(
     let count = searching.closed.as_slice().len();
     match go_back(alloc, &mut searching.path, needs, count, leaves)? {
         Retreat::Turned => {
-            let path = decisions(alloc, searching.path.as_slice())?;
-            restart(problem, &mut searching.branch, path.as_slice())?;
+            resume(problem, searching)?;
             Ok(Retreat::Turned)
         }
         Retreat::Finished => Ok(Retreat::Finished),
@@ -132,7 +143,8 @@ fn turn(
     }
 }
 
-/// Searches on for a ground model of the instances, and gives up where so many branches are closed.
+/// Searches on for a ground model of the instances, and gives up where so many branches are closed. After want of memory the search
+/// is of no use.
 pub fn search(
     problem: &Problem,
     searching: &mut Searching,

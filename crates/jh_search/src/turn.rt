@@ -8,10 +8,12 @@ pub struct ClosedBranch {
     pub explanation: Vec<Decided>,
 }
 
-/// A decision of the path: whether its opposite was searched before it, and then the decisions that closed that side.
+/// A decision of the path, with its place in the trail: whether its opposite was searched before it, and then the decisions that
+/// closed that side.
 #[derive(Drop)]
 pub struct Turn {
     pub literal: Decided,
+    pub at: usize,
     pub is_second: bool,
     pub needs: Vec<Decided>,
 }

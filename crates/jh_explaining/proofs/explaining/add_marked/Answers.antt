@@ -12,11 +12,11 @@ is_marked-requires c = omega (arith, c.requires.inside, c.requires.explained.lon
 pub returns-then-is_marked : goal.returns-then-is_marked
 returns-then-is_marked c =
     let b = c.args.branch.now in
-    let ts = nodes b.classes.table in
+    let ts = nodes c.args.problem.now.table in
     on-ok c.add.result (λ e. subst (λ (xs : List Step). AreGathered ts c.args.problem.now b.decisions.items b.trail c.args.marks.now (c.args.place + 1) xs) (sym e)
     (gathered-more ts c.args.problem.now b.trail b.reasons.items b.decisions.items c.most_is_kept.ensures c.requires.history c.requires.decided c.decides_once.ensures c.args.marks.now c.requires.explained c.args.place c.args.steps.now.items c.requires.gathered c.step_of.result c.step_of.ensures.literal (c.is_marked.ensures ∙ ap Some c.if-is_marked.true) c.step_of.ensures.marked)) c.add.ensures
 
 pub returns-else-is_marked : goal.returns-else-is_marked
 returns-else-is_marked c =
     let b = c.args.branch.now in
-    gathered-next (nodes b.classes.table) c.args.problem.now b.trail b.reasons.items b.decisions.items c.most_is_kept.ensures c.requires.history c.requires.decided c.decides_once.ensures c.args.marks.now c.requires.explained c.args.place c.args.steps.now.items c.requires.gathered (c.is_marked.ensures ∙ ap Some c.if-is_marked.false)
+    gathered-next (nodes c.args.problem.now.table) c.args.problem.now b.trail b.reasons.items b.decisions.items c.most_is_kept.ensures c.requires.history c.requires.decided c.decides_once.ensures c.args.marks.now c.requires.explained c.args.place c.args.steps.now.items c.requires.gathered (c.is_marked.ensures ∙ ap Some c.if-is_marked.false)

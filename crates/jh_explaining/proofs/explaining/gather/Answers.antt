@@ -8,12 +8,12 @@ use Rattle.jh_explaining.proofs.explaining.gather.Goals as goal
 pub loop-place-init : goal.loop-place-init
 loop-place-init c =
     let b = c.args.branch.now in
-    subst (λ (xs : List Step). AreGathered (nodes b.classes.table) c.args.problem.now b.decisions.items b.trail c.args.marks.now 0 xs) (sym c.new-steps.ensures.items)
-    (gathered-none (nodes b.classes.table) c.args.problem.now b.trail b.reasons.items b.decisions.items c.args.marks.now)
+    subst (λ (xs : List Step). AreGathered (nodes c.args.problem.now.table) c.args.problem.now b.decisions.items b.trail c.args.marks.now 0 xs) (sym c.new-steps.ensures.items)
+    (gathered-none (nodes c.args.problem.now.table) c.args.problem.now b.trail b.reasons.items b.decisions.items c.args.marks.now)
 
 pub returns : goal.returns
 returns c =
     let b = c.args.branch.now in
     let low : c.loop-place.place ≤ length b.trail = omega (arith, c.loop-place, c.len-place-end.ensures) in
     let end : c.loop-place.place ≡ length b.trail = omega (arith, c.loop-place-test.false, c.len-place-end.ensures, low) in
-    subst (λ n. AreGathered (nodes b.classes.table) c.args.problem.now b.decisions.items b.trail c.args.marks.now n c.loop-place.steps.items) end c.loop-place.invariant
+    subst (λ n. AreGathered (nodes c.args.problem.now.table) c.args.problem.now b.decisions.items b.trail c.args.marks.now n c.loop-place.steps.items) end c.loop-place.invariant

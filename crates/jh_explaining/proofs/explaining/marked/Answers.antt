@@ -10,14 +10,14 @@ use Rattle.jh_explaining.proofs.explaining.marked.Goals as goal
 pub marks_of-requires-clause-history : goal.marks_of-requires-clause-history
 marks_of-requires-clause-history c =
     let b = c.args.branch.now in
-    subst (λ (xs : List Reason). IsHistory (nodes b.classes.table) c.args.problem.now b.trail xs) (sym c.as_slice.ensures.value) (history-of c.args.problem.now c.requires.branch.0 b c.requires.branch.1)
+    subst (λ (xs : List Reason). IsHistory (nodes c.args.problem.now.table) c.args.problem.now b.trail xs) (sym c.as_slice.ensures.value) (history-of c.args.problem.now c.requires.branch.0 b c.requires.branch.1)
 
 pub marks_of-requires-clause-told : goal.marks_of-requires-clause-told
 marks_of-requires-clause-told c =
     let b = c.args.branch.now in
-    subst (λ (xs : List Reason). IsToldBelow (nodes b.classes.table) b.trail xs b.classes.said (length b.trail)) (sym c.as_slice.ensures.value) (told-of c.args.problem.now c.requires.branch.0 b c.requires.branch.1)
+    subst (λ (xs : List Reason). IsToldBelow (nodes b.classes.table) (nodes c.args.problem.now.table) b.trail xs b.classes.said (length b.trail)) (sym c.as_slice.ensures.value) (told-of c.args.problem.now c.requires.branch.0 b c.requires.branch.1)
 
 pub returns-clause-explained : goal.returns-clause-explained
 returns-clause-explained c =
     let b = c.args.branch.now in
-    if-ok c.marks_of.result (λ marks h. subst (λ (xs : List Reason). AreExplained (nodes b.classes.table) c.args.problem.now b.trail xs marks.items 0) c.as_slice.ensures.value h) c.marks_of.ensures.explained
+    if-ok c.marks_of.result (λ marks h. subst (λ (xs : List Reason). AreExplained (nodes c.args.problem.now.table) c.args.problem.now b.trail xs marks.items 0) c.as_slice.ensures.value h) c.marks_of.ensures.explained

@@ -3,31 +3,28 @@ use Rattle.std.proofs.lemmas.Bool.{true≢false}
 use Rattle.jh_table.specs.Nodes.{nodes}
 use Rattle.jh_trail.specs.declared.decided.Decided.{Decided}
 use Rattle.jh_trail.specs.Occurring.{places_in}
-use Rattle.jh_propagating.specs.Problems.{IsProblem}
 use Rattle.jh_explaining.specs.Testing.{IsFalseAmong}
 use Rattle.jh_explaining.proofs.Tests.{among-some, none-longer, kept-clash, kept-quiet}
 use Rattle.jh_explaining.proofs.keeping.keep.Goals as goal
 
 pub some_false-requires : goal.some_false-requires
-some_false-requires c = subst (λ t. IsProblem (nodes t) c.args.problem.now) (sym c.table.ensures) c.requires.problem
+some_false-requires c = c.requires.problem.posed
 
 pub returns-then-branch-clause-clash : goal.returns-then-branch-clause-clash
 returns-then-branch-clause-clash c =
-    let b = c.args.branch.now in
-    let ts = nodes b.classes.table in
+    let ts = nodes c.args.problem.now.table in
     let p = c.args.problem.now in
-    let longer = b.trail ++ c.args.literal ∷ [] in
-    λ is. inr (among-some ts p c.requires.problem longer (places_in p.ground c.args.literal.atom)
-    (subst (λ (xs : List Decided). IsFalseAmong ts p xs (places_in p.ground c.args.literal.atom)) c.in_ok-push.ensures.ok (subst (λ t. IsFalseAmong (nodes t) p c.push.new.self (places_in p.ground c.args.literal.atom)) c.table.ensures (c.in_ok-some_false.ensures.0 c.if-branch.true))))
+    let longer = c.args.trail.now ++ c.args.literal ∷ [] in
+    λ is. inr (among-some ts p c.requires.problem.posed longer (places_in p.ground c.args.literal.atom)
+    (subst (λ (xs : List Decided). IsFalseAmong ts p xs (places_in p.ground c.args.literal.atom)) c.in_ok-push.ensures.ok (c.in_ok-some_false.ensures.0 c.if-branch.true)))
 
 pub returns-clause-clash : goal.returns-clause-clash
-returns-clause-clash c = kept-clash c.args.problem.now c.args.branch.now.classes c.is_met.new.classes c.args.literal c.in_ok-is_met.field-0 c.in_ok-is_met.ensures.asked c.args.branch.now.trail c.requires.quiet.spoken
+returns-clause-clash c = kept-clash c.args.problem.now c.args.classes.now c.is_met.new.classes c.args.literal c.in_ok-is_met.field-0 c.in_ok-is_met.ensures.asked c.args.trail.now c.requires.quiet.spoken
 
 pub returns-clause-quiet : goal.returns-clause-quiet
 returns-clause-quiet c =
-    let b = c.args.branch.now in
-    let ts = nodes b.classes.table in
+    let ts = nodes c.args.problem.now.table in
     let p = c.args.problem.now in
-    kept-quiet p b.classes c.is_met.new.classes c.args.literal c.in_ok-is_met.field-0 c.in_ok-is_met.ensures.asked b.trail c.requires.quiet.spoken
-    (none-longer ts p c.requires.problem c.others_say_nothing.ensures b.trail c.args.literal c.requires.atom (λ h. c.requires.quiet.quiet (inr h))
-    (λ among. true≢false (sym (c.in_ok-some_false.ensures.1 (subst (λ t. IsFalseAmong (nodes t) p c.push.new.self (places_in p.ground c.args.literal.atom)) (sym c.table.ensures) (subst (λ (xs : List Decided). IsFalseAmong ts p xs (places_in p.ground c.args.literal.atom)) (sym c.in_ok-push.ensures.ok) among))) ∙ c.if-branch.false)))
+    kept-quiet p c.args.classes.now c.is_met.new.classes c.args.literal c.in_ok-is_met.field-0 c.in_ok-is_met.ensures.asked c.args.trail.now c.requires.quiet.spoken
+    (none-longer ts p c.requires.problem.posed c.others_say_nothing.ensures c.args.trail.now c.args.literal c.requires.atom (λ h. c.requires.quiet.quiet (inr h))
+    (λ among. true≢false (sym (c.in_ok-some_false.ensures.1 (subst (λ (xs : List Decided). IsFalseAmong ts p xs (places_in p.ground c.args.literal.atom)) (sym c.in_ok-push.ensures.ok) among)) ∙ c.if-branch.false)))

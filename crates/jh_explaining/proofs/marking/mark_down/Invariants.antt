@@ -8,6 +8,6 @@ use Rattle.jh_explaining.proofs.marking.mark_down.Given as goal
 abbrev pub invariant-loop-index : goal.invariant-loop-index
 invariant-loop-index l = record {
   table : l.classes.table ≡ l.fn.classes.table;
-  told : IsToldBelow (nodes l.fn.classes.table) l.trail l.reasons l.classes.said (length l.trail - l.index);
-  explained : AreExplained (nodes l.fn.classes.table) l.problem l.trail l.reasons l.marks.items (length l.trail - l.index);
+  told : IsToldBelow (nodes l.fn.classes.table) (nodes l.problem.table) l.trail l.reasons l.classes.said (length l.trail - l.index);
+  explained : AreExplained (nodes l.problem.table) l.problem l.trail l.reasons l.marks.items (length l.trail - l.index);
 }

@@ -11,5 +11,5 @@ mark_all-requires c = λ n h.
     omega (arith, lt, c.requires.inside, c.requires.explained.long)
 
 pub returns-clause-explained : goal.returns-clause-explained
-returns-clause-explained c = more-explained (nodes c.args.classes.now.table) c.args.problem.now c.args.trail.now c.args.reasons.now c.args.marks.now.items c.mark_all.new.marks.items c.in_ok-places.places c.args.place c.requires.explained c.in_ok-places.ensures.below
+returns-clause-explained c = more-explained (nodes c.args.problem.now.table) c.args.problem.now c.args.trail.now c.args.reasons.now c.args.marks.now.items c.mark_all.new.marks.items c.in_ok-places.places c.args.place c.requires.explained c.in_ok-places.ensures.below
     (subst (λ (xs : List ℕ). AddsMarks c.args.marks.now.items c.mark_all.new.marks.items xs) c.items.ensures c.mark_all.ensures) c.in_ok-places.ensures.rests

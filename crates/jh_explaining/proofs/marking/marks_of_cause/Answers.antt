@@ -6,7 +6,7 @@ use Rattle.jh_explaining.proofs.Gathered.{cause-explained}
 use Rattle.jh_explaining.proofs.marking.marks_of_cause.Goals as goal
 
 pub places_of_cause-requires-clause-problem : goal.places_of_cause-requires-clause-problem
-places_of_cause-requires-clause-problem c = c.requires.history.problem
+places_of_cause-requires-clause-problem c = c.requires.history.posed
 
 pub mark_all-requires : goal.mark_all-requires
 mark_all-requires c = λ n h. subst (λ k. n < k) (sym (c.in_ok-marks.ensures.long ∙ c.len.ensures)) (c.in_ok-places.ensures.inside n (subst (λ (xs : List ℕ). Has xs n) c.items.ensures h))

@@ -12,4 +12,4 @@ pub returns-then-step-clause-stands : goal.returns-then-step-clause-stands
 returns-then-step-clause-stands c = ((λ same. true≢false (sym (c.is_one.ensures.1 same) ∙ c.if-is_one.false)), inl c.if-step.true)
 
 pub returns-clause-stands : goal.returns-clause-stands
-returns-clause-stands c = if-ok c.clashes.result (λ b h. asked-kept (nodes c.args.branch.now.classes.table) c.args.problem.now c.args.branch.now.trail c.args.step c.args.out b (λ same. true≢false (sym (c.is_one.ensures.1 same) ∙ c.if-is_one.false)) c.if-step.false h) c.clashes.ensures.clash
+returns-clause-stands c = if-ok c.clashes.result (λ b h. asked-kept (nodes c.args.problem.now.table) c.args.problem.now c.args.trail.now c.args.step c.args.out b (λ same. true≢false (sym (c.is_one.ensures.1 same) ∙ c.if-is_one.false)) c.if-step.false h) c.clashes.ensures.clash

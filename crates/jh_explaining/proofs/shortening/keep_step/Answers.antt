@@ -17,9 +17,9 @@ returns-clause-trail c =
 
 pub returns-clause-clash : goal.returns-clause-clash
 returns-clause-clash c =
-    let ts = nodes c.args.branch.now.classes.table in
+    let ts = nodes c.args.problem.now.table in
     let longer = ap (λ (xs : List Decided). xs ++ c.args.step.literal ∷ []) c.requires.trail ∙ sym (literals-more c.args.kept.now.items c.args.step) in
     if-ok c.keep.result (λ b f is. subst (λ (xs : List Decided). Clash (instances_in ts c.args.problem.now) (literals_at ts xs)) longer (f is)) c.keep.ensures.clash
 
 pub returns-clause-quiet : goal.returns-clause-quiet
-returns-clause-quiet c = ok-both c.keep.result (λ b e f is. subst (IsQuiet c.args.problem.now c.keep.new.branch.classes) (sym e) (f is)) c.keep.ensures.trail c.keep.ensures.quiet
+returns-clause-quiet c = ok-both c.keep.result (λ b e f is. subst (IsQuiet c.args.problem.now c.keep.new.classes) (sym e) (f is)) c.keep.ensures.trail c.keep.ensures.quiet

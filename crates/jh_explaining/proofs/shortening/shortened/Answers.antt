@@ -2,8 +2,6 @@ use Rattle.std.proofs.Common.{◌≡◌, refl, sym, ap, ◌∙◌, subst, ◌<�
 use Rattle.std.proofs.lemmas.List.{drop_all}
 use Rattle.jh_closure.proofs.Having.{has-at}
 use Rattle.jh_table.specs.Nodes.{nodes}
-use Rattle.jh_table.specs.Growth.{AreDifferent}
-use Rattle.jh_models.specs.Clashes.{Clash}
 use Rattle.jh_trail.specs.declared.decided.Decided.{Decided}
 use Rattle.jh_trail.specs.Saying.{literals_at}
 use Rattle.jh_propagating.specs.Problems.{IsProblem, instances_in}
@@ -21,7 +19,7 @@ further n index lt = omega (arith, lt)
 
 pub loop-index-init : goal.loop-index-init
 loop-index-init c =
-    let ts = nodes c.args.branch.now.classes.table in
+    let ts = nodes c.args.problem.now.table in
     let p = c.args.problem.now in
     let ds = c.args.decisions.now in
     let whole : length ds - 0 ≡ length ds = omega arith in
@@ -44,7 +42,7 @@ pub shortened_by-requires-clause-out : goal.shortened_by-requires-clause-out
 shortened_by-requires-clause-out c = c.loop-index.invariant.tried.right.decided_over c.literal_at-decision.result (has-at c.args.decisions.now (length c.args.decisions.now - 1 - c.loop-index.index) c.literal_at-decision.result c.literal_at-decision.ensures)
 
 pub shortened_by-requires-clause-quiet : goal.shortened_by-requires-clause-quiet
-shortened_by-requires-clause-quiet c = subst (λ t. Clash (instances_in (nodes t) c.args.problem.now) [] → ⊥) (sym c.loop-index.invariant.table) c.requires.quiet
+shortened_by-requires-clause-quiet c = c.requires.quiet
 
 pub loop-index-preserved : goal.loop-index-preserved
 loop-index-preserved c =
@@ -56,20 +54,20 @@ loop-index-preserved c =
     let made = c.in_ok-made.made.items in
     let place = n - 1 - i in
     let next : drop (n - (i + 1)) ds ≡ out ∷ drop (n - i) ds = ap (λ k. drop k ds) (down n i c.loop-index-test.true) ∙ (drop-next ds place out c.literal_at-decision.ensures ∙ ap (λ k. out ∷ drop k ds) (further n i c.loop-index-test.true)) in
-    let before = subst (λ t. AreTried (nodes t) p ds (drop (n - i) ds) c.loop-index.steps.items) (sym c.loop-index.invariant.table) c.loop-index.invariant.tried in
+    let before = c.loop-index.invariant.tried in
     let now = c.in_ok-made.ensures.tries ds (drop (n - i) ds) before in
     record {
       table = c.shortened_by.ensures.table ∙ c.loop-index.invariant.table;
-      tried = subst (λ (xs : List Decided). AreTried (nodes c.args.branch.now.classes.table) p ds xs made) (sym next) (subst (λ t. AreTried (nodes t) p ds (out ∷ drop (n - i) ds) made) c.loop-index.invariant.table now);
+      tried = subst (λ (xs : List Decided). AreTried (nodes c.args.problem.now.table) p ds xs made) (sym next) (now);
     }
 
 pub returns-clause-explains : goal.returns-clause-explains
 returns-clause-explains c =
-    let ts = nodes c.args.branch.now.classes.table in
+    let ts = nodes c.args.problem.now.table in
     let p = c.args.problem.now in
     let ds = c.args.decisions.now in
     let over : length ds - c.loop-index.index ≡ 0 = omega (arith, c.loop-index-test.false) in
-    all-tried ts p c.requires.problem (subst (λ t. AreDifferent (nodes t)) c.table.ensures c.nodes_differ.ensures.different) c.shortening_is_exact.ensures ds c.loop-index.steps.items
+    all-tried ts p c.requires.problem.posed c.nodes_differ.ensures.different c.shortening_is_exact.ensures ds c.loop-index.steps.items
     (subst (λ n. AreTried ts p ds (drop n ds) c.loop-index.steps.items) over c.loop-index.invariant.tried)
 
 pub returns-clause-right : goal.returns-clause-right

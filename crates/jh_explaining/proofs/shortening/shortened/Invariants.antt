@@ -6,6 +6,6 @@ use Rattle.jh_explaining.proofs.shortening.shortened.Given as goal
 -- The last decisions were tried.
 abbrev pub invariant-loop-index : goal.invariant-loop-index
 invariant-loop-index l = record {
-  table : l.branch.classes.table ≡ l.fn.branch.classes.table;
-  tried : AreTried (nodes l.fn.branch.classes.table) l.problem l.decisions (drop (length l.decisions - l.index) l.decisions) l.steps.items;
+  table : l.classes.table ≡ l.fn.classes.table;
+  tried : AreTried (nodes l.problem.table) l.problem l.decisions (drop (length l.decisions - l.index) l.decisions) l.steps.items;
 }

@@ -2,7 +2,6 @@ use Rattle.std.proofs.Common.{sym, ◌∙◌, subst, List}
 use Rattle.std.proofs.lemmas.Bool.{true≢false}
 use Rattle.jh_closure.specs.Nodes.{Has}
 use Rattle.jh_table.specs.Nodes.{nodes}
-use Rattle.jh_table.specs.Growth.{AreDifferent}
 use Rattle.jh_explaining.specs.declared.step.Step.{Step}
 use Rattle.jh_explaining.specs.Steps.{literals_of}
 use Rattle.jh_explaining.proofs.Keeps.{tries-absent}
@@ -10,5 +9,5 @@ use Rattle.jh_explaining.proofs.shortening.shortened_by.Goals as goal
 
 pub returns-else-holds-clause-tries : goal.returns-else-holds-clause-tries
 returns-else-holds-clause-tries c =
-    λ ds tried h. tries-absent (nodes c.args.branch.now.classes.table) c.args.problem.now c.requires.problem (subst (λ t. AreDifferent (nodes t)) c.table.ensures c.nodes_differ.ensures.different) c.shortening_is_exact.ensures c.most_is_kept.ensures ds tried c.args.steps.items c.args.out h c.requires.out
+    λ ds tried h. tries-absent (nodes c.args.problem.now.table) c.args.problem.now c.requires.problem.posed c.nodes_differ.ensures.different c.shortening_is_exact.ensures c.most_is_kept.ensures ds tried c.args.steps.items c.args.out h c.requires.out
     (λ there. true≢false (sym (c.holds.ensures.1 (subst (λ (xs : List Step). Has (literals_of xs) c.args.out) (sym c.as_slice.ensures.value) there)) ∙ c.if-holds.false))

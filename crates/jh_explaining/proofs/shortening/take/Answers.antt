@@ -1,8 +1,7 @@
-use Rattle.std.proofs.Common.{sym, ap, ◌∙◌, subst, true, false, List, [], ◌∷◌, ◌++◌, ◌+◌}
+use Rattle.std.proofs.Common.{sym, ap, ◌∙◌, subst, true, false, List, ◌+◌}
 use Rattle.jh_closure.proofs.Having.{has-at}
 use Rattle.jh_cong.proofs.Oks.{on-ok}
 use Rattle.jh_table.specs.Nodes.{nodes}
-use Rattle.jh_table.specs.Growth.{AreDifferent}
 use Rattle.jh_models.specs.Clashes.{Clash}
 use Rattle.jh_trail.specs.declared.decided.Decided.{Decided}
 use Rattle.jh_trail.specs.Listing.{IsUndecided}
@@ -25,45 +24,42 @@ pub keep_step-requires-clause-atom : goal.keep_step-requires-clause-atom
 keep_step-requires-clause-atom c = c.requires.over.over_atoms c.step_at-step.result.literal (has-literal c.args.steps.now c.step_at-step.result (has-at c.args.steps.now c.args.index c.step_at-step.result c.step_at-step.ensures))
 
 pub keep_step-requires-clause-quiet : goal.keep_step-requires-clause-quiet
-keep_step-requires-clause-quiet c = subst (λ X. X) (λ i. IsQuiet c.args.problem.now (sym c.in_ok-keeps.ensures.classes i) (sym c.is_kept.ensures.trail i)) c.requires.quiet
+keep_step-requires-clause-quiet c = subst (λ X. X) (λ i. IsQuiet c.args.problem.now (sym c.in_ok-keeps.ensures.classes i) c.args.trail.now) c.requires.quiet
 
 pub keep_step-requires-clause-undecided : goal.keep_step-requires-clause-undecided
 keep_step-requires-clause-undecided c =
-    let b = c.args.branch.now in
-    subst (λ (xs : List Decided). IsUndecided xs c.step_at-step.result.literal.atom) (sym (c.is_kept.ensures.trail ∙ c.requires.trail))
-    (new-literal (nodes b.classes.table) c.args.problem.now c.requires.problem (subst (λ t. AreDifferent (nodes t)) c.table.ensures c.nodes_differ.ensures.different) c.most_is_kept.ensures c.args.steps.now c.requires.over c.args.out c.requires.out c.args.index c.args.kept.now.items c.requires.kept c.step_at-step.result c.step_at-step.ensures)
+    subst (λ (xs : List Decided). IsUndecided xs c.step_at-step.result.literal.atom) (sym c.requires.trail)
+    (new-literal (nodes c.args.problem.now.table) c.args.problem.now c.requires.problem.posed c.nodes_differ.ensures.different c.most_is_kept.ensures c.args.steps.now c.requires.over c.args.out c.requires.out c.args.index c.args.kept.now.items c.requires.kept c.step_at-step.result c.step_at-step.ensures)
 
 pub keep_step-requires-clause-trail : goal.keep_step-requires-clause-trail
-keep_step-requires-clause-trail c = c.is_kept.ensures.trail ∙ c.requires.trail
+keep_step-requires-clause-trail c = c.requires.trail
 
 pub returns-then-keeps-clause-trail : goal.returns-then-keeps-clause-trail
 returns-then-keeps-clause-trail c = ok-two c.keep_step.result (λ e f. e ∙ ap literals_of (sym f)) c.keep_step.ensures.trail c.keep_step.ensures.kept
 
 pub returns-then-keeps-clause-kept : goal.returns-then-keeps-clause-kept
 returns-then-keeps-clause-kept c =
-    let b = c.args.branch.now in
-    let ts = nodes b.classes.table in
+    let ts = nodes c.args.problem.now.table in
     let p = c.args.problem.now in
-    let may = subst (λ (xs : List Decided). IsKept ts p xs c.step_at-step.result c.args.out true) c.requires.trail (subst (IsKept ts p b.trail c.step_at-step.result c.args.out) c.if-keeps.true c.in_ok-keeps.ensures.stands) in
+    let may = subst (λ (xs : List Decided). IsKept ts p xs c.step_at-step.result c.args.out true) c.requires.trail (subst (IsKept ts p c.args.trail.now c.step_at-step.result c.args.out) c.if-keeps.true c.in_ok-keeps.ensures.stands) in
     on-ok c.keep_step.result (λ f. subst (λ (ks : List Step). AreKept ts p c.args.steps.now c.args.out (c.args.index + 1) ks) (sym f)
-    (kept-more ts p c.requires.problem (subst (λ t. AreDifferent (nodes t)) c.table.ensures c.nodes_differ.ensures.different) c.most_is_kept.ensures c.args.steps.now c.requires.over c.args.out c.requires.out c.args.index c.args.kept.now.items c.requires.kept c.step_at-step.result c.step_at-step.ensures may)) c.keep_step.ensures.kept
+    (kept-more ts p c.requires.problem.posed c.nodes_differ.ensures.different c.most_is_kept.ensures c.args.steps.now c.requires.over c.args.out c.requires.out c.args.index c.args.kept.now.items c.requires.kept c.step_at-step.result c.step_at-step.ensures may)) c.keep_step.ensures.kept
 
 pub returns-then-keeps-clause-clash : goal.returns-then-keeps-clause-clash
 returns-then-keeps-clause-clash c =
     let p = c.args.problem.now in
-    let ts = nodes c.args.branch.now.classes.table in
-    ok-both c.keep_step.result (λ b e f is. subst (λ (ks : List Step). Clash (instances_in ts p) (trees_of ts ks)) (sym e) (subst (λ t. Clash (instances_in (nodes t) p) (trees_of (nodes t) (c.args.kept.now.items ++ c.step_at-step.result ∷ []))) c.is_kept.ensures.table (f is))) c.keep_step.ensures.kept c.keep_step.ensures.clash
+    let ts = nodes c.args.problem.now.table in
+    ok-both c.keep_step.result (λ b e f is. subst (λ (ks : List Step). Clash (instances_in ts p) (trees_of ts ks)) (sym e) ((f is))) c.keep_step.ensures.kept c.keep_step.ensures.clash
 
 pub returns-else-keeps-clause-trail : goal.returns-else-keeps-clause-trail
-returns-else-keeps-clause-trail c = c.is_kept.ensures.trail ∙ c.requires.trail
+returns-else-keeps-clause-trail c = c.requires.trail
 
 pub returns-else-keeps-clause-kept : goal.returns-else-keeps-clause-kept
 returns-else-keeps-clause-kept c =
-    let b = c.args.branch.now in
-    let ts = nodes b.classes.table in
+    let ts = nodes c.args.problem.now.table in
     let p = c.args.problem.now in
-    let why = subst (λ (xs : List Decided). IsKept ts p xs c.step_at-step.result c.args.out false) c.requires.trail (subst (IsKept ts p b.trail c.step_at-step.result c.args.out) c.if-keeps.false c.in_ok-keeps.ensures.stands) in
-    kept-less ts p c.requires.problem (subst (λ t. AreDifferent (nodes t)) c.table.ensures c.nodes_differ.ensures.different) c.most_is_kept.ensures c.args.steps.now c.requires.over c.args.out c.requires.out c.args.index c.args.kept.now.items c.requires.kept c.step_at-step.result c.step_at-step.ensures why
+    let why = subst (λ (xs : List Decided). IsKept ts p xs c.step_at-step.result c.args.out false) c.requires.trail (subst (IsKept ts p c.args.trail.now c.step_at-step.result c.args.out) c.if-keeps.false c.in_ok-keeps.ensures.stands) in
+    kept-less ts p c.requires.problem.posed c.nodes_differ.ensures.different c.most_is_kept.ensures c.args.steps.now c.requires.over c.args.out c.requires.out c.args.index c.args.kept.now.items c.requires.kept c.step_at-step.result c.step_at-step.ensures why
 
 pub returns-else-keeps-clause-quiet : goal.returns-else-keeps-clause-quiet
-returns-else-keeps-clause-quiet c = λ e. subst (λ X. X) (λ i. IsQuiet c.args.problem.now (sym c.in_ok-keeps.ensures.classes i) (sym c.is_kept.ensures.trail i)) c.requires.quiet
+returns-else-keeps-clause-quiet c = λ e. subst (λ X. X) (λ i. IsQuiet c.args.problem.now (sym c.in_ok-keeps.ensures.classes i) c.args.trail.now) c.requires.quiet

@@ -7,8 +7,8 @@ use Rattle.jh_explaining.proofs.shortening.without.Given as goal
 -- What is kept of the first steps stands in the trail, was told to the classes, and doesn't clash.
 abbrev pub invariant-loop-index : goal.invariant-loop-index
 invariant-loop-index l = record {
-  table : l.branch.classes.table ≡ l.fn.branch.classes.table;
-  trail : l.branch.trail ≡ literals_of l.kept.items;
-  quiet : IsQuiet l.problem l.branch.classes l.branch.trail;
-  kept : AreKept (nodes l.fn.branch.classes.table) l.problem l.steps l.out l.index l.kept.items;
+  table : l.classes.table ≡ l.fn.classes.table;
+  trail : l.trail ≡ literals_of l.kept.items;
+  quiet : IsQuiet l.problem l.classes l.trail;
+  kept : AreKept (nodes l.problem.table) l.problem l.steps l.out l.index l.kept.items;
 }

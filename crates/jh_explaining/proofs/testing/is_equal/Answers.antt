@@ -14,22 +14,22 @@ is_met-requires-clause-atom c = subst (λ (d : Decided). Has c.args.problem.now.
 
 pub returns-then-branch-clause-classes : goal.returns-then-branch-clause-classes
 returns-then-branch-clause-classes c =
-    let asked : IsSaidToo c.args.classes.now c.is_met.new.classes c.opposite.result = subst (IsAsked c.args.classes.now c.is_met.new.classes c.opposite.result) c.if-branch.true c.in_ok-is_met.ensures.asked in
+    let asked : IsSaidToo (nodes c.args.problem.now.table) c.args.classes.now c.is_met.new.classes c.opposite.result = subst (IsAsked (nodes c.args.problem.now.table) c.args.classes.now c.is_met.new.classes c.opposite.result) c.if-branch.true c.in_ok-is_met.ensures.asked in
     undone c.args.problem.now c.args.classes.now c.is_met.new.classes c.opposite.result c.undo.new.self c.len-count.result asked c.len-count.ensures c.undo.ensures
 
 pub returns-then-branch-clause-unmet : goal.returns-then-branch-clause-unmet
 returns-then-branch-clause-unmet c =
-    let ts = nodes c.args.classes.now.table in
-    let asked : IsSaidToo c.args.classes.now c.is_met.new.classes c.opposite.result = subst (IsAsked c.args.classes.now c.is_met.new.classes c.opposite.result) c.if-branch.true c.in_ok-is_met.ensures.asked in
-    subst (λ (d : Decided). (ds : List Decided) → AreSpoken ts ds c.args.classes.now.said → (false ≡ true) ↔ NotMet (literals_at ts (d ∷ ds))) c.opposite.ensures (front-met-too c.args.problem.now c.args.classes.now c.is_met.new.classes c.opposite.result asked)
+    let ts = nodes c.args.problem.now.table in
+    let asked : IsSaidToo (nodes c.args.problem.now.table) c.args.classes.now c.is_met.new.classes c.opposite.result = subst (IsAsked (nodes c.args.problem.now.table) c.args.classes.now c.is_met.new.classes c.opposite.result) c.if-branch.true c.in_ok-is_met.ensures.asked in
+    subst (λ (d : Decided). (ds : List Decided) → AreSpoken (nodes c.args.classes.now.table) ts ds c.args.classes.now.said → (false ≡ true) ↔ NotMet (literals_at ts (d ∷ ds))) c.opposite.ensures (front-met-too c.args.problem.now c.args.classes.now c.is_met.new.classes c.opposite.result asked)
 
 pub returns-clause-classes : goal.returns-clause-classes
 returns-clause-classes c =
-    let asked : IsRefused c.args.classes.now c.is_met.new.classes c.opposite.result = subst (IsAsked c.args.classes.now c.is_met.new.classes c.opposite.result) c.if-branch.false c.in_ok-is_met.ensures.asked in
+    let asked : IsRefused (nodes c.args.problem.now.table) c.args.classes.now c.is_met.new.classes c.opposite.result = subst (IsAsked (nodes c.args.problem.now.table) c.args.classes.now c.is_met.new.classes c.opposite.result) c.if-branch.false c.in_ok-is_met.ensures.asked in
     asked.classes
 
 pub returns-clause-unmet : goal.returns-clause-unmet
 returns-clause-unmet c =
-    let ts = nodes c.args.classes.now.table in
-    let asked : IsRefused c.args.classes.now c.is_met.new.classes c.opposite.result = subst (IsAsked c.args.classes.now c.is_met.new.classes c.opposite.result) c.if-branch.false c.in_ok-is_met.ensures.asked in
-    subst (λ (d : Decided). (ds : List Decided) → AreSpoken ts ds c.args.classes.now.said → (true ≡ true) ↔ NotMet (literals_at ts (d ∷ ds))) c.opposite.ensures (front-refused c.args.problem.now c.args.classes.now c.is_met.new.classes c.opposite.result asked)
+    let ts = nodes c.args.problem.now.table in
+    let asked : IsRefused (nodes c.args.problem.now.table) c.args.classes.now c.is_met.new.classes c.opposite.result = subst (IsAsked (nodes c.args.problem.now.table) c.args.classes.now c.is_met.new.classes c.opposite.result) c.if-branch.false c.in_ok-is_met.ensures.asked in
+    subst (λ (d : Decided). (ds : List Decided) → AreSpoken (nodes c.args.classes.now.table) ts ds c.args.classes.now.said → (true ≡ true) ↔ NotMet (literals_at ts (d ∷ ds))) c.opposite.ensures (front-refused c.args.problem.now c.args.classes.now c.is_met.new.classes c.opposite.result asked)

@@ -1,4 +1,4 @@
-use Rattle.std.proofs.Common.{◌≡◌, ◌≤◌, ap, subst, ℕ, List, Err}
+use Rattle.std.proofs.Common.{◌≤◌, ap, subst, ℕ, List, Err}
 use Rattle.std.proofs.lemmas.Result.{IfOk-weaker}
 use Rattle.jh_tree.specs.Tree.{FormulaTree}
 use Rattle.jh_table.specs.Nodes.{nodes}
@@ -30,10 +30,9 @@ posed-requires c =
 pub returns-in-Ok : goal.returns-in-Ok
 returns-in-Ok c =
     let x = c.args.apart in
-    let problem = c.in_ok-problem-in-Ok.problem in
     IfOk-weaker
     c.searched.result
-    (λ found. (many : ℕ) → many ≤ 100000 → IsSearchedFor (instances_in (nodes c.posed.new.table) problem) many c.args.leaves found)
+    (λ found. (many : ℕ) → many ≤ 100000 → IsSearchedFor (instances_in (nodes c.in_ok-problem-in-Ok.problem.table) c.in_ok-problem-in-Ok.problem) many c.args.leaves found)
     (λ found. (s : SequentTree) → IsPosed x s → IsSearched s c.args.rounds c.args.leaves found)
     (λ found h s posed.
     let facts = facts-stand x s c.as_slice.result.now c.as_slice.ensures.value posed in

@@ -1,6 +1,4 @@
-use Rattle.std.proofs.Common.{ap, ◌∙◌}
 use Rattle.jh_structure.specs.Literals.{literal_tree}
-use Rattle.jh_table.specs.Entries.{Listing}
 use Rattle.jh_table.specs.Nodes.{nodes}
 use Rattle.jh_trail.specs.Saying.{literal_tree_at}
 use Rattle.jh_local.proofs.Boxed.{mapped-next}
@@ -8,6 +6,6 @@ use Rattle.jh_local.proofs.boxing.boxed_trail.Goals as goal
 
 pub loop-place-preserved : goal.loop-place-preserved
 loop-place-preserved c =
-    mapped-next literal_tree (literal_tree_at (nodes c.args.branch.now.classes.table)) c.args.branch.now.trail c.loop-place.made.items c.push.new.self.items c.loop-place.place c.literal.result
+    mapped-next literal_tree (literal_tree_at (nodes c.args.table.now)) c.args.trail.now c.loop-place.made.items c.push.new.self.items c.loop-place.place c.literal.result
     c.in_ok-boxed.field-0 c.literal.ensures c.in_ok-push.ensures.items c.loop-place.invariant
-    (c.in_ok-boxed.ensures ∙ ap (λ (t : Listing). literal_tree_at (nodes t) c.literal.result) c.table-table.ensures)
+    c.in_ok-boxed.ensures

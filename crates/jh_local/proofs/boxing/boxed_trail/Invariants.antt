@@ -6,4 +6,4 @@ use Rattle.jh_local.proofs.boxing.boxed_trail.Given as goal
 
 -- the first literals are boxed
 abbrev pub invariant-loop-place : goal.invariant-loop-place
-invariant-loop-place l = literal_trees l.made.items ≡ literals_at (nodes l.branch.classes.table) (take l.place l.branch.trail)
+invariant-loop-place l = literal_trees l.made.items ≡ literals_at (nodes l.table) (take l.place l.trail)

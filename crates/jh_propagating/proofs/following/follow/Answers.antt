@@ -4,10 +4,11 @@ use Rattle.jh_closure.proofs.Having.{has-at}
 use Rattle.jh_propagating.specs.Branches.{IsUnforced}
 use Rattle.jh_propagating.proofs.Quieting.{take-has}
 use Rattle.jh_propagating.proofs.Implied.{moved-twice}
+use Rattle.jh_propagating.proofs.Longer.{longer-same, longer-twice}
 use Rattle.jh_propagating.proofs.following.follow.Goals as goal
 
 pub loop-index-init : goal.loop-index-init
-loop-index-init c = record { branch = c.requires.branch; followed = λ k h. absurd h; moved = inl (refl, refl); classes = refl; head = refl; decisions = refl }
+loop-index-init c = record { branch = c.requires.branch; followed = λ k h. absurd h; moved = inl (refl, refl); longer = longer-same c.args.branch.now; classes = refl; head = refl; decisions = refl }
 
 pub follow_one-requires-clause-branch : goal.follow_one-requires-clause-branch
 follow_one-requires-clause-branch c = c.loop-index.invariant.branch
@@ -20,9 +21,10 @@ loop-index-preserved c = record {
   branch = c.in_ok-follow_one.ensures.branch;
   followed = λ k h. elim (take-has c.atoms-atoms.result.now c.loop-index.index c.atom_at.result k c.atom_at.ensures h) [
     | inl old ↦ c.in_ok-follow_one.ensures.kept k (c.loop-index.invariant.followed k old)
-    | inr e ↦ subst (IsUnforced c.follow_one.new.branch) e c.in_ok-follow_one.ensures.followed
+    | inr e ↦ subst (IsUnforced c.args.problem.now c.follow_one.new.branch) e c.in_ok-follow_one.ensures.followed
   ];
   moved = moved-twice c.args.problem.now c.args.branch.now c.loop-index.branch c.follow_one.new.branch c.loop-index.invariant.moved c.in_ok-follow_one.ensures.moved;
+  longer = longer-twice c.args.branch.now c.loop-index.branch c.follow_one.new.branch c.loop-index.invariant.longer c.in_ok-follow_one.ensures.longer;
   classes = c.in_ok-follow_one.ensures.classes ∙ c.loop-index.invariant.classes;
   head = c.in_ok-follow_one.ensures.head ∙ c.loop-index.invariant.head;
   decisions = c.in_ok-follow_one.ensures.decisions ∙ c.loop-index.invariant.decisions;
@@ -36,6 +38,9 @@ returns-clause-followed c = λ k h. c.loop-index.invariant.followed k (subst (λ
 
 pub returns-clause-moved : goal.returns-clause-moved
 returns-clause-moved c = c.loop-index.invariant.moved
+
+pub returns-clause-longer : goal.returns-clause-longer
+returns-clause-longer c = c.loop-index.invariant.longer
 
 pub returns-clause-classes : goal.returns-clause-classes
 returns-clause-classes c = c.loop-index.invariant.classes

@@ -16,5 +16,6 @@ returns-clause-fixed c = λ e.
     let met = subst (λ (a : Asserted). IsUnmet (nodes a.table) a.said → ⊥) (sym c.in_ok-follow.ensures.classes) c.requires.met in
     record {
       branch = c.in_ok-follow.ensures.branch;
+      over = over;
       fixpoint = is-fixpoint c.args.problem.now new c.in_ok-follow.ensures.branch over told met c.in_ok-follow.ensures.followed;
     }

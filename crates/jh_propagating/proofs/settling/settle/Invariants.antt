@@ -1,5 +1,5 @@
 use Rattle.std.proofs.Common.{◌≡◌, ◌≤◌, ◌-◌, []}
-use Rattle.jh_propagating.specs.Branches.{IsBranch, looks_left, undecided_count}
+use Rattle.jh_propagating.specs.Branches.{IsBranch, IsLonger, looks_left, undecided_count}
 use Rattle.jh_propagating.proofs.settling.settle.Given as goal
 
 abbrev pub invariant-loop-place : goal.invariant-loop-place
@@ -7,6 +7,7 @@ invariant-loop-place l = record {
   branch : IsBranch l.problem [] l.branch;
   classes : l.branch.classes ≡ l.fn.branch.classes;
   decisions : l.branch.decisions.items ≡ l.fn.branch.decisions.items;
+  longer : IsLonger l.fn.branch l.branch;
   count : undecided_count l.problem l.branch ≤ undecided_count l.problem l.fn.branch;
 }
 

@@ -2,7 +2,6 @@ use Rattle.std.proofs.Common.{refl, sym, subst, arith, List, take_all, inl, inr}
 use Rattle.jh_closure.specs.Nodes.{Has}
 use Rattle.jh_closure.proofs.Having.{has-at}
 use Rattle.jh_table.specs.Nodes.{nodes}
-use Rattle.jh_table.specs.Growth.{AreDifferent}
 use Rattle.jh_models.specs.Atoms.{atoms_of, StandsIn}
 use Rattle.jh_trail.specs.declared.decided.Decided.{Decided}
 use Rattle.jh_trail.specs.Listing.{decided}
@@ -26,16 +25,16 @@ take_one-requires-clause-branch c = c.loop-index.invariant.branch
 pub take_one-requires-clause-atom : goal.take_one-requires-clause-atom
 take_one-requires-clause-atom c =
     let l : Decided = c.literal_at.result in
-    let ts = nodes c.args.branch.now.classes.table in
+    let ts = nodes c.args.problem.now.table in
     let stands : StandsIn (atoms_of (truth_at ts c.args.instance)) (truth_at ts l.atom) = forced-stands c.forced_stands.ensures ts c.args.branch.now.trail (truth_at ts c.args.instance) c.args.list.now l c.requires.forced (has-at c.args.list.now c.loop-index.index l c.literal_at.ensures) in
-    atom-noted ts c.args.problem.now c.requires.branch.problem (subst (λ t. AreDifferent (nodes t)) c.table.ensures c.nodes_differ.ensures.different) c.args.place c.args.instance l.atom c.requires.here stands
+    atom-noted ts c.args.problem.now c.requires.branch.problem.posed c.nodes_differ.ensures.different c.args.place c.args.instance l.atom c.requires.here stands
 
 pub take_one-requires-clause-occurs : goal.take_one-requires-clause-occurs
 take_one-requires-clause-occurs c =
     let l : Decided = c.literal_at.result in
-    let ts = nodes c.args.branch.now.classes.table in
+    let ts = nodes c.args.problem.now.table in
     let stands : StandsIn (atoms_of (truth_at ts c.args.instance)) (truth_at ts l.atom) = forced-stands c.forced_stands.ensures ts c.args.branch.now.trail (truth_at ts c.args.instance) c.args.list.now l c.requires.forced (has-at c.args.list.now c.loop-index.index l c.literal_at.ensures) in
-    place-noted ts c.args.problem.now c.requires.branch.problem (subst (λ t. AreDifferent (nodes t)) c.table.ensures c.nodes_differ.ensures.different) c.args.place c.args.instance l.atom c.requires.here stands
+    place-noted ts c.args.problem.now c.requires.branch.problem.posed c.nodes_differ.ensures.different c.args.place c.args.instance l.atom c.requires.here stands
 
 pub take_one-requires-clause-forced : goal.take_one-requires-clause-forced
 take_one-requires-clause-forced c =

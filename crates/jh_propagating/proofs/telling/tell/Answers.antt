@@ -1,17 +1,16 @@
-use Rattle.std.proofs.Common.{◌≡◌, sym, ap, ◌∙◌, subst, ◌<◌, ◌++◌, ℕ, List, length, drop, Err}
+use Rattle.std.proofs.Common.{◌≡◌, ap, ◌∙◌, subst, ◌<◌, ◌++◌, ℕ, List, length, drop, Err}
 use Rattle.jh_closure.specs.Nodes.{Has}
 use Rattle.jh_table.specs.Nodes.{nodes}
 use Rattle.jh_cong.specs.Saying.{Asserted, IsUnmet}
 use Rattle.jh_cong.specs.Saying as cong
 use Rattle.jh_cong.specs.declared.literal.Said.{Said}
 use Rattle.jh_propagating.specs.Branches.{parts_of}
-use Rattle.jh_propagating.specs.Closings.{AreUnmet}
 use Rattle.jh_propagating.proofs.Saids.{spoken-can}
 use Rattle.jh_propagating.proofs.Talking.{all-told, whole-long, unmet-places}
 use Rattle.jh_propagating.proofs.telling.tell.Goals as goal
 
 pub assert-requires : goal.assert-requires
-assert-requires c = λ e g. spoken-can (nodes c.args.branch.now.classes.table) (drop (length c.args.branch.now.classes.said) c.args.branch.now.trail) c.in_ok-batch.batch.items c.in_ok-batch.ensures e (subst (λ (xs : List Said). Has xs e) c.as_slice.ensures.value g)
+assert-requires c = λ e g. spoken-can (nodes c.args.branch.now.classes.table) (nodes c.args.problem.now.table) (drop (length c.args.branch.now.classes.said) c.args.branch.now.trail) c.in_ok-batch.batch.items c.in_ok-batch.ensures e (subst (λ (xs : List Said). Has xs e) c.as_slice.ensures.value g)
 
 pub returns-in-Ok-clause-branch : goal.returns-in-Ok-clause-branch
 returns-in-Ok-clause-branch c =
@@ -31,5 +30,4 @@ returns-in-Err-Conflict-clause-unmet c =
     let places = c.in-Err-Conflict.places in
     let inside = subst (λ (xs : List Said). (i : ℕ) → Has places i → i < length (b.classes.said ++ xs)) c.as_slice.ensures.value (c.assert.ensures.numbers places (c.in-Err-Conflict.is ∙ ap (λ z. Err z) c.in-Err-Conflict.field-0-is)) in
     let unmet = subst (λ (xs : List Said). IsUnmet (nodes b.classes.table) (cong.picked (b.classes.said ++ xs) places)) c.as_slice.ensures.value (c.assert.ensures.conflict places (c.in-Err-Conflict.is ∙ ap (λ z. Err z) c.in-Err-Conflict.field-0-is)) in
-    subst (λ (a : Asserted). AreUnmet (nodes a.table) b.trail places) (sym c.in-Err-Conflict.ensures.err)
     (unmet-places c.args.problem.now b c.requires.branch c.in_ok-batch.batch.items c.in_ok-batch.ensures places inside unmet)

@@ -1,4 +1,4 @@
-use Rattle.std.proofs.Common.{sym, subst, List, [], ◌∷◌, ◌++◌, inl, inr}
+use Rattle.std.proofs.Common.{sym, subst, List, [], ◌∷◌, inl, inr}
 use Rattle.jh_closure.specs.Nodes.{Has}
 use Rattle.jh_closure.proofs.Having.{has-left, has-last, has-pushed}
 use Rattle.jh_trail.specs.declared.decided.Decided.{Decided}

@@ -1,16 +1,11 @@
-use Rattle.std.proofs.Common.{◌≡◌, sym, ap, ◌∙◌, subst, List, [], ◌∷◌, length}
-use Rattle.jh_table.specs.Nodes.{nodes}
-use Rattle.jh_tree.specs.Tree.{ValueTree}
-use Rattle.jh_models.specs.Clashes.{Clash}
+use Rattle.std.proofs.Common.{◌≡◌, ap, ◌∙◌, List, [], length}
 use Rattle.jh_trail.specs.declared.decided.Decided.{Decided}
-use Rattle.jh_propagating.specs.Problems.{instances_in}
 use Rattle.jh_search.proofs.Leaves.{leaf-quiet}
 use Rattle.jh_search.proofs.closing.explained.Goals as goal
 
 pub shortened-requires-clause-quiet : goal.shortened-requires-clause-quiet
 shortened-requires-clause-quiet c =
-    subst (λ (ts : List ValueTree). Clash (instances_in ts c.args.problem.now) [] → ⊥) (ap nodes (sym c.explain.ensures.table))
-    (leaf-quiet c.args.problem.now c.args.searching.now c.args.cause.now c.requires.leaf some)
+    leaf-quiet c.args.problem.now c.args.searching.now c.args.cause.now c.requires.leaf some
   where
     some : c.args.searching.now.branch.decisions.items ≡ [] → ⊥
     some e = c.if-as_slice-eq0.false (ap (λ (xs : List Decided). length xs)

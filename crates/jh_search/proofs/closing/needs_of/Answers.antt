@@ -1,4 +1,4 @@
-use Rattle.std.proofs.Common.{◌≡◌, refl, sym, subst, List, inl, inr, true}
+use Rattle.std.proofs.Common.{◌≡◌, sym, subst, inl, inr, true}
 use Rattle.jh_closure.specs.Nodes.{Has}
 use Rattle.jh_closure.proofs.Having.{has-at}
 use Rattle.jh_explaining.specs.declared.step.Step.{Step}

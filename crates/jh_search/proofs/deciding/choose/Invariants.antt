@@ -1,4 +1,3 @@
-use Rattle.std.proofs.Common.{ℕ}
 use Rattle.std.specs.Prelude.{IfSome}
 use Rattle.jh_closure.specs.Nodes.{Has}
 use Rattle.jh_trail.specs.Listing.{IsUndecided}

@@ -1,7 +1,6 @@
-use Rattle.std.proofs.Common.{◌≡◌, refl, sym, ◌∙◌, subst, Bool, List, ℕ, inl, inr, take, take_all, arith, Some, None, length}
+use Rattle.std.proofs.Common.{sym, ◌∙◌, subst, List, ℕ, inl, inr}
 use Rattle.jh_closure.specs.Nodes.{Has}
 use Rattle.jh_closure.proofs.Having.{has-at}
-use Rattle.jh_trail.specs.Listing.{decided}
 use Rattle.jh_propagating.specs.Branches.{IsSaid}
 use Rattle.jh_search.proofs.Lists.{take-has, none-some}
 use Rattle.jh_search.proofs.deciding.first_undecided.Goals as goal

@@ -1,7 +1,7 @@
-use Rattle.std.proofs.Common.{sym, subst, List, ℕ}
+use Rattle.std.proofs.Common.{subst, List, ℕ}
 use Rattle.jh_closure.specs.Nodes.{Has}
 use Rattle.jh_closure.proofs.Having.{has-at}
 use Rattle.jh_search.proofs.deciding.is_wanted.Goals as goal
 
 pub is_open-requires-clause-inside : goal.is_open-requires-clause-inside
-is_open-requires-clause-inside c = c.requires.branch.problem.occurrences.inside c.args.atom c.place_at.result (subst (λ (xs : List ℕ). Has xs c.place_at.result) c.places-places.ensures (has-at c.places-places.result.now c.loop-index.index c.place_at.result c.place_at.ensures))
+is_open-requires-clause-inside c = c.requires.branch.problem.posed.occurrences.inside c.args.atom c.place_at.result (subst (λ (xs : List ℕ). Has xs c.place_at.result) c.places-places.ensures (has-at c.places-places.result.now c.loop-index.index c.place_at.result c.place_at.ensures))

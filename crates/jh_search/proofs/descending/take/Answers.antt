@@ -1,4 +1,4 @@
-use Rattle.std.proofs.Common.{◌≡◌, refl, sym, ap, ◌∙◌, subst, List, [], ◌∷◌, ◌++◌, false}
+use Rattle.std.proofs.Common.{refl, sym, ap, subst, false}
 use Rattle.jh_closure.specs.Nodes.{Has}
 use Rattle.jh_table.specs.Nodes.{nodes}
 use Rattle.jh_table.specs.Growth.{AreDifferent}
@@ -15,10 +15,11 @@ returns-clause-searching c =
     turn refl c.new.ensures.items
     (subst (Has c.args.problem.now.ground.atoms) (sym c.denied-literal.ensures.atom) c.requires.atom)
     (subst (IsUndecided c.args.searching.now.branch.trail) (sym c.denied-literal.ensures.atom) c.requires.undecided)
-    _ c.in_ok-decide.ensures.branch (ap (λ (x : Asserted). x.table) c.in_ok-decide.ensures.classes) c.in_ok-decide.ensures.decisions c.in_ok-push.ensures.items refl
+    c.requires.over c.len-at.ensures
+    _ c.in_ok-decide.ensures.branch (ap (λ (x : Asserted). x.table) c.in_ok-decide.ensures.classes) c.in_ok-decide.ensures.decisions c.in_ok-decide.ensures.trail c.in_ok-decide.ensures.reasons c.in_ok-push.ensures.items refl
   where
     turn : Turn
-    turn = record { literal = c.denied-literal.result; is_second = false; needs = c.new.result }
+    turn = record { literal = c.denied-literal.result; at = c.len-at.result; is_second = false; needs = c.new.result }
 
-    different : AreDifferent (nodes c.args.searching.now.branch.classes.table)
-    different = subst (λ t. AreDifferent (nodes t)) c.table.ensures c.nodes_differ.ensures.different
+    different : AreDifferent (nodes c.args.problem.now.table)
+    different = c.nodes_differ.ensures.different

@@ -1,4 +1,4 @@
-use Rattle.std.proofs.Common.{◌≡◌, ◌<◌, refl, sym, ap, ◌∙◌, subst, arith, List, [], ◌∷◌, ◌++◌, length, true, false}
+use Rattle.std.proofs.Common.{◌≡◌, ◌<◌, refl, sym, ap, ◌∙◌, subst, arith, List, [], length, true}
 use Rattle.std.proofs.lemmas.Bool.{true≢false}
 use Rattle.jh_closure.specs.Nodes.{Has}
 use Rattle.jh_trail.specs.declared.decided.Decided.{Decided}
@@ -29,8 +29,11 @@ returns-then-count-leaves-clause-back c = λ ts p closed e h.
 pub returns-clause-back : goal.returns-clause-back
 returns-clause-back c = λ ts p closed e h.
     let here = subst (λ (xs : List Decided). Has xs c.args.turn.literal) c.as_slice.ensures.value (c.has.ensures.0 c.if-not-has.false) in
-    let u : Turn = record { literal = c.opposite.result; is_second = true; needs = c.in_ok-rest.rest } in
+    let u : Turn = record { literal = c.opposite.result; at = c.args.turn.at; is_second = true; needs = c.in_ok-rest.rest } in
     let joined = subst (λ (xs : List Decided). AreJoined xs c.args.turn.literal [] c.in_ok-rest.rest.items) c.as_slice-2.ensures.value c.in_ok-rest.ensures in
     let turned = turned-back c.search_goes_back.ensures ts p c.args.path.now.items c.args.turn closed c.args.needs.now.items h u c.opposite.ensures refl here c.if-turn.false joined in
     let few : length closed < c.args.leaves = omega (arith, e, c.if-count-leaves.false) in
     (subst (λ (xs : List Turn). IsTurned ts p xs closed) (sym c.in_ok-push.ensures.items) turned, few)
+
+pub returns-clause-turned : goal.returns-clause-turned
+returns-clause-turned c = λ e. (record { literal = c.opposite.result; at = c.args.turn.at; is_second = true; needs = c.in_ok-rest.rest }, (c.in_ok-push.ensures.items, (ap (λ (z : Decided). z.atom) c.opposite.ensures, refl)))

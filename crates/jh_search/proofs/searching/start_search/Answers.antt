@@ -1,4 +1,3 @@
-use Rattle.std.proofs.Common.{◌≡◌, List, []}
 use Rattle.jh_search.proofs.Descents.{begins}
 use Rattle.jh_search.proofs.searching.start_search.Goals as goal
 
