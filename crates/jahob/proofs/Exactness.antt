@@ -1,5 +1,5 @@
 -- From the conditions to the answers: what each finding says of what the files hold.
-use Rattle.std.proofs.Common.{◌≡◌, ◌≤◌, ◌<◌, ◌⊎◌, ℕ, List, length, ap, sym, subst, ◌∙◌, Bool, true, false, arith, inl, inr}
+use Rattle.std.proofs.Common.{◌≡◌, refl, ◌≤◌, ◌<◌, ◌⊎◌, ℕ, List, length, ap, sym, subst, ◌∙◌, Bool, true, false, arith, inl, inr}
 use Rattle.std.specs.Prelude.{Option, None, Some, IfSome, if◌then◌else◌}
 use Rattle.std.proofs.lemmas.Bool.{true≢false}
 use Rattle.jh_files.specs.Counts.{Rose}
@@ -10,15 +10,16 @@ use Rattle.jh_obligations.specs.Sources.{OwesLittle}
 use Rattle.jh_prove.specs.Laws.{ProvableIsProved}
 use Rattle.jh_report.specs.Report.{Reported, is_accepted}
 use Rattle.jahob.specs.Refusals.{Spells, RefusedAt, IsMistyped, IsCircular, IsCrowded}
-use Rattle.jahob.specs.Causes.{FilesSeen, SinkSeen, Finding, reported, ran, unreturned, no_job, no_method, refused, mistyped, circular, crowded, file_failed, file_too_long, no_memory, IsRead_in, as_source, as_heap, Comes, due, unreturned_status, Takes, Delivered, Answered, IsExcused, IsRunStatus, Exact}
+use Rattle.jahob.specs.Causes.{FilesSeen, SinkSeen, Finding, reported, ran, unreturned, no_job, no_method, refused, mistyped, circular, crowded, file_failed, file_too_long, no_memory, IsRead_in, as_source, as_heap, Comes, due, unreturned_status, Takes, Delivered, Answered, IsExcused, IsRunStatus, IsCutShort, Exact}
 use Rattle.jahob.specs.Run.{IsBegun, IsSource, ending_of, ending_status}
-use Rattle.jahob.specs.Verify.{Tells, Judges, OwesProvable, source_limit}
+use Rattle.jh_options.specs.declared.Options.{Options}
+use Rattle.jahob.specs.Verify.{Tells, Judges, OwesProvable, are_proved_or_spent, options_of, source_limit}
 use Rattle.jahob.specs.Words.{source_of}
 use Rattle.jh_words.specs.CommandLine.{Job, Run, Verify, job_of, run, verify}
 use Rattle.jahob.proofs.Endings.{reason-status, returns-zero}
 use Rattle.jahob.proofs.Findings.{takes-status}
-use Rattle.jahob.proofs.Jobs.{longer, none-job, not-both, one-job, one-run, tells-same, told-bytes}
-use Rattle.jahob.proofs.Verifying.{spells-one, refused-parses, ill-spells, loop-spells, crowded-spells, provable-accepted}
+use Rattle.jahob.proofs.Jobs.{longer, none-job, not-both, one-job, one-run, one-verify, tells-same, told-bytes}
+use Rattle.jahob.proofs.Verifying.{spells-one, refused-parses, ill-spells, loop-spells, crowded-spells, provable-spent}
 
 -- a status that is due, or an excuse
 due-or : (files : FilesSeen) (sink : SinkSeen) (text file : List ℕ) (d status : ℕ) → Takes sink text d status → (status ≡ d) ⊎ IsExcused files file status
@@ -43,7 +44,7 @@ data Seen (files : FilesSeen) (job : Job) (bytes : List ℕ) (status : ℕ) : Ty
   is_excused : IsExcused files (source_of job) status → Seen files job bytes status
   is_refused : length bytes ≤ source_limit → ((p : ProgramTree) → Spells bytes p → ⊥) → (status ≡ 3) ⊎ IsExcused files (source_of job) status → Seen files job bytes status
   is_crowded : (v : Verify) → job ≡ verify v → length bytes ≤ source_limit → ((p : ProgramTree) → Spells bytes p → OwesLittle p → ⊥) → (status ≡ 3) ⊎ IsExcused files (source_of job) status → Seen files job bytes status
-  is_reported : (v : Verify) → job ≡ verify v → length bytes ≤ source_limit → (p : ProgramTree) (rs : List Reported) → Spells bytes p → Judges p rs → (status ≡ (if is_accepted rs then 0 else 1)) ⊎ IsExcused files (source_of job) status → Seen files job bytes status
+  is_reported : (v : Verify) → job ≡ verify v → length bytes ≤ source_limit → (p : ProgramTree) (rs : List Reported) → Spells bytes p → Judges (options_of v) p rs → (status ≡ (if is_accepted rs then 0 else 1)) ⊎ IsExcused files (source_of job) status → Seen files job bytes status
   is_run : (r : Run) → job ≡ run r → length bytes ≤ source_limit → (p : ProgramTree) → Spells bytes p → RunSeen files p r status → Seen files job bytes status
 
 module _ (much : LittleIsNotMuch) (words : List (List ℕ)) (files : FilesSeen) (out err : SinkSeen) (status : ℕ) (job : Job) (asked : job_of words ≡ Some job) (bytes : List ℕ) (held : files.holds (source_of job) ≡ Some bytes) where
@@ -146,17 +147,17 @@ crowd-of little files v bytes status (is_reported other same there p rs spells j
 crowd-of little files v bytes status (is_run r same there p spells run_is) short none = not-both v r same
 
 -- the report on a program has the status that is due, or there is an excuse
-abbrev pub Found : ProgramTree → FilesSeen → List ℕ → ℕ → Type 0
-Found p files file status = ((rs : List Reported) × Judges p rs × (status ≡ (if is_accepted rs then 0 else 1))) ⊎ IsExcused files file status
+abbrev pub Found : Options → ProgramTree → FilesSeen → List ℕ → ℕ → Type 0
+Found o p files file status = ((rs : List Reported) × Judges o p rs × (status ≡ (if is_accepted rs then 0 else 1))) ⊎ IsExcused files file status
 
-found-of : (files : FilesSeen) (v : Verify) (bytes : List ℕ) (status : ℕ) → Seen files (verify v) bytes status → (p : ProgramTree) → length bytes ≤ source_limit → Spells bytes p → OwesLittle p → Found p files v.file status
+found-of : (files : FilesSeen) (v : Verify) (bytes : List ℕ) (status : ℕ) → Seen files (verify v) bytes status → (p : ProgramTree) → length bytes ≤ source_limit → Spells bytes p → OwesLittle p → Found (options_of v) p files v.file status
 found-of files v bytes status (is_long long is) p short spells few = never bytes long short
 found-of files v bytes status (is_excused is) p short spells few = inr is
 found-of files v bytes status (is_refused there empty is) p short spells few = absurd (empty p spells)
 found-of files v bytes status (is_crowded other same there empty is) p short spells few = absurd (empty p spells few)
 found-of files v bytes status (is_reported other same there q rs spelled judges is) p short spells few =
     elim is [
-      | inl due_is ↦ inl (rs, subst (λ (t : ProgramTree). Judges t rs) (spells-one bytes q p spelled spells) judges, due_is)
+      | inl due_is ↦ inl (rs, subst (λ (t : ProgramTree). Judges (options_of v) t rs) (spells-one bytes q p spelled spells) (subst (λ (w : Verify). Judges (options_of w) q rs) (one-verify other v (sym same)) judges), due_is)
       | inr excused ↦ inr excused
     ]
 found-of files v bytes status (is_run r same there q spelled run_is) p short spells few = not-both v r same
@@ -173,11 +174,19 @@ reported-of files v bytes status s p short spells few =
       | inr excused ↦ inr (inr excused)
     ]
 
-proved-of : OwedIsLittle → OwedIsOne → ProvableIsProved → (files : FilesSeen) (v : Verify) (bytes : List ℕ) (status : ℕ) → Seen files (verify v) bytes status → (p : ProgramTree) → length bytes ≤ source_limit → Spells bytes p → OwesProvable p → (status ≡ 0) ⊎ IsExcused files v.file status
+-- the status where all that is owed is provable
+status-provable : (v : Verify) (p : ProgramTree) (rs : List Reported) → Judges (options_of v) p rs → are_proved_or_spent rs ≡ true → (b : Bool) → is_accepted rs ≡ b → (status : ℕ) → status ≡ (if b then 0 else 1) → (status ≡ 0) ⊎ ((status ≡ 1) × IsCutShort v p)
+status-provable v p rs judges spent true accepted status is = inl is
+status-provable v p rs judges spent false accepted status is = inr (is, record { reported = rs; judges = judges; unproved = accepted; spent = spent })
+
+proved-of : OwedIsLittle → OwedIsOne → ProvableIsProved → (files : FilesSeen) (v : Verify) (bytes : List ℕ) (status : ℕ) → Seen files (verify v) bytes status → (p : ProgramTree) → length bytes ≤ source_limit → Spells bytes p → OwesProvable v.rounds p → (status ≡ 0) ⊎ ((status ≡ 1) × IsCutShort v p) ⊎ IsExcused files v.file status
 proved-of little one provable files v bytes status s p short spells owes =
     elim (found-of files v bytes status s p short spells (little p owes.owed owes.owes)) [
-      | inl found ↦ inl (found.2 ∙ ap (λ (b : Bool). if b then 0 else 1) (provable-accepted one provable p found.0 found.1 owes))
-      | inr excused ↦ inr excused
+      | inl found ↦ elim (status-provable v p found.0 found.1 (provable-spent one provable (options_of v) p found.0 found.1 owes) (is_accepted found.0) refl status found.2) [
+        | inl zero ↦ inl zero
+        | inr one_status ↦ inr (inl one_status)
+      ]
+      | inr excused ↦ inr (inr excused)
     ]
 
 -- a run in a source that spells a program

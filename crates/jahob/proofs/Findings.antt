@@ -9,17 +9,17 @@ use Rattle.jh_todo.specs.declared.stop.Stop.TheVariants as stop
 use Rattle.jh_outcome.specs.declared.unreturned.Unreturned.{Unreturned}
 use Rattle.jh_outcome.specs.declared.unreturned.Unreturned.TheVariants as why
 use Rattle.jh_sound.specs.Laws.{IsAccepted}
-use Rattle.jh_obligations.specs.Laws.{OwedIsSound}
-use Rattle.jh_prove.specs.Laws.{ProvedIsValid}
+use Rattle.jh_obligations.specs.Laws.{OwedIsOne, OwedIsSound}
+use Rattle.jh_prove.specs.Laws.{ProvableIsProved, ProvedIsValid}
 use Rattle.jh_report.specs.Report.{is_accepted}
 use Rattle.jahob.specs.Refusals.{Spells}
 use Rattle.jahob.specs.declared.reply.Reply.{Reply}
 use Rattle.jahob.specs.Causes.{FilesSeen, SinkSeen, Finding, reported, ran, unreturned, no_job, no_method, refused, mistyped, circular, crowded, file_failed, file_too_long, no_memory, Comes, Due, due, reply_due, unreturned_status, Takes, IsTaken, Delivered, HaveNoFault, Answered, Fits}
 use Rattle.jahob.specs.Run.{Runs}
-use Rattle.jahob.specs.Verify.{Reports, Verifies}
+use Rattle.jahob.specs.Verify.{Reports, Verifies, options_of}
 use Rattle.jh_words.specs.CommandLine.{Run, Verify, job_of, run, verify}
 use Rattle.jahob.proofs.Jobs.{apart-jobs}
-use Rattle.jahob.proofs.Verifying.{reports-verifies, right-sound}
+use Rattle.jahob.proofs.Verifying.{provable-spent, reports-verifies, right-sound}
 
 -- a status is the one that is due, or 5
 pub takes-status : (sink : SinkSeen) (text : List ℕ) (d status : ℕ) → Takes sink text d status → (status ≡ d) ⊎ (status ≡ 5)
@@ -62,11 +62,11 @@ abbrev pub SpelledIsAccepted : Type 0
 SpelledIsAccepted = (bytes : List ℕ) (tree : ProgramTree) → Spells bytes tree → IsAccepted tree
 
 -- a report with status 0 or 1 was written whole
-module _ (accepted : SpelledIsAccepted) (sound : OwedIsSound) (proved : ProvedIsValid) where
+module _ (accepted : SpelledIsAccepted) (sound : OwedIsSound) (one : OwedIsOne) (proved : ProvedIsValid) (provable : ProvableIsProved) where
   reports-of : (words : List (List ℕ)) (files : FilesSeen) (out err : SinkSeen) (status : ℕ) (o : Finding) → Comes words files o → Delivered (due o) out err status → (v : Verify) → job_of words ≡ Some (verify v) → (status ≡ 0) ⊎ (status ≡ 1) → Reports words files.holds out.before out.after status
   reports-of words files out err status (reported p rs) comes delivered v asked low =
       elim delivered.0 [
-        | inl whole ↦ record { program = p; read = comes.0; reported = rs; judges = comes.1; written = whole.1; status_is = whole.0; sound = right-sound proved sound p rs status (accepted comes.0.bytes p comes.0.spelled) comes.1 whole.0 }
+        | inl whole ↦ record { program = p; read = comes.0; reported = rs; judges = comes.1; spent = λ owes. provable-spent one provable (options_of comes.0.job) p rs comes.1 owes; written = whole.1; status_is = whole.0; sound = right-sound proved sound (options_of comes.0.job) p rs status (accepted comes.0.bytes p comes.0.spelled) comes.1 whole.0 }
         | inr front ↦ not-low 5 status (omega arith) (inr front.0) low
       ]
   reports-of words files out err status (ran p text) comes delivered v asked low = apart-jobs (job_of words) v comes.0.called.source.job asked comes.0.called.source.asked

@@ -15,7 +15,8 @@ use Rattle.jahob.specs.declared.reply.Reply.{Reply}
 use Rattle.jahob.specs.declared.reply.Reply.TheVariants as reply
 use Rattle.jahob.specs.Causes.{FilesSeen, Finding, reported, ran, unreturned, no_job, no_method, refused, mistyped, circular, crowded, file_failed, file_too_long, no_memory, IsRead_in, as_source, as_heap, Comes, Due, due, unreturned_status, unreturned_text, fault_text, Says, IsReply, IsRefusal, by_place, by_rule, by_loop, FitsRefusal, FitsBytes, FitsFault, IsFaultReply, IsUsageReply, IsPageReply, IsUnreturnedReply, FitsFile, FitsOutcome, FitsHeap, FitsMethod, FitsSource, FitsRun, FitsWords, Fits}
 use Rattle.jahob.specs.Run.{IsCalled, IsSource}
-use Rattle.jahob.specs.Verify.{Tells, source_limit}
+use Rattle.jh_options.specs.declared.Options.{Options}
+use Rattle.jahob.specs.Verify.{Tells, options_of, source_limit}
 use Rattle.jahob.specs.Words.{source_of}
 use Rattle.jh_words.specs.CommandLine.{Job, Run, Verify, job_of, run, verify}
 use Rattle.jh_words.specs.Usage.{usage_page}
@@ -66,8 +67,8 @@ module _ (p : ProgramTree) (r : Run) (text : List ℕ) where
   says-unreturned why.Memory answer reason h = subst (λ a. FitsOutcome p r text a) (sym h) tt
 
 -- a right reply to the program that bytes spell is right for the bytes
-pub reply-fits : (bytes : List ℕ) (p : ProgramTree) (answer : Reply) → Spells bytes p → IsReply p answer → FitsBytes bytes answer
-reply-fits bytes p answer spells h = inr (p, spells, h)
+pub reply-fits : (o : Options) (bytes : List ℕ) (p : ProgramTree) (answer : Reply) → Spells bytes p → IsReply o p answer → FitsBytes o bytes answer
+reply-fits o bytes p answer spells h = inr (p, spells, h)
 
 -- what is counted or held later
 rose-earlier : (a b c : ℕ) → a ≤ b → Rose b c → Rose a c
@@ -159,7 +160,7 @@ module _ (words : List (List ℕ)) (files : FilesSeen) (job : Job) (asked : job_
     refusal-fits reply.NoMemory h = memory-fits
 
 module _ (words : List (List ℕ)) (files : FilesSeen) (v : Verify) (asked : job_of words ≡ Some (verify v)) where
-  program-fits : (bytes : List ℕ) (p : ProgramTree) (answer : Reply) → Tells (files.holds v.file) bytes → length bytes ≤ source_limit → Spells bytes p → IsReply p answer → Fits words files answer
+  program-fits : (bytes : List ℕ) (p : ProgramTree) (answer : Reply) → Tells (files.holds v.file) bytes → length bytes ≤ source_limit → Spells bytes p → IsReply (options_of v) p answer → Fits words files answer
   program-fits bytes p (reply.Report text accepted) told within spells h = record {
     finding = reported p h.reported;
     comes = (record { job = v; bytes = bytes; asked = asked; told = told; within = within; spelled = spells; only = λ q other. spells-one bytes q p other spells }, h.judges);
@@ -174,7 +175,7 @@ module _ (words : List (List ℕ)) (files : FilesSeen) (v : Verify) (asked : job
   program-fits bytes p (reply.Usage said) told within spells h = absurd h
   program-fits bytes p reply.NoMemory told within spells h = memory-fits words files (verify v) asked
 
-  pub file-fits : (answer : Reply) → FitsFile files v.file answer → Fits words files answer
+  pub file-fits : (answer : Reply) → FitsFile (options_of v) files v.file answer → Fits words files answer
   file-fits answer fits =
       elim fits [
         | inl failed ↦ fault-fits words files (verify v) asked v.file answer (as_source (verify v) asked) failed

@@ -21,6 +21,9 @@ apart-jobs o v r first second = not-both v r (one-job o (verify v) (run r) first
 pub one-run : (r s : Run) → run r ≡ run s → r ≡ s
 one-run r s e = cc
 
+pub one-verify : (v w : Verify) → verify v ≡ verify w → v ≡ w
+one-verify v w e = cc
+
 pub tells-same : (held : Option (List ℕ)) (came bytes : List ℕ) → held ≡ Some bytes → Tells held came → came ≡ bytes
 tells-same None came bytes is told = cc
 tells-same (Some there) came bytes is told = let same : there ≡ bytes = cc in told ∙ same

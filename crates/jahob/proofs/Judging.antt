@@ -10,6 +10,7 @@ use Rattle.jh_sequents.proofs.Grown.{sequents-stay}
 use Rattle.jh_written.proofs.Gathering.{some-is, none-some}
 use Rattle.jh_obligations.specs.Owed.{AllStand, Debt, Stand}
 use Rattle.jh_report.specs.Report.{Reported}
+use Rattle.jh_options.specs.declared.Options.{Options}
 use Rattle.jahob.specs.Verify.{IsJudged}
 
 -- lists in pairs are as long as one another
@@ -45,18 +46,18 @@ drop-at (y ∷ xs) zero x e = ap (λ z. z ∷ xs) (some-is y x e)
 drop-at (y ∷ xs) (suc n) x e = drop-at xs n x e
 
 -- with what is reported of the methods that are left, it is all
-abbrev pub Leads : ProgramTree → List Debt → ℕ → List Reported → Type 0
-Leads p ds n rs = (more : List Reported) → ArePaired (IsJudged p) (drop n ds) more → ArePaired (IsJudged p) ds (rs ++ more)
+abbrev pub Leads : Options → ProgramTree → List Debt → ℕ → List Reported → Type 0
+Leads o p ds n rs = (more : List Reported) → ArePaired (IsJudged o p) (drop n ds) more → ArePaired (IsJudged o p) ds (rs ++ more)
 
-module _ (p : ProgramTree) (ds : List Debt) where
-  pub leads-next : (n : ℕ) (d : Debt) → slice_get ds n ≡ Some d → (rs : List Reported) (r : Reported) → IsJudged p d r → Leads p ds n rs → Leads p ds (n + 1) (rs ++ r ∷ [])
+module _ (o : Options) (p : ProgramTree) (ds : List Debt) where
+  pub leads-next : (n : ℕ) (d : Debt) → slice_get ds n ≡ Some d → (rs : List Reported) (r : Reported) → IsJudged o p d r → Leads o p ds n rs → Leads o p ds (n + 1) (rs ++ r ∷ [])
   leads-next n d at rs r judged rest more k =
-      subst (λ (us : List Reported). ArePaired (IsJudged p) ds us) (sym (append_assoc rs (r ∷ []) more))
+      subst (λ (us : List Reported). ArePaired (IsJudged o p) ds us) (sym (append_assoc rs (r ∷ []) more))
       (rest (r ∷ more)
-      (subst (λ (es : List Debt). ArePaired (IsJudged p) es (r ∷ more)) (sym (drop-at ds n d at))
-      (judged, subst (λ (j : ℕ). ArePaired (IsJudged p) (drop j ds) more) (add-one n) k)))
+      (subst (λ (es : List Debt). ArePaired (IsJudged o p) es (r ∷ more)) (sym (drop-at ds n d at))
+      (judged, subst (λ (j : ℕ). ArePaired (IsJudged o p) (drop j ds) more) (add-one n) k)))
 
-  pub leads-end : (n : ℕ) (rs : List Reported) → length ds ≤ n → Leads p ds n rs → ArePaired (IsJudged p) ds rs
+  pub leads-end : (n : ℕ) (rs : List Reported) → length ds ≤ n → Leads o p ds n rs → ArePaired (IsJudged o p) ds rs
   leads-end n rs le rest =
-      subst (λ (us : List Reported). ArePaired (IsJudged p) ds us) (append-nil rs)
-      (rest [] (subst (λ (es : List Debt). ArePaired (IsJudged p) es []) (sym (drop_all n ds le)) tt))
+      subst (λ (us : List Reported). ArePaired (IsJudged o p) ds us) (append-nil rs)
+      (rest [] (subst (λ (es : List Debt). ArePaired (IsJudged o p) es []) (sym (drop_all n ds le)) tt))

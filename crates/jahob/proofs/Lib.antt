@@ -4,5 +4,6 @@ mod Exactness
 mod Findings
 mod Fitting
 mod Jobs
+mod Leaves
 mod Judging
 mod Verifying

@@ -30,12 +30,13 @@ use Rattle.jh_obligations.specs.Owed.{Debt}
 use Rattle.jh_obligations.specs.Sources.{OwesLittle, OwesMuch}
 use Rattle.jh_prove.specs.Answers.{all_proved}
 use Rattle.jh_prove.specs.Laws.{ProvedIsValid, ProvableIsProved}
+use Rattle.jh_options.specs.declared.Options.{Options}
 use Rattle.jh_prove.specs.Right.{AllProvable}
 use Rattle.jh_report.specs.Report.{Reported, is_accepted}
 use Rattle.jahob.specs.declared.error.Refusal.{Refusal}
 use Rattle.jahob.specs.declared.error.Refusal.TheVariants as refusal
 use Rattle.jahob.specs.Refusals.{Parses, Spells, RefusedAt, not_utf8, bad_char, open_comment, open_quote, too_wide, syntax, too_deep, IsTyped, IsMistyped, IsCircular, IsCrowded, IsLoopOf, IsWhy, refusal_of}
-use Rattle.jahob.specs.Verify.{EachProvable, IsJudged, Judges, OwesProvable, Reports, Verifies}
+use Rattle.jahob.specs.Verify.{are_proved_or_spent, EachProvable, IsJudged, Judges, OwesProvable, Reports, Verifies}
 
 -- bytes spell one tree at most
 pub parses-one : (bytes : List ℕ) (t u : ProgramTree) → Parses bytes t → Parses bytes u → t ≡ u
@@ -101,29 +102,30 @@ accepted-by true h = refl
 accepted-by false h = absurd (omega arith)
 
 -- right answers of which none is Unproved leave all sequents valid
-each-valid : ProvedIsValid → (p : ProgramTree) (ds : List Debt) (rs : List Reported) → ArePaired (IsJudged p) ds rs → is_accepted rs ≡ true → EachValid ds
-each-valid law p [] [] h e = tt
-each-valid law p [] (r ∷ rs) h e = tt
-each-valid law p (d ∷ ds) [] h e = absurd h
-each-valid law p (d ∷ ds) (r ∷ rs) h e =
-    (subst (λ (ss : List SequentTree). AllValid ss) h.0.sequents (law r.sequents r.answers h.0.right (and-left (all_proved r.answers) (is_accepted rs) e)), each-valid law p ds rs h.1 (and-right (all_proved r.answers) (is_accepted rs) e))
+each-valid : ProvedIsValid → (o : Options) (p : ProgramTree) (ds : List Debt) (rs : List Reported) → ArePaired (IsJudged o p) ds rs → is_accepted rs ≡ true → EachValid ds
+each-valid law o p [] [] h e = tt
+each-valid law o p [] (r ∷ rs) h e = tt
+each-valid law o p (d ∷ ds) [] h e = absurd h
+each-valid law o p (d ∷ ds) (r ∷ rs) h e =
+    (subst (λ (ss : List SequentTree). AllValid ss) h.0.sequents (law o r.sequents r.answers h.0.right (and-left (all_proved r.answers) (is_accepted rs) e)), each-valid law o p ds rs h.1 (and-right (all_proved r.answers) (is_accepted rs) e))
 
--- right answers for what is provable leave none Unproved
-each-proved : ProvableIsProved → (p : ProgramTree) (ds : List Debt) (rs : List Reported) → ArePaired (IsJudged p) ds rs → EachProvable ds → is_accepted rs ≡ true
-each-proved law p [] [] h k = refl
-each-proved law p [] (r ∷ rs) h k = absurd h
-each-proved law p (d ∷ ds) [] h k = absurd h
-each-proved law p (d ∷ ds) (r ∷ rs) h k =
-    ap (λ (b : Bool). b && is_accepted rs) (law r.sequents r.answers h.0.right (subst (λ (ss : List SequentTree). AllProvable ss) (sym h.0.sequents) k.0))
-    ∙ each-proved law p ds rs h.1 k.1
+-- right answers for what is provable are proofs, but where the search spent its budget
+each-spent : ProvableIsProved → (o : Options) (p : ProgramTree) (ds : List Debt) (rs : List Reported) → ArePaired (IsJudged o p) ds rs → EachProvable o.rounds ds → are_proved_or_spent rs ≡ true
+each-spent law o p [] [] h k = refl
+each-spent law o p [] (r ∷ rs) h k = absurd h
+each-spent law o p (d ∷ ds) [] h k = absurd h
+each-spent law o p (d ∷ ds) (r ∷ rs) h k =
+    ap (λ (b : Bool). b && are_proved_or_spent rs) (law o r.sequents r.answers h.0.right (subst (λ (ss : List SequentTree). AllProvable o.rounds ss) (sym h.0.sequents) k.0))
+    ∙ each-spent law o p ds rs h.1 k.1
 
--- the report on a program that owes what is provable has no Unproved
-pub provable-accepted : OwedIsOne → ProvableIsProved → (p : ProgramTree) (rs : List Reported) → Judges p rs → OwesProvable p → is_accepted rs ≡ true
-provable-accepted one law p rs judges owes = each-proved law p judges.owed rs judges.judged (subst (λ (ds : List Debt). EachProvable ds) (one p owes.owed judges.owed owes.owes judges.owes) owes.provable)
+-- the report on a program that owes what is provable has none Unproved but where the search spent its budget
+pub provable-spent : OwedIsOne → ProvableIsProved → (o : Options) (p : ProgramTree) (rs : List Reported) → Judges o p rs → OwesProvable o.rounds p → are_proved_or_spent rs ≡ true
+provable-spent one law o p rs judges owes =
+    each-spent law o p judges.owed rs judges.judged (subst (λ (ds : List Debt). EachProvable o.rounds ds) (one p owes.owed judges.owed owes.owes judges.owes) owes.provable)
 
 -- a program whose report has status 0 is sound
-pub right-sound : ProvedIsValid → OwedIsSound → (p : ProgramTree) (rs : List Reported) (status : ℕ) → IsAccepted p → Judges p rs → status ≡ (if is_accepted rs then 0 else 1) → status ≡ 0 → IsSound p
-right-sound proved sound p rs status ok judges is zero = sound p judges.owed ok judges.owes (each-valid proved p judges.owed rs judges.judged (accepted-by (is_accepted rs) (sym is ∙ zero)))
+pub right-sound : ProvedIsValid → OwedIsSound → (o : Options) (p : ProgramTree) (rs : List Reported) (status : ℕ) → IsAccepted p → Judges o p rs → status ≡ (if is_accepted rs then 0 else 1) → status ≡ 0 → IsSound p
+right-sound proved sound o p rs status ok judges is zero = sound p judges.owed ok judges.owes (each-valid proved o p judges.owed rs judges.judged (accepted-by (is_accepted rs) (sym is ∙ zero)))
 
 -- the headline, where a report with status 0 was made
 pub reports-verifies : (words : List (List ℕ)) (holds : List ℕ → Option (List ℕ)) (before after : Option (List ℕ)) (status : ℕ) → Reports words holds before after status → status ≡ 0 → Verifies words holds

@@ -23,7 +23,8 @@ use Rattle.jahob.specs.declared.error.Unreported.TheVariants as unreported
 use Rattle.jahob.specs.Refusals.{Spells, RefusedAt, IsMistyped, IsCircular, IsCrowded, method_text}
 use Rattle.jh_name.specs.declared.place.MethodId.{MethodId}
 use Rattle.jh_name.specs.declared.place.Place.{Place}
-use Rattle.jahob.specs.Verify.{Tells, IsRead, IsRefused, IsIll, IsLooped, IsOverfull, IsReport, Judges, OwesProvable, source_limit}
+use Rattle.jh_options.specs.declared.Options.{Options}
+use Rattle.jahob.specs.Verify.{Tells, options_of, are_proved_or_spent, IsRead, IsRefused, IsIll, IsLooped, IsOverfull, IsReport, Judges, OwesProvable, source_limit}
 use Rattle.jahob.specs.Run.{IsBegun, IsCalled, IsOverflow, IsSource, ending_of, ending_status}
 use Rattle.jahob.specs.Words.{source_of}
 use Rattle.jh_words.specs.CommandLine.{Job, Run, Verify, job_of, run, verify}
@@ -68,7 +69,7 @@ pub data IsRead_in (words : List (List ℕ)) (holds : List ℕ → Option (List 
 -- exact; a file fails only where its count rose; what is said where nothing is asked for, or a method isn't there, ends with the page that says what may
 -- be asked for. Want of memory is free.
 abbrev pub Comes : List (List ℕ) → FilesSeen → Finding → Type 0
-Comes words files (reported p rs) = IsRead words files.holds p × Judges p rs
+Comes words files (reported p rs) = (read : IsRead words files.holds p) × Judges (options_of read.job) p rs
 Comes words files (ran p text) = (begun : IsBegun words files.holds p) × Returns p begun.called.source.job.class begun.called.source.job.method begun.text begun.called.source.job.steps text
 Comes words files (unreturned p e) = (begun : IsBegun words files.holds p) × IsReason p begun.called.source.job.class begun.called.source.job.method begun.text begun.called.source.job.steps e
 Comes words files (no_job text) = (job_of words ≡ None) × IsUsage text
@@ -221,9 +222,17 @@ IsRunExcused files r status = IsExcused files r.file status ⊎ IsExcused files 
 abbrev pub IsRunStatus : ProgramTree → Run → List ℕ → ℕ → Type 0
 IsRunStatus p r text status = (status ≡ ending_status (ending_of p r.class r.method text r.steps)) ⊎ ((status ≡ 14) × IsOverflow p r.class r.method text r.steps)
 
+-- There are right answers for what a program owes of which one at least is Unproved, and each that is, because the search spent its
+-- budget.
+pub record IsCutShort (v : Verify) (p : ProgramTree) : Type 0 where
+  pub reported : List Reported
+  pub judges : Judges (options_of v) p reported
+  pub unproved : is_accepted reported ≡ false
+  pub spent : are_proved_or_spent reported ≡ true
+
 -- The answers by their conditions. Without a job it is usage, want of memory aside. Else, for what the file of the source holds where it tells: 4 where it is too long,
--- 3 where it is refused, breaks a type rule or has a cyclic variable. Of a report: 3 where a method has too many sequents, and else 0 or 1; 0 where
--- all that is owed is provable. Of a run: usage where there is no such method; 4 where the file of the heap is too long; and else the status of what the
+-- 3 where it is refused, breaks a type rule or has a cyclic variable. Of a report: 3 where a method has too many sequents, and else 0 or 1; where
+-- all that is owed is provable, 0, or 1 where the search spent its budget on each sequent that is unproved. Of a run: usage where there is no such method; 4 where the file of the heap is too long; and else the status of what the
 -- run comes to by the definition of runs, or 14 where something overflows in it.
 pub record Exact (words : List (List ℕ)) (files : FilesSeen) (status : ℕ) : Type 0 where
   pub usage : job_of words ≡ None → (status ≡ 2) ⊎ (status ≡ 5) ⊎ (status ≡ 6)
@@ -233,7 +242,7 @@ pub record Exact (words : List (List ℕ)) (files : FilesSeen) (status : ℕ) : 
   pub circular : (job : Job) (bytes name : List ℕ) → job_of words ≡ Some job → files.holds (source_of job) ≡ Some bytes → length bytes ≤ source_limit → IsCircular bytes name → (status ≡ 3) ⊎ IsExcused files (source_of job) status
   pub crowded : (v : Verify) (bytes class name : List ℕ) (n : ℕ) → job_of words ≡ Some (verify v) → files.holds v.file ≡ Some bytes → length bytes ≤ source_limit → IsCrowded bytes class name n → (status ≡ 3) ⊎ IsExcused files v.file status
   pub reported : (v : Verify) (bytes : List ℕ) (p : ProgramTree) → job_of words ≡ Some (verify v) → files.holds v.file ≡ Some bytes → length bytes ≤ source_limit → Spells bytes p → OwesLittle p → (status ≡ 0) ⊎ (status ≡ 1) ⊎ IsExcused files v.file status
-  pub proved : (v : Verify) (bytes : List ℕ) (p : ProgramTree) → job_of words ≡ Some (verify v) → files.holds v.file ≡ Some bytes → length bytes ≤ source_limit → Spells bytes p → OwesProvable p → (status ≡ 0) ⊎ IsExcused files v.file status
+  pub proved : (v : Verify) (bytes : List ℕ) (p : ProgramTree) → job_of words ≡ Some (verify v) → files.holds v.file ≡ Some bytes → length bytes ≤ source_limit → Spells bytes p → OwesProvable v.rounds p → (status ≡ 0) ⊎ ((status ≡ 1) × IsCutShort v p) ⊎ IsExcused files v.file status
   pub no_method : (r : Run) (bytes : List ℕ) (p : ProgramTree) → job_of words ≡ Some (run r) → files.holds r.file ≡ Some bytes → length bytes ≤ source_limit → Spells bytes p → has_method p r.class r.method ≡ false → (status ≡ 2) ⊎ IsExcused files r.file status
   pub heap_too_long : (r : Run) (bytes text : List ℕ) (p : ProgramTree) → job_of words ≡ Some (run r) → files.holds r.file ≡ Some bytes → length bytes ≤ source_limit → Spells bytes p → has_method p r.class r.method ≡ true →
       files.holds r.heap ≡ Some text → source_limit < length text → (status ≡ 4) ⊎ IsRunExcused files r status
@@ -267,11 +276,11 @@ IsUnreported p (unreported.Crowded text) = IsCrowd p (string_bytes text)
 IsUnreported p unreported.Memory = Unit {0}
 
 -- a reply is the report on a program, or says that a method has too many sequents, or is want of memory
-abbrev pub IsReply : ProgramTree → Reply → Type 0
-IsReply p (reply.Report text accepted) = IsReport p (string_bytes text) accepted
-IsReply p (reply.Line text status) = (status ≡ 3) × IsCrowd p (string_bytes text)
-IsReply p reply.NoMemory = Unit {0}
-IsReply p _ = ⊥
+abbrev pub IsReply : Options → ProgramTree → Reply → Type 0
+IsReply o p (reply.Report text accepted) = IsReport o p (string_bytes text) accepted
+IsReply o p (reply.Line text status) = (status ≡ 3) × IsCrowd p (string_bytes text)
+IsReply o p reply.NoMemory = Unit {0}
+IsReply o p _ = ⊥
 
 -- a text is the line for bytes that are refused, break a type rule or have a cyclic variable
 pub data IsRefusal (bytes text : List ℕ) : Type 0 where
@@ -286,8 +295,8 @@ FitsRefusal bytes reply.NoMemory = Unit {0}
 FitsRefusal bytes _ = ⊥
 
 -- A reply is right for the bytes of a source that is to be verified.
-abbrev pub FitsBytes : List ℕ → Reply → Type 0
-FitsBytes bytes answer = FitsRefusal bytes answer ⊎ ((p : ProgramTree) × Spells bytes p × IsReply p answer)
+abbrev pub FitsBytes : Options → List ℕ → Reply → Type 0
+FitsBytes o bytes answer = FitsRefusal bytes answer ⊎ ((p : ProgramTree) × Spells bytes p × IsReply o p answer)
 
 -- a reply says how a file fails
 abbrev pub IsFaultReply : List ℕ → FileFault → Reply → Type 0
@@ -303,8 +312,8 @@ FitsFault files file answer =
     ⊎ (answer ≡ reply.NoMemory)
 
 -- A reply is right for a file that is to be verified.
-abbrev pub FitsFile : FilesSeen → List ℕ → Reply → Type 0
-FitsFile files file answer = FitsFault files file answer ⊎ ((bytes : List ℕ) × Tells (files.holds file) bytes × (length bytes ≤ source_limit) × FitsBytes bytes answer)
+abbrev pub FitsFile : Options → FilesSeen → List ℕ → Reply → Type 0
+FitsFile o files file answer = FitsFault files file answer ⊎ ((bytes : List ℕ) × Tells (files.holds file) bytes × (length bytes ≤ source_limit) × FitsBytes o bytes answer)
 
 -- a reply is usage, or want of memory
 abbrev pub IsUsageReply : Reply → Type 0

@@ -1,5 +1,6 @@
 -- What `verify` reads, what it accepts and what it reports; and why a source is refused, by `verify` and by `run`.
-use Rattle.std.specs.Prelude.{ℕ, ◌≡◌, ◌≤◌, Bool, List, [], ◌∷◌, length, if◌then◌else◌, Option, Some, IfSome}
+use Rattle.std.specs.Prelude.{ℕ, ◌≡◌, ◌≤◌, Bool, true, List, [], ◌∷◌, length, if◌then◌else◌, Option, Some, IfSome}
+use Rattle.std.specs.List.{list_all}
 use Rattle.jh_files.specs.Contents.{Appends}
 use Rattle.jh_ast.specs.Programs.{ProgramTree}
 use Rattle.jh_name.specs.declared.place.Place.{Place}
@@ -8,6 +9,8 @@ use Rattle.jh_runs.specs.LoweredProgram.{IsSound}
 use Rattle.jh_sequents.specs.Pairs.{ArePaired}
 use Rattle.jh_obligations.specs.Owed.{Debt}
 use Rattle.jh_obligations.specs.Sources.{Owes}
+use Rattle.jh_options.specs.declared.Options.{Options}
+use Rattle.jh_prove.specs.Answers.{all_proved_or_spent}
 use Rattle.jh_prove.specs.Right.{AllRight, AllProvable}
 use Rattle.jh_report.specs.Report.{Reported, report_of, is_accepted}
 use Rattle.jahob.specs.Refusals.{Spells, RefusedAt, IsMistyped, IsCircular, IsCrowded, method_text}
@@ -22,34 +25,43 @@ source_limit = 1048576
 abbrev pub Tells : Option (List ℕ) → List ℕ → Type 0
 Tells held bytes = IfSome held (λ told. bytes ≡ told)
 
+-- how far the search for a proof of a sequent goes
+abbrev pub options_of : Verify → Options
+options_of v = record { rounds = v.rounds; leaves = v.leaves }
+
 -- What is reported of a method of a program: its class and its own name, its sequents, and right answers for them.
-pub record IsJudged (p : ProgramTree) (d : Debt) (r : Reported) : Type 0 where
+pub record IsJudged (o : Options) (p : ProgramTree) (d : Debt) (r : Reported) : Type 0 where
   pub class : r.class ≡ class_text p d.id.class
   pub name : r.name ≡ method_text p d.id
   pub sequents : r.sequents ≡ d.sequents
-  pub right : AllRight r.sequents r.answers
+  pub right : AllRight o r.sequents r.answers
 
 -- What is reported of a program: of each of its methods, in the order of the text, the sequents that it owes with right answers.
-pub record Judges (p : ProgramTree) (rs : List Reported) : Type 0 where
+pub record Judges (o : Options) (p : ProgramTree) (rs : List Reported) : Type 0 where
   pub owed : List Debt
   pub owes : Owes p owed
-  pub judged : ArePaired (IsJudged p) owed rs
+  pub judged : ArePaired (IsJudged o p) owed rs
 
--- Each sequent of each method is trivial, or has a query that is within the limits and true.
-abbrev pub EachProvable : List Debt → Type 0
-EachProvable [] = Unit {0}
-EachProvable (d ∷ ds) = AllProvable d.sequents × EachProvable ds
+-- Each sequent of each method is trivial, or has a query that is within the limits and true, or instances after so many rounds without a
+-- ground model.
+abbrev pub EachProvable : ℕ → List Debt → Type 0
+EachProvable rounds [] = Unit {0}
+EachProvable rounds (d ∷ ds) = AllProvable rounds d.sequents × EachProvable rounds ds
 
 -- The sequents that the methods of a program owe are all provable.
-pub record OwesProvable (p : ProgramTree) : Type 0 where
+pub record OwesProvable (rounds : ℕ) (p : ProgramTree) : Type 0 where
   pub owed : List Debt
   pub owes : Owes p owed
-  pub provable : EachProvable owed
+  pub provable : EachProvable rounds owed
+
+-- an answer is Unproved only where the search spent its budget
+abbrev pub are_proved_or_spent : List Reported → Bool
+are_proved_or_spent rs = list_all (λ r. all_proved_or_spent r.answers) rs
 
 -- a text is the report on a program, and says whether no answer is Unproved
-pub record IsReport (p : ProgramTree) (text : List ℕ) (accepted : Bool) : Type 0 where
+pub record IsReport (o : Options) (p : ProgramTree) (text : List ℕ) (accepted : Bool) : Type 0 where
   pub reported : List Reported
-  pub judges : Judges p reported
+  pub judges : Judges o p reported
   pub text_is : text ≡ report_of reported
   pub accepted_is : accepted ≡ is_accepted reported
 
@@ -106,12 +118,14 @@ pub record Verifies (words : List (List ℕ)) (holds : List ℕ → Option (List
   pub sound : IsSound program
 
 -- The words ask for the report on a file whose bytes spell one program, and the report on it was written, with right
--- answers for its sequents; the status is 0 where none is Unproved, and else 1. With 0 that program is sound.
+-- answers for its sequents; the status is 0 where none is Unproved, and else 1. With 0 that program is sound. Where all that it owes is
+-- provable, an answer is Unproved only where the search spent its budget.
 pub record Reports (words : List (List ℕ)) (holds : List ℕ → Option (List ℕ)) (before after : Option (List ℕ)) (status : ℕ) : Type 0 where
   pub program : ProgramTree
   pub read : IsRead words holds program
   pub reported : List Reported
-  pub judges : Judges program reported
+  pub judges : Judges (options_of read.job) program reported
+  pub spent : OwesProvable read.job.rounds program → are_proved_or_spent reported ≡ true
   pub written : Appends before (report_of reported) after
   pub status_is : status ≡ (if is_accepted reported then 0 else 1)
   pub sound : status ≡ 0 → IsSound program

@@ -1,7 +1,7 @@
 //! From the formulas of a program to the report on it.
 #![tactic(auto, unfolding(jh_ast::specs::Bare::class_part, jh_ast::specs::Bare::method_part, jh_ast::specs::Bare::program_tree))]
 
-ghost use Rattle.std.specs.Prelude.{◌≡◌, ◌++◌, ◌∷◌, [], List, length, string_bytes, IfErr, IfOk, OnOk};
+ghost use Rattle.std.specs.Prelude.{◌≡◌, ◌<◌, ◌++◌, ◌∷◌, [], List, length, string_bytes, IfErr, IfOk, OnOk};
 ghost use Rattle.jh_ast.specs.Bare.{program_tree};
 ghost use Rattle.jh_asserting.specs.Told.{AreFormulas};
 ghost use Rattle.jh_sequents.specs.Pairs.{ArePaired};
@@ -21,6 +21,7 @@ use crate::error::Unreported;
 use jh_ast::Program;
 use jh_name::{MethodId, NoMemory};
 use jh_obligations::{LogicError, obligations};
+use jh_options::Options;
 use jh_prove::{Answer, answers};
 use jh_report::Report;
 use jh_sequents::Sequents;
@@ -78,32 +79,43 @@ fn add_judged(
 /// Answers the sequents of a method, and adds them to a report.
 fn judge(
     alloc: Global,
+    options: Options,
     table: &mut Table,
     program: &Program,
     sequents: &Sequents,
     report: &mut Report,
 ) -> Result<(), NoMemory>
-    requires { (d : Debt) × Stand table.old sequents.now d }
-    ensures judged { OnOk result ((rs : List Reported) (d : Debt) → Stand table.old sequents.now d → Gathers report.old rs → (r : Reported) × IsJudged (program_tree program.now) d r × Gathers report.new (rs ++ r ∷ [])) }
+    requires leaves { 0 < options.leaves }
+    requires stands { (d : Debt) × Stand table.old sequents.now d }
+    ensures judged { OnOk result ((rs : List Reported) (d : Debt) → Stand table.old sequents.now d → Gathers report.old rs → (r : Reported) × IsJudged options (program_tree program.now) d r × Gathers report.new (rs ++ r ∷ [])) }
     ensures grows { Extends table.old table.new }
 {
-    let answers = answers(alloc, table, sequents)?;
+    let answers = answers(alloc, table, options, sequents)?;
     add_judged(table, program, sequents, answers.as_slice(), report)
 }
 
 /// The report on the methods of a program, but for its last line.
 fn judged(
     alloc: Global,
+    options: Options,
     table: &mut Table,
     program: &Program,
     sequents: &[Sequents],
 ) -> Result<Report, NoMemory>
-    requires { (ds : List Debt) × AllStand table.old sequents.now ds }
-    ensures { IfOk result (λ made. (ds : List Debt) → AllStand table.old sequents.now ds → (rs : List Reported) × ArePaired (IsJudged (program_tree program.now)) ds rs × Gathers made rs) }
+    requires leaves { 0 < options.leaves }
+    requires stand { (ds : List Debt) × AllStand table.old sequents.now ds }
+    ensures { IfOk result (λ made. (ds : List Debt) → AllStand table.old sequents.now ds → (rs : List Reported) × ArePaired (IsJudged options (program_tree program.now)) ds rs × Gathers made rs) }
 {
     let mut report = Report::new(alloc);
     for place in 0..sequents.len() {
-        judge(alloc, table, program, &sequents[place], &mut report)?;
+        judge(
+            alloc,
+            options,
+            table,
+            program,
+            &sequents[place],
+            &mut report,
+        )?;
     }
     Ok(report)
 }
@@ -111,14 +123,16 @@ fn judged(
 /// The report on a program whose methods owe some sequents.
 fn reported(
     alloc: Global,
+    options: Options,
     table: &mut Table,
     program: &Program,
     sequents: &[Sequents],
 ) -> Result<Verified, NoMemory>
-    requires { (ds : List Debt) × Owes (program_tree program.now) ds × AllStand table.old sequents.now ds }
-    ensures { IfOk result (λ verified. IsReport (program_tree program.now) (string_bytes verified.text) verified.accepted) }
+    requires leaves { 0 < options.leaves }
+    requires owes { (ds : List Debt) × Owes (program_tree program.now) ds × AllStand table.old sequents.now ds }
+    ensures { IfOk result (λ verified. IsReport options (program_tree program.now) (string_bytes verified.text) verified.accepted) }
 {
-    let report = judged(alloc, table, program, sequents)?;
+    let report = judged(alloc, options, table, program, sequents)?;
     let accepted = report.accepted();
     let text = report.finish()?;
     Ok(Verified { text, accepted })
@@ -152,11 +166,12 @@ fn why_unreported(alloc: Global, program: &Program, fault: LogicError) -> Unrepo
 }
 
 /// The report on a program.
-fn report_on(alloc: Global, parts: &mut Parts) -> Result<Verified, Unreported>
+fn report_on(alloc: Global, options: Options, parts: &mut Parts) -> Result<Verified, Unreported>
+    requires leaves { 0 < options.leaves }
     requires accepted { IsAccepted (program_tree parts.old.typed) }
     requires acyclic { IsAcyclic (program_tree parts.old.typed) }
     requires formulas { AreFormulas (program_tree parts.old.typed) parts.old.table parts.old.formulas.items }
-    ensures report { IfOk result (λ verified. IsReport (program_tree parts.old.typed) (string_bytes verified.text) verified.accepted) }
+    ensures report { IfOk result (λ verified. IsReport options (program_tree parts.old.typed) (string_bytes verified.text) verified.accepted) }
     ensures why { IfErr result (IsUnreported (program_tree parts.old.typed)) }
 {
     let formulas = parts.formulas.as_slice();
@@ -165,6 +180,7 @@ fn report_on(alloc: Global, parts: &mut Parts) -> Result<Verified, Unreported>
         Ok(sequents) => {
             let verified = reported(
                 alloc,
+                options,
                 &mut parts.table,
                 parts.typed.program(),
                 sequents.as_slice(),
@@ -175,12 +191,13 @@ fn report_on(alloc: Global, parts: &mut Parts) -> Result<Verified, Unreported>
 }
 
 /// The report on a program, and whether every sequent is proved.
-pub fn verify(alloc: Global, source: Unfolded) -> Result<Verified, Unreported>
+pub fn verify(alloc: Global, options: Options, source: Unfolded) -> Result<Verified, Unreported>
+    requires leaves { 0 < options.leaves }
     requires accepted { IsAccepted (program_tree source.program) }
     requires acyclic { IsAcyclic (program_tree source.program) }
-    ensures report { IfOk result (λ verified. IsReport (program_tree source.program) (string_bytes verified.text) verified.accepted) }
+    ensures report { IfOk result (λ verified. IsReport options (program_tree source.program) (string_bytes verified.text) verified.accepted) }
     ensures why { IfErr result (IsUnreported (program_tree source.program)) }
 {
     let mut parts = source.into_parts(alloc)?;
-    report_on(alloc, &mut parts)
+    report_on(alloc, options, &mut parts)
 }

@@ -34,7 +34,7 @@ fn reply_to<F: Files>(alloc: Global, words: &[String], files: &mut F) -> Reply
     ensures held { (name : List ℕ) → F.holds files.new name ≡ F.holds files.old name }
 {
     match read(alloc, words) {
-        Ok(Job::Verify(verify)) => verify_file(alloc, verify.file, files),
+        Ok(Job::Verify(verify)) => verify_file(alloc, verify.file, verify.options, files),
         Ok(Job::Run(run)) => run_file(alloc, &run, files),
         Err(error) => reply_to_words(error),
     }

@@ -1,2 +1,3 @@
 mod Spelling
 mod Joining
+mod Shown

@@ -1,3 +1,4 @@
 pub mod Digits
 pub mod Causes
 pub mod Pieces
+pub mod LocalCauses

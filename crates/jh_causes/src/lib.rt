@@ -1,10 +1,12 @@
-//! The line that says why a sequent is unproved.
+//! The lines that say why a sequent is unproved.
 #![tactic(auto)]
 
 mod digits;
+mod local;
 mod pieces;
 mod refuted;
 mod too_large;
 
+pub use local::{MOST_SHOWN, add_budget, add_open, add_too_many};
 pub use refuted::add_refuted;
 pub use too_large::add_too_large;

@@ -1,7 +1,7 @@
 -- What is asked of a sequent over nodes without labels.
 use Rattle.std.proofs.Common.{ℕ, List, [], ◌∷◌, map, Option, Some, None}
 use Rattle.jh_tree.specs.declared.mark.Mark.{Mark}
-use Rattle.jh_tree.specs.Tree.{ValueTree}
+use Rattle.jh_tree.specs.Tree.{ValueTree, of_truth}
 use Rattle.jh_table.specs.Entries.{Listing}
 use Rattle.jh_table.specs.Growth.{Extends}
 use Rattle.jh_table.specs.Nodes.{nodes}
@@ -17,6 +17,7 @@ use Rattle.jh_approx.specs.Regions.{unlabelled}
 use Rattle.jh_kept.specs.Asking.{HasFact, HasName, IsAsked}
 use Rattle.jh_prove.specs.Unlabelled.{IsUnlabelled, AreUnlabelled, AreBare, IsBareSequent}
 use Rattle.jh_prove.proofs.Bareness.{bare-facts, bare-grows, bare-is}
+use Rattle.jh_prove.proofs.Pairing.{paired-grows}
 
 -- the hypothesis without labels in its fact
 abbrev bare_hyp : HypTree → HypTree
@@ -66,4 +67,17 @@ module _ (t u : Listing) (g : Extends t u) where
     mark = h.mark;
     is_label = label-stays x.mark h.mark h.label;
     under = h.shown;
+  }
+
+  -- what is asked stays while the table grows
+  pub asked-stays : (xs : List NodeHyp) (label : Option ℕ) (facts : List ℕ) (goal : ℕ) (s : SequentTree) → IsAsked t xs label facts goal s → IsAsked u xs label facts goal s
+  asked-stays xs label facts goal s h = record {
+    stated = record {
+      said = paired-grows (HasFact (nodes t)) (HasFact (nodes u)) (λ n a e. g.nodes.keeps n (of_truth a.fact) e) facts s.hyps h.stated.said;
+      wanted = g.nodes.keeps goal (of_truth s.goal) h.stated.wanted;
+    };
+    called = paired-grows (HasName t) (HasName u) (λ x a n. record { mark = n.mark; is_label = label-stays x.mark n.mark n.is_label; is = n.is }) xs s.hyps h.called;
+    mark = h.mark;
+    is_label = label-stays label h.mark h.is_label;
+    under = h.under;
   }

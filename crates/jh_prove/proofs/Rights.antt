@@ -1,39 +1,60 @@
 -- Right answers.
-use Rattle.std.proofs.Common.{◌≡◌, refl, sym, ap, suc, length, subst, ℕ, ◌+◌, Bool, true, false, inl, inr, List, [], ◌∷◌, ◌++◌, take, slice_get, Some}
-use Rattle.jh_sequent.specs.Sequents.{SequentTree}
+use Rattle.std.proofs.Common.{◌≡◌, refl, sym, ap, ◌∙◌, suc, length, subst, ℕ, ◌+◌, ◌<◌, ◌≤◌, Bool, true, false, inl, inr, List, [], ◌∷◌, ◌++◌, take, map, slice_get, Some, arith}
+use Rattle.std.specs.Prelude.{not, ◌||◌, ◌&&◌, min}
+use Rattle.jh_tree.specs.Meaning.{Interp, truth}
+use Rattle.jh_compare.specs.Unmarked.{unmarked_formula}
+use Rattle.jh_sequent.specs.Sequents.{HypTree, SequentTree, AllTrue, IsValid}
 use Rattle.jh_split.specs.Laws.{AllValid}
+use Rattle.jh_steps.proofs.Unmarkings.{truth-unmarked}
 use Rattle.jh_trivial.specs.Laws.{TrivialIsValid}
 use Rattle.jh_trivial.specs.Trivial.{IsTrivial}
+use Rattle.jh_options.specs.declared.Options.{Options}
+use Rattle.jh_structure.specs.Literals.{LiteralTree}
+use Rattle.jh_models.specs.GroundModel.{IsGroundModel}
+use Rattle.jh_instances.specs.Instances.{IsFirstFree, instances}
+use Rattle.jh_instances.specs.Count.{count}
+use Rattle.jh_local.specs.Answers.{HasNoModel, literal_trees}
+use Rattle.jh_local.specs.Laws.{LocalProofIsValid}
+use Rattle.jh_local.specs.declared.answer.LocalCause.{LocalCause}
+use Rattle.jh_local.specs.declared.answer.LocalCause.TheVariants as local
+use Rattle.jh_local.specs.declared.answer.Searched.{Searched}
+use Rattle.jh_local.specs.declared.answer.Searched.TheVariants as searched
+use Rattle.jh_local_form.specs.Laws.{LocalHasShape, LocalIsValid}
 use Rattle.jh_prove.specs.declared.answer.Answer.{Answer}
 use Rattle.jh_prove.specs.declared.answer.Answer.TheVariants as answer
+use Rattle.jh_query.specs.Bare.{query_tree}
+use Rattle.jh_query.specs.Size.{capped}
 use Rattle.jh_query.specs.Tree.{QueryTree}
 use Rattle.jh_query.specs.Sizing.{sizing_of}
 use Rattle.jh_query.specs.Truth.{query_true}
+use Rattle.jh_query.specs.declared.query.Query.{Query}
 use Rattle.jh_approx.specs.Laws.{TrueQueryIsValid}
-use Rattle.jh_approx.specs.Regions.{bapa_of}
+use Rattle.jh_approx.specs.Regions.{bapa_of, unlabelled}
 use Rattle.jh_prove.specs.declared.answer.BapaCause.{BapaCause}
 use Rattle.jh_prove.specs.declared.answer.BapaCause.TheVariants as cause
-use Rattle.jh_prove.specs.Answers.{verdict_of, all_proved}
-use Rattle.jh_prove.specs.Right.{IsCause, IsDecided, IsProof, Right, AllRight, IsProvable, AllProvable}
+use Rattle.jh_prove.specs.declared.regions.Regional.{Regional}
+use Rattle.jh_prove.specs.declared.regions.Regional.TheVariants as regional
+use Rattle.jh_prove.specs.Answers.{verdict_of, all_proved, is_unproved, is_spent, all_proved_or_spent}
+use Rattle.jh_prove.specs.Right.{IsCause, IsRegional, IsProof, IsTried, IsLocalProof, Right, AllRight, IsProvable, AllProvable, local_form}
 use Rattle.jh_prove.proofs.Pairing.{take-next}
 
 -- there are as many right answers as sequents
-pub right-length : (ss : List SequentTree) (answers : List Answer) → AllRight ss answers → length ss ≡ length answers
-right-length [] [] h = refl
-right-length [] (a ∷ more) h = absurd h
-right-length (s ∷ ss) [] h = absurd h
-right-length (s ∷ ss) (a ∷ more) h = ap suc (right-length ss more h.1)
+pub right-length : (o : Options) (ss : List SequentTree) (answers : List Answer) → AllRight o ss answers → length ss ≡ length answers
+right-length o [] [] h = refl
+right-length o [] (a ∷ more) h = absurd h
+right-length o (s ∷ ss) [] h = absurd h
+right-length o (s ∷ ss) (a ∷ more) h = ap suc (right-length o ss more h.1)
 
 -- right answers for sequents, and for those behind them
-pub right-join : (ss ts : List SequentTree) (answers more : List Answer) → AllRight ss answers → AllRight ts more → AllRight (ss ++ ts) (answers ++ more)
-right-join [] ts [] more h k = k
-right-join [] ts (a ∷ answers) more h k = absurd h
-right-join (s ∷ ss) ts [] more h k = absurd h
-right-join (s ∷ ss) ts (a ∷ answers) more h k = (h.0, right-join ss ts answers more h.1 k)
+pub right-join : (o : Options) (ss ts : List SequentTree) (answers more : List Answer) → AllRight o ss answers → AllRight o ts more → AllRight o (ss ++ ts) (answers ++ more)
+right-join o [] ts [] more h k = k
+right-join o [] ts (a ∷ answers) more h k = absurd h
+right-join o (s ∷ ss) ts [] more h k = absurd h
+right-join o (s ∷ ss) ts (a ∷ answers) more h k = (h.0, right-join o ss ts answers more h.1 k)
 
 -- one more right answer for the first sequents
-pub right-next : (ss : List SequentTree) (answers : List Answer) (i : ℕ) (s : SequentTree) (a : Answer) → slice_get ss i ≡ Some s → AllRight (take i ss) answers → Right s a → AllRight (take (i + 1) ss) (answers ++ a ∷ [])
-right-next ss answers i s a at h right = subst (λ (xs : List SequentTree). AllRight xs (answers ++ a ∷ [])) (sym (take-next ss i s at)) (right-join (take i ss) (s ∷ []) answers (a ∷ []) h (right, tt))
+pub right-next : (o : Options) (ss : List SequentTree) (answers : List Answer) (i : ℕ) (s : SequentTree) (a : Answer) → slice_get ss i ≡ Some s → AllRight o (take i ss) answers → Right o s a → AllRight o (take (i + 1) ss) (answers ++ a ∷ [])
+right-next o ss answers i s a at h right = subst (λ (xs : List SequentTree). AllRight o xs (answers ++ a ∷ [])) (sym (take-next ss i s at)) (right-join o (take i ss) (s ∷ []) answers (a ∷ []) h (right, tt))
 
 wrong : false ≡ true → ⊥
 wrong e = cc
@@ -46,42 +67,102 @@ pub cause-refutes : (q : QueryTree) (bapa : BapaCause) → IsCause q bapa → Is
 cause-refutes q (cause.Refuted z) h proof = not-both (query_true q (sizing_of z)) (proof.holds (sizing_of z) h.1) h.2
 cause-refutes q (cause.TooLarge sets elements size) h proof = h.0 proof.within
 
--- where all answers are right and no answer is Unproved, all sequents are valid
-pub proved-valid : TrivialIsValid → TrueQueryIsValid → (ss : List SequentTree) (answers : List Answer) → AllRight ss answers → all_proved answers ≡ true → AllValid ss
-proved-valid law regions [] [] h proved = tt
-proved-valid law regions [] (a ∷ more) h proved = absurd h
-proved-valid law regions (s ∷ ss) [] h proved = absurd h
-proved-valid law regions (s ∷ ss) (answer.Trivial ∷ more) h proved = (law s h.0, proved-valid law regions ss more h.1 proved)
-proved-valid law regions (s ∷ ss) (answer.Bapa query ∷ more) h proved = (regions s (h.0.1.1.holds), proved-valid law regions ss more h.1 proved)
-proved-valid law regions (s ∷ ss) (answer.Unproved bapa ∷ more) h proved = absurd (wrong proved)
+-- a sequent is valid where it is valid without its labels
+hyps-bare : (hs : List HypTree) (m : Interp) → AllTrue hs m → AllTrue (map (λ (h : HypTree). record { name = h.name; fact = unmarked_formula h.fact }) hs) m
+hyps-bare [] m h = tt
+hyps-bare (x ∷ hs) m h = (truth-unmarked x.fact m [] ∙ h.0, hyps-bare hs m h.1)
 
-no-cause : (s : SequentTree) (bapa : BapaCause) → Right s (answer.Unproved bapa) → IsProvable s → ⊥
-no-cause s bapa h (inl trivial) = h.0 trivial
-no-cause s bapa h (inr proof) = cause-refutes (bapa_of s) bapa h.1 proof
+unlabelled-valid : (s : SequentTree) → IsValid (unlabelled s) → IsValid s
+unfolding unlabelled
+unlabelled-valid s v m u hyps = sym (truth-unmarked s.goal m []) ∙ v m u (hyps-bare s.hyps m hyps)
 
--- where all sequents are provable and all answers right, no answer is Unproved
-pub provable-proved : (ss : List SequentTree) (answers : List Answer) → AllRight ss answers → AllProvable ss → all_proved answers ≡ true
-provable-proved [] [] h all = refl
-provable-proved [] (a ∷ more) h all = absurd h
-provable-proved (s ∷ ss) [] h all = absurd h
-provable-proved (s ∷ ss) (answer.Trivial ∷ more) h all = provable-proved ss more h.1 all.1
-provable-proved (s ∷ ss) (answer.Bapa query ∷ more) h all = provable-proved ss more h.1 all.1
-provable-proved (s ∷ ss) (answer.Unproved bapa ∷ more) h all = absurd (no-cause s bapa h.0 all.0)
+module _ (law : TrivialIsValid) (regions : TrueQueryIsValid) (search : LocalProofIsValid) (shape : LocalHasShape) (local_law : LocalIsValid) where
+  local-valid : (rounds : ℕ) (s : SequentTree) → IsLocalProof rounds s → IsValid s
+  local-valid rounds s p =
+      unlabelled-valid s (local_law (unlabelled s) (search (local_form s) p.first rounds (shape (unlabelled s)) p.is_first.free p.refuted.none))
+
+  -- where all answers are right and no answer is Unproved, all sequents are valid
+  pub proved-valid : (o : Options) (ss : List SequentTree) (answers : List Answer) → AllRight o ss answers → all_proved answers ≡ true → AllValid ss
+  proved-valid o [] [] h proved = tt
+  proved-valid o [] (a ∷ more) h proved = absurd h
+  proved-valid o (s ∷ ss) [] h proved = absurd h
+  proved-valid o (s ∷ ss) (answer.Trivial ∷ more) h proved = (law s h.0, proved-valid o ss more h.1 proved)
+  proved-valid o (s ∷ ss) (answer.Bapa query ∷ more) h proved = (regions s h.0.2.holds, proved-valid o ss more h.1 proved)
+  proved-valid o (s ∷ ss) (answer.Local ∷ more) h proved = (local-valid o.rounds s h.0.2, proved-valid o ss more h.1 proved)
+  proved-valid o (s ∷ ss) (answer.Unproved bapa why ∷ more) h proved = absurd (wrong proved)
+
+-- constants have one first number
+first-one : (s : SequentTree) (j k : ℕ) → IsFirstFree s j → IsFirstFree s k → j ≡ k
+first-one s j k a b =
+    let there : j ≤ k = a.first k b.free in
+    let back : k ≤ j = b.first j a.free in
+    omega (arith, there, back)
+
+no-model : (s : SequentTree) (rounds j k : ℕ) (ls : List LiteralTree) → j ≡ k → IsGroundModel (instances s j rounds) ls → HasNoModel (instances s k rounds) → ⊥
+no-model s rounds j k ls same model none = none ls (subst (λ (n : ℕ). IsGroundModel (instances s n rounds) ls) same model)
+
+capped-many : (n m : ℕ) → n ≡ capped m → 100000 < n → 100000 < m
+capped-many n m e h = search (arith, e, h)
+
+too-many : (s : SequentTree) (rounds j k n : ℕ) → j ≡ k → n ≡ capped (count s j rounds) → 100000 < n → count s k rounds ≤ 100000 → ⊥
+too-many s rounds j k n same is many few =
+    let more : 100000 < count s j rounds = capped-many n (count s j rounds) is many in
+    let here : 100000 < count s k rounds = subst (λ (i : ℕ). 100000 < count s i rounds) same more in
+    omega (arith, here, few)
+
+-- a sequent that has a proof is Unproved only where the search spent its budget
+tried-spent : (o : Options) (s : SequentTree) (bapa : BapaCause) (why : LocalCause) → IsTried o s (searched.Unproved why) → IsLocalProof o.rounds s → is_spent (answer.Unproved bapa why) ≡ true
+tried-spent o s bapa (local.Open b) h p = absurd (no-model (local_form s) o.rounds h.first p.first (literal_trees b.literals) (first-one (local_form s) h.first p.first h.is_first p.is_first) h.right.1 p.refuted.none)
+tried-spent o s bapa (local.TooMany n) h p = absurd (too-many (local_form s) o.rounds h.first p.first n (first-one (local_form s) h.first p.first h.is_first p.is_first) h.right.0 h.right.1 p.refuted.few)
+tried-spent o s bapa (local.Budget closed) h p = refl
+
+provable-spent : (o : Options) (s : SequentTree) (bapa : BapaCause) (why : LocalCause) → Right o s (answer.Unproved bapa why) → IsProvable o.rounds s → is_spent (answer.Unproved bapa why) ≡ true
+provable-spent o s bapa why h (inl trivial) = absurd (h.0 trivial)
+provable-spent o s bapa why h (inr (inl proof)) = absurd (cause-refutes (bapa_of s) bapa h.1 proof)
+provable-spent o s bapa why h (inr (inr p)) = tried-spent o s bapa why h.2 p
+
+-- where all sequents are provable and all answers right, each answer is a proof, or the search spent its budget
+pub provable-proved : (o : Options) (ss : List SequentTree) (answers : List Answer) → AllRight o ss answers → AllProvable o.rounds ss → all_proved_or_spent answers ≡ true
+provable-proved o [] [] h all = refl
+provable-proved o [] (a ∷ more) h all = absurd h
+provable-proved o (s ∷ ss) [] h all = absurd h
+provable-proved o (s ∷ ss) (answer.Trivial ∷ more) h all = provable-proved o ss more h.1 all.1
+provable-proved o (s ∷ ss) (answer.Bapa query ∷ more) h all = provable-proved o ss more h.1 all.1
+provable-proved o (s ∷ ss) (answer.Local ∷ more) h all = provable-proved o ss more h.1 all.1
+provable-proved o (s ∷ ss) (answer.Unproved bapa why ∷ more) h all = λ i. provable-spent o s bapa why h.0 all.0 i && provable-proved o ss more h.1 all.1 i
+
+spent-not : (o : Options) (s : SequentTree) (bapa : BapaCause) (why : LocalCause) → Right o s (answer.Unproved bapa why) → IsLocalProof o.rounds s → is_spent (answer.Unproved bapa why) ≡ false → ⊥
+spent-not o s bapa why h p not_spent = not-both (is_spent (answer.Unproved bapa why)) (tried-spent o s bapa why h.2 p) not_spent
 
 -- right answers for one sequent have one verdict
-pub one-verdict : (s : SequentTree) (a b : Answer) → Right s a → Right s b → verdict_of a ≡ verdict_of b
-one-verdict s answer.Trivial answer.Trivial h k = refl
-one-verdict s answer.Trivial (answer.Bapa p) h k = absurd (k.0 h)
-one-verdict s answer.Trivial (answer.Unproved c) h k = absurd (k.0 h)
-one-verdict s (answer.Bapa q) answer.Trivial h k = absurd (h.0 k)
-one-verdict s (answer.Bapa q) (answer.Bapa p) h k = refl
-one-verdict s (answer.Bapa q) (answer.Unproved c) h k = absurd (cause-refutes (bapa_of s) c k.1 h.1.1)
-one-verdict s (answer.Unproved c) answer.Trivial h k = absurd (h.0 k)
-one-verdict s (answer.Unproved c) (answer.Bapa p) h k = absurd (cause-refutes (bapa_of s) c h.1 k.1.1)
-one-verdict s (answer.Unproved c) (answer.Unproved d) h k = refl
+pub one-verdict : (o : Options) (s : SequentTree) (a b : Answer) → Right o s a → Right o s b → is_spent a ≡ false → is_spent b ≡ false → verdict_of a ≡ verdict_of b
+one-verdict o s answer.Trivial answer.Trivial h k m n = refl
+one-verdict o s answer.Trivial (answer.Bapa p) h k m n = absurd (k.0 h)
+one-verdict o s answer.Trivial answer.Local h k m n = absurd (k.0 h)
+one-verdict o s answer.Trivial (answer.Unproved c d) h k m n = absurd (k.0 h)
+one-verdict o s (answer.Bapa q) answer.Trivial h k m n = absurd (h.0 k)
+one-verdict o s (answer.Bapa q) (answer.Bapa p) h k m n = refl
+one-verdict o s (answer.Bapa q) answer.Local h k m n = absurd (k.1 h.2)
+one-verdict o s (answer.Bapa q) (answer.Unproved c d) h k m n = absurd (cause-refutes (bapa_of s) c k.1 h.2)
+one-verdict o s answer.Local answer.Trivial h k m n = absurd (h.0 k)
+one-verdict o s answer.Local (answer.Bapa p) h k m n = absurd (h.1 k.2)
+one-verdict o s answer.Local answer.Local h k m n = refl
+one-verdict o s answer.Local (answer.Unproved c d) h k m n = absurd (spent-not o s c d k h.2 n)
+one-verdict o s (answer.Unproved c d) answer.Trivial h k m n = absurd (h.0 k)
+one-verdict o s (answer.Unproved c d) (answer.Bapa p) h k m n = absurd (cause-refutes (bapa_of s) c h.1 k.2)
+one-verdict o s (answer.Unproved c d) answer.Local h k m n = absurd (spent-not o s c d h k.2 m)
+one-verdict o s (answer.Unproved c d) (answer.Unproved e f) h k m n = refl
 
--- what is said of a sequent that isn't trivial
-pub decided-right : (s : SequentTree) (a : Answer) → (IsTrivial s → ⊥) → IsDecided (bapa_of s) a → Right s a
-decided-right s answer.Trivial not h = absurd h
-decided-right s (answer.Bapa query) not h = (not, h)
-decided-right s (answer.Unproved bapa) not h = (not, h)
+-- what is said of a sequent that isn't trivial and that regions don't prove
+pub local-right : (o : Options) (s : SequentTree) (bapa : BapaCause) → (IsTrivial s → ⊥) → IsCause (bapa_of s) bapa → IsTried o s searched.Proved → Right o s answer.Local
+local-right o s bapa not_trivial why tried = (not_trivial, (λ proof. cause-refutes (bapa_of s) bapa why proof), record { first = tried.first; is_first = tried.is_first; refuted = tried.right })
+
+-- what regions and the search said, by the answer in hand
+pub regional-proof : (q : QueryTree) (a : Regional) (query : Query) → a ≡ regional.Proved query → IsRegional q a → (query_tree query ≡ q) × IsProof q
+regional-proof q a query is h = subst (λ (b : Regional). IsRegional q b) is h
+
+pub regional-cause : (q : QueryTree) (a : Regional) (bapa : BapaCause) → a ≡ regional.Unproved bapa → IsRegional q a → IsCause q bapa
+regional-cause q a bapa is h = subst (λ (b : Regional). IsRegional q b) is h
+
+pub tried-as : (o : Options) (s : SequentTree) (a b : Searched) → a ≡ b → IsTried o s a → IsTried o s b
+tried-as o s a b is h = subst (λ (c : Searched). IsTried o s c) is h

@@ -1,18 +1,27 @@
 -- Which answers are right for sequents.
-use Rattle.std.specs.Prelude.{◌≡◌, ◌⊎◌, false, List, [], ◌∷◌}
+use Rattle.std.specs.Prelude.{◌≡◌, ◌⊎◌, ℕ, false, List, [], ◌∷◌}
 use Rattle.jh_query.specs.Tree.{QueryTree}
 use Rattle.jh_query.specs.Bare.{query_tree}
 use Rattle.jh_query.specs.Sizing.{sizing_of}
 use Rattle.jh_query.specs.Size.{query_size}
 use Rattle.jh_query.specs.Truth.{Fits, IsTrueQuery, query_true}
 use Rattle.jh_bapa.specs.Within.{IsWithin}
-use Rattle.jh_approx.specs.Regions.{bapa_of}
+use Rattle.jh_approx.specs.Regions.{bapa_of, unlabelled}
 use Rattle.jh_sequent.specs.Sequents.{SequentTree}
 use Rattle.jh_trivial.specs.Trivial.{IsTrivial}
+use Rattle.jh_instances.specs.Instances.{IsFirstFree, instances}
+use Rattle.jh_instances.specs.Count.{count}
+use Rattle.jh_local.specs.Answers.{AreRefuted, IsSearched}
+use Rattle.jh_local.specs.declared.answer.Searched.{Searched}
+use Rattle.jh_local.specs.declared.answer.Searched.TheVariants as searched
+use Rattle.jh_local_form.specs.LocalOf.{local_of}
+use Rattle.jh_options.specs.declared.Options.{Options}
 use Rattle.jh_prove.specs.declared.answer.Answer.{Answer}
 use Rattle.jh_prove.specs.declared.answer.Answer.TheVariants as answer
 use Rattle.jh_prove.specs.declared.answer.BapaCause.{BapaCause}
 use Rattle.jh_prove.specs.declared.answer.BapaCause.TheVariants as cause
+use Rattle.jh_prove.specs.declared.regions.Regional.{Regional}
+use Rattle.jh_prove.specs.declared.regions.Regional.TheVariants as regional
 
 -- Why a query doesn't prove its sequent: it is within the limits, and fitting sizes make it false; or one of its three numbers is
 -- beyond its limit.
@@ -25,30 +34,46 @@ pub record IsProof (q : QueryTree) : Type 0 where
   pub within : IsWithin q
   pub holds : IsTrueQuery q
 
--- what is said of a sequent that isn't trivial and has this query
-abbrev pub IsDecided : QueryTree → Answer → Type 0
-IsDecided q answer.Trivial = ⊥
-IsDecided q (answer.Bapa query) = (query_tree query ≡ q) × IsProof q
-IsDecided q (answer.Unproved bapa) = IsCause q bapa
+-- what regions say of a sequent with this query
+abbrev pub IsRegional : QueryTree → Regional → Type 0
+IsRegional q (regional.Proved query) = (query_tree query ≡ q) × IsProof q
+IsRegional q (regional.Unproved bapa) = IsCause q bapa
 
--- An answer is right for a sequent: Trivial exactly where it is trivial, else Bapa, with its query, where that is within the limits
--- and true, and else Unproved, with why its query is no proof.
-abbrev pub Right : SequentTree → Answer → Type 0
-Right s answer.Trivial = IsTrivial s
-Right s (answer.Bapa query) = (IsTrivial s → ⊥) × IsDecided (bapa_of s) (answer.Bapa query)
-Right s (answer.Unproved bapa) = (IsTrivial s → ⊥) × IsDecided (bapa_of s) (answer.Unproved bapa)
+-- what is searched for a sequent: its local form, without labels
+abbrev pub local_form : SequentTree → SequentTree
+local_form s = local_of (unlabelled s)
+
+-- what the search for a ground model says of a sequent
+abbrev pub IsTried : Options → SequentTree → Searched → Type 0
+IsTried o s a = IsSearched (local_form s) o.rounds o.leaves a
+
+-- Of the local form of a sequent there can be at most 100,000 instances after so many rounds, and they have no ground model.
+pub record IsLocalProof (rounds : ℕ) (s : SequentTree) : Type 0 where
+  pub first : ℕ
+  pub is_first : IsFirstFree (local_form s) first
+  pub refuted : AreRefuted (instances (local_form s) first rounds) (count (local_form s) first rounds)
+
+-- An answer is right for a sequent, by these options: Trivial exactly where it is trivial; else Bapa, with its query, where that is
+-- within the limits and true; else Local where its instances have no ground model; and else Unproved, with why its query is no proof
+-- and why the search for a ground model is none.
+abbrev pub Right : Options → SequentTree → Answer → Type 0
+Right o s answer.Trivial = IsTrivial s
+Right o s (answer.Bapa query) = (IsTrivial s → ⊥) × (query_tree query ≡ bapa_of s) × IsProof (bapa_of s)
+Right o s answer.Local = (IsTrivial s → ⊥) × (IsProof (bapa_of s) → ⊥) × IsLocalProof o.rounds s
+Right o s (answer.Unproved bapa local) = (IsTrivial s → ⊥) × IsCause (bapa_of s) bapa × IsTried o s (searched.Unproved local)
 
 -- right answers for sequents, one for each, in the same order
-abbrev pub AllRight : List SequentTree → List Answer → Type 0
-AllRight [] [] = Unit {0}
-AllRight (s ∷ ss) (a ∷ more) = Right s a × AllRight ss more
-AllRight [] (a ∷ more) = ⊥
-AllRight (s ∷ ss) [] = ⊥
+abbrev pub AllRight : Options → List SequentTree → List Answer → Type 0
+AllRight o [] [] = Unit {0}
+AllRight o (s ∷ ss) (a ∷ more) = Right o s a × AllRight o ss more
+AllRight o [] (a ∷ more) = ⊥
+AllRight o (s ∷ ss) [] = ⊥
 
--- a sequent that is trivial, or whose query is within the limits and true
-abbrev pub IsProvable : SequentTree → Type 0
-IsProvable s = IsTrivial s ⊎ IsProof (bapa_of s)
+-- a sequent that is trivial, or whose query is within the limits and true, or of whose instances after so many rounds there can be at most
+-- 100,000, and they have no ground model
+abbrev pub IsProvable : ℕ → SequentTree → Type 0
+IsProvable rounds s = IsTrivial s ⊎ (IsProof (bapa_of s) ⊎ IsLocalProof rounds s)
 
-abbrev pub AllProvable : List SequentTree → Type 0
-AllProvable [] = Unit {0}
-AllProvable (s ∷ ss) = IsProvable s × AllProvable ss
+abbrev pub AllProvable : ℕ → List SequentTree → Type 0
+AllProvable rounds [] = Unit {0}
+AllProvable rounds (s ∷ ss) = IsProvable rounds s × AllProvable rounds ss

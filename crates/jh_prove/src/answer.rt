@@ -1,6 +1,7 @@
 ghost use Rattle.std.specs.Prelude.{◌≡◌, if◌then◌else◌};
 ghost use Rattle.jh_prove.specs.Answers as spec;
 
+use jh_local::LocalCause;
 use jh_query::{Query, Sizes};
 
 /// Why regions don't prove a sequent.
@@ -23,8 +24,10 @@ pub enum Answer {
     Trivial,
     /// This is its query, which is true.
     Bapa(Query),
-    /// No proof was found.
-    Unproved { bapa: BapaCause },
+    /// The instances of its local form have no ground model.
+    Local,
+    /// No proof was found: why not by regions, and why not by the search for a ground model.
+    Unproved { bapa: BapaCause, local: LocalCause },
 }
 
 /// What is said of a sequent, in one word.
@@ -32,6 +35,7 @@ pub enum Answer {
 pub enum Verdict {
     Trivial,
     Bapa,
+    Local,
     Unproved,
 }
 
@@ -42,6 +46,7 @@ pub fn verdict_of(answer: &Answer) -> Verdict
     match answer {
         Answer::Trivial => Verdict::Trivial,
         Answer::Bapa(_) => Verdict::Bapa,
+        Answer::Local => Verdict::Local,
         Answer::Unproved { .. } => Verdict::Unproved,
     }
 }

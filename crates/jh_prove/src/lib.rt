@@ -7,6 +7,7 @@ mod laws;
 mod memo;
 mod queries;
 mod regions;
+mod searching;
 mod unlabelling;
 
 pub use answer::{Answer, BapaCause, Verdict, is_unproved, status_of, verdict_of};

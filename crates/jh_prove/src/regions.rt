@@ -7,9 +7,9 @@ ghost use Rattle.jh_query.specs.Named.{IsWellFormed};
 ghost use Rattle.jh_sequent.specs.Sequents.{SequentTree};
 ghost use Rattle.jh_table.specs.Growth.{Extends};
 ghost use Rattle.jh_table.specs.Nodes.{nodes};
-ghost use Rattle.jh_prove.specs.Right.{IsDecided};
+ghost use Rattle.jh_prove.specs.Right.{IsRegional};
 
-use crate::answer::{Answer, BapaCause};
+use crate::answer::BapaCause;
 use jh_approx::queries_are_well_formed;
 use jh_bapa::{Decided, decide};
 use jh_kept::kept_facts;
@@ -32,27 +32,30 @@ pub(crate) struct Asked<'a> {
     pub(crate) goal: usize,
 }
 
+/// What regions say of a sequent: this is its query, which is true; or why it is no proof.
+#[derive(Drop)]
+pub(crate) enum Regional {
+    Proved(Query),
+    Unproved(BapaCause),
+}
+
 /// What regions say of a sequent with this query.
-fn answer_of(alloc: Global, query: Query) -> Result<Answer, NoMemory>
+fn answer_of(alloc: Global, query: Query) -> Result<Regional, NoMemory>
     requires { IsWellFormed (query_tree query) }
-    ensures { IfOk result (IsDecided (query_tree query)) }
+    ensures { IfOk result (IsRegional (query_tree query)) }
 {
     match decide(alloc, &query) {
-        Decided::Valid => Ok(Answer::Bapa(query)),
-        Decided::Refuted(sizes) => Ok(Answer::Unproved {
-            bapa: BapaCause::Refuted(sizes),
-        }),
+        Decided::Valid => Ok(Regional::Proved(query)),
+        Decided::Refuted(sizes) => Ok(Regional::Unproved(BapaCause::Refuted(sizes))),
         Decided::TooLarge {
             sets,
             elements,
             size,
-        } => Ok(Answer::Unproved {
-            bapa: BapaCause::TooLarge {
-                sets,
-                elements,
-                size,
-            },
-        }),
+        } => Ok(Regional::Unproved(BapaCause::TooLarge {
+            sets,
+            elements,
+            size,
+        })),
         Decided::Memory => Err(NoMemory),
     }
 }
@@ -89,10 +92,10 @@ pub(crate) fn by_regions(
     table: &mut Table,
     seen: &mut Memo,
     asked: Asked<'_>,
-) -> Result<Answer, NoMemory>
+) -> Result<Regional, NoMemory>
     requires sequent { (s : SequentTree) × IsAsked table.old asked.hyps.now asked.label asked.facts.now asked.goal (unlabelled s) }
     requires seen { IsRight (nodes table.old) seen.old }
-    ensures decided { IfOk result (λ made. (s : SequentTree) → IsAsked table.old asked.entry.hyps.now asked.entry.label asked.entry.facts.now asked.entry.goal (unlabelled s) → IsDecided (bapa_of s) made) }
+    ensures decided { IfOk result (λ made. (s : SequentTree) → IsAsked table.old asked.entry.hyps.now asked.entry.label asked.entry.facts.now asked.entry.goal (unlabelled s) → IsRegional (bapa_of s) made) }
     ensures seen { OnOk result (IsRight (nodes table.new) seen.new) }
     ensures grows { Extends table.old table.new }
 {

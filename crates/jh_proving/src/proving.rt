@@ -1,22 +1,25 @@
-ghost use Rattle.std.specs.Prelude.{IfOk};
+ghost use Rattle.std.specs.Prelude.{◌<◌, IfOk};
 ghost use Rattle.jh_sequent.specs.Sequents.{sequent_tree};
 ghost use Rattle.jh_prove.specs.Right.{Right};
 
 use crate::entering::enter_sequent;
 use jh_name::NoMemory;
+use jh_options::Options;
 use jh_prove::{Answer, answers};
 use jh_sequent::Sequent;
 use jh_table::Table;
 use std::alloc::Global;
 
-/// What is said of a sequent: at sight, or else by regions. The answer is want of memory where a formula nests deeper than a
+/// What is said of a sequent: at sight, or else by regions, or else by the search for a ground model of the instances of its local
+/// form. The answer is want of memory where a formula nests deeper than a
 /// table takes in, and where the query has more than 1,048,576 parts.
-pub fn prove(alloc: Global, sequent: &Sequent) -> Result<Answer, NoMemory>
-    ensures { IfOk result (Right (sequent_tree sequent.now)) }
+pub fn prove(alloc: Global, sequent: &Sequent, options: Options) -> Result<Answer, NoMemory>
+    requires { 0 < options.leaves }
+    ensures { IfOk result (Right options (sequent_tree sequent.now)) }
 {
     let mut table = Table::new(alloc)?;
     let entered = enter_sequent(alloc, &mut table, sequent)?;
-    let mut made = answers(alloc, &mut table, &entered)?;
+    let mut made = answers(alloc, &mut table, options, &entered)?;
     match made.pop() {
         Some(answer) => Ok(answer),
         None => Err(NoMemory),

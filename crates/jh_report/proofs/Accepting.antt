@@ -13,7 +13,8 @@ proofs-count-nothing : (answers : List Answer) → list_all (λ a. eqb (cond (is
 proofs-count-nothing [] = refl
 proofs-count-nothing (answer.Trivial ∷ answers) = proofs-count-nothing answers
 proofs-count-nothing (answer.Bapa q ∷ answers) = proofs-count-nothing answers
-proofs-count-nothing (answer.Unproved bapa ∷ answers) = refl
+proofs-count-nothing (answer.Local ∷ answers) = proofs-count-nothing answers
+proofs-count-nothing (answer.Unproved bapa why ∷ answers) = refl
 
 none-unproved : (answers : List Answer) → nat_eq (count_by is_unproved answers) 0 ≡ all_proved answers
 none-unproved answers = sum_by-zero (λ a. cond (is_unproved a) 1 0) answers ∙ proofs-count-nothing answers

@@ -14,6 +14,10 @@ use Rattle.jh_prove.specs.declared.answer.BapaCause.TheVariants as cause
 use Rattle.jh_prove.specs.declared.answer.Verdict.{Verdict}
 use Rattle.jh_prove.specs.declared.answer.Verdict.TheVariants as verdict
 use Rattle.jh_causes.specs.Causes.{refuted_line, too_large_line}
+use Rattle.jh_causes.specs.LocalCauses.{open_line, too_many_line, budget_line}
+use Rattle.jh_local.specs.Answers.{literal_trees}
+use Rattle.jh_local.specs.declared.answer.LocalCause.{LocalCause}
+use Rattle.jh_local.specs.declared.answer.LocalCause.TheVariants as local
 
 abbrev pub kind_word : MarkKind → List ℕ
 kind_word kind.Null = codes "null"
@@ -30,6 +34,7 @@ kind_word kind.Fact = codes "note"
 abbrev pub verdict_word : Verdict → List ℕ
 verdict_word verdict.Trivial = codes "trivial"
 verdict_word verdict.Bapa = codes "bapa"
+verdict_word verdict.Local = codes "local"
 verdict_word verdict.Unproved = codes "unproved"
 
 -- why regions don't prove a sequent
@@ -37,9 +42,18 @@ abbrev pub cause_line : BapaCause → List ℕ
 cause_line (cause.Refuted z) = refuted_line z
 cause_line (cause.TooLarge sets elements size) = too_large_line sets elements size
 
--- the line below that of an unproved sequent
+-- why the search for a ground model doesn't
+abbrev pub local_line : LocalCause → List ℕ
+local_line (local.Open branch) = open_line (literal_trees branch.literals)
+local_line (local.TooMany n) = too_many_line n
+local_line (local.Budget closed) = budget_line (length closed)
+
+abbrev pub cause_lines : BapaCause → LocalCause → List ℕ
+cause_lines bapa why = cause_line bapa ++ local_line why
+
+-- the two lines below that of an unproved sequent
 abbrev pub cause_of : Answer → List ℕ
-cause_of (answer.Unproved bapa) = cause_line bapa
+cause_of (answer.Unproved bapa why) = cause_lines bapa why
 cause_of a = []
 
 -- the line of a sequent: class and name of its method, its number there, the kind and the place of its label, and the verdict
@@ -48,7 +62,7 @@ line_of class name n mark v =
     class ++ (codes "." ++ (name ++ (codes " " ++ (decimal n ++ (codes " " ++ (kind_word mark.kind
     ++ (codes " " ++ (decimal mark.place.line ++ (codes ":" ++ (decimal mark.place.column ++ (codes " " ++ (verdict_word v ++ 10 ∷ []))))))))))))
 
--- what is said of a sequent: its line, and the cause where it is unproved
+-- what is said of a sequent: its line, and the causes where it is unproved
 unfoldable pub lines_for : List ℕ → List ℕ → ℕ → Mark → Answer → List ℕ
 lines_for class name n mark a = line_of class name n mark (verdict_of a) ++ cause_of a
 

@@ -5,7 +5,8 @@ ghost use Rattle.jh_split.specs.Split.{mark_of};
 ghost use Rattle.jh_sequents.specs.Standing.{AreSequents, IsLabel};
 ghost use Rattle.jh_report.specs.Report as spec;
 
-use jh_causes::{add_refuted, add_too_large};
+use jh_causes::{add_budget, add_open, add_refuted, add_too_large, add_too_many};
+use jh_local::LocalCause;
 use jh_name::{NoMemory, Place};
 use jh_prove::{Answer, BapaCause, Verdict, verdict_of};
 use jh_sequents::Sequents;
@@ -37,6 +38,7 @@ fn verdict_word(verdict: Verdict) -> &'static str
     match verdict {
         Verdict::Trivial => "trivial",
         Verdict::Bapa => "bapa",
+        Verdict::Local => "local",
         Verdict::Unproved => "unproved",
     }
 }
@@ -106,12 +108,36 @@ fn add_cause_line(alloc: Global, text: &mut String, cause: &BapaCause) -> Result
     }
 }
 
-/// Adds the line below that of an unproved sequent.
+/// Adds the line that says why the search for a ground model doesn't prove a sequent.
+fn add_local_line(alloc: Global, text: &mut String, cause: &LocalCause) -> Result<(), NoMemory>
+    ensures { OnOk result (string_bytes text.new ≡ string_bytes text.old ++ spec.local_line cause.now) }
+{
+    match cause {
+        LocalCause::Open(branch) => add_open(alloc, text, branch.literals.items()),
+        LocalCause::TooMany(count) => add_too_many(text, *count),
+        LocalCause::Budget(closed) => add_budget(text, closed.items().len()),
+    }
+}
+
+/// Adds both lines.
+fn add_cause_lines(
+    alloc: Global,
+    text: &mut String,
+    bapa: &BapaCause,
+    local: &LocalCause,
+) -> Result<(), NoMemory>
+    ensures { OnOk result (string_bytes text.new ≡ string_bytes text.old ++ spec.cause_lines bapa.now local.now) }
+{
+    add_cause_line(alloc, text, bapa)?;
+    add_local_line(alloc, text, local)
+}
+
+/// Adds the lines below that of an unproved sequent.
 fn add_cause(alloc: Global, text: &mut String, answer: &Answer) -> Result<(), NoMemory>
     ensures { OnOk result (string_bytes text.new ≡ string_bytes text.old ++ spec.cause_of answer.now) }
 {
     match answer {
-        Answer::Unproved { bapa } => add_cause_line(alloc, text, bapa),
+        Answer::Unproved { bapa, local } => add_cause_lines(alloc, text, bapa, local),
         _ => Ok(()),
     }
 }

@@ -22,7 +22,7 @@ usage_page =
     ++ (codes "  --leaves k   How many branches a proof may have: 1 to 100000 [default: 5000]\n"
     ++ (codes "  --steps n    How many steps a run may take: 0 to 1000000 [default: 10000]\n"
     ++ (codes "  --           Ends the options: a word behind it may begin with -\n"
-    ++ (codes "The first three are read, and change nothing yet.\n"
+    ++ (codes "The number of workers is read, and changes nothing yet.\n"
     ++ (codes "\n"
     ++ (codes "Status: 0 all is proved, or the run returned; 1 not all is proved; 2 the words\n"
     ++ (codes "ask for nothing, or there is no such method; 3 the program is refused; 4 a file\n"

@@ -33,7 +33,7 @@ Options, anywhere behind the command, as --steps 5 or --steps=5:
   --leaves k   How many branches a proof may have: 1 to 100000 [default: 5000]
   --steps n    How many steps a run may take: 0 to 1000000 [default: 10000]
   --           Ends the options: a word behind it may begin with -
-The first three are read, and change nothing yet.
+The number of workers is read, and changes nothing yet.
 
 Status: 0 all is proved, or the run returned; 1 not all is proved; 2 the words
 ask for nothing, or there is no such method; 3 the program is refused; 4 a file

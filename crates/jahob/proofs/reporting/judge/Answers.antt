@@ -10,15 +10,15 @@ use Rattle.jahob.proofs.reporting.judge.Goals as goal
 -- src/reporting.rt
 pub add_judged-requires-clause-stands : goal.add_judged-requires-clause-stands
 add_judged-requires-clause-stands c =
-    (c.requires.0, stand-stays c.args.table.now c.answers.new.table c.answers.ensures.grows c.args.sequents.now c.requires.0 c.requires.1)
+    (c.requires.stands.0, stand-stays c.args.table.now c.answers.new.table c.answers.ensures.grows c.args.sequents.now c.requires.stands.0 c.requires.stands.1)
 
 -- src/reporting.rt
 pub add_judged-requires-clause-each : goal.add_judged-requires-clause-each
 add_judged-requires-clause-each c =
     let x = c.args.sequents.now in
-    let ss = c.requires.0.sequents in
-    paired-length (IsSequent c.args.table.now x.hyps x.method) x.sequents.items ss c.requires.1.1
-    ∙ right-length ss c.in_ok-answers.answers.items (c.in_ok-answers.ensures.right ss c.requires.1.1)
+    let ss = c.requires.stands.0.sequents in
+    paired-length (IsSequent c.args.table.now x.hyps x.method) x.sequents.items ss c.requires.stands.1.1
+    ∙ right-length c.args.options ss c.in_ok-answers.answers.items (c.in_ok-answers.ensures.right ss c.requires.stands.1.1)
     ∙ ap (λ (us : List Answer). length us) (sym c.as_slice.ensures.value)
 
 -- src/reporting.rt
@@ -29,7 +29,7 @@ returns-clause-judged c =
     on_ok_weaker c.add_judged.result
     (λ h rs d stands gathers. (
       _,
-      record { class = refl; name = refl; sequents = refl; right = subst (λ (us : List Answer). AllRight d.sequents us) (sym c.as_slice.ensures.value) (c.in_ok-answers.ensures.right d.sequents stands.1) },
+      record { class = refl; name = refl; sequents = refl; right = subst (λ (us : List Answer). AllRight c.args.options d.sequents us) (sym c.as_slice.ensures.value) (c.in_ok-answers.ensures.right d.sequents stands.1) },
       h rs d (stand-stays t u c.answers.ensures.grows c.args.sequents.now d stands) gathers,
     ))
     c.add_judged.ensures

@@ -10,5 +10,5 @@ use Rattle.jahob.proofs.reporting.judged.Given as goal
 abbrev pub invariant-loop-place : goal.invariant-loop-place
 invariant-loop-place l = record {
   grows : Extends l.initial.table l.table;
-  judged : (ds : List Debt) → AllStand l.initial.table l.sequents ds → (rs : List Reported) × Gathers l.report rs × Leads (program_tree l.program) ds l.place rs;
+  judged : (ds : List Debt) → AllStand l.initial.table l.sequents ds → (rs : List Reported) × Gathers l.report rs × Leads l.options (program_tree l.program) ds l.place rs;
 }

@@ -22,7 +22,7 @@ report_on-requires-clause-formulas c =
 -- src/reporting.rt
 pub returns-clause-report : goal.returns-clause-report
 returns-clause-report c =
-    subst (λ (p : ProgramTree). IfOk c.report_on.result (λ verified. IsReport p (string_bytes verified.text) verified.accepted)) (ap program_tree c.in_ok-parts.ensures.typed) c.report_on.ensures.report
+    subst (λ (p : ProgramTree). IfOk c.report_on.result (λ verified. IsReport c.args.options p (string_bytes verified.text) verified.accepted)) (ap program_tree c.in_ok-parts.ensures.typed) c.report_on.ensures.report
 
 -- src/reporting.rt
 pub returns-clause-why : goal.returns-clause-why

@@ -6,10 +6,10 @@ pub returns-clause-cause : goal.returns-clause-cause
 returns-clause-cause g c = answered-by _ _ _ _ _ c.reply_to-reply.result c.reply_to-reply.ensures.fits c.deliver.ensures
 
 pub returns-clause-headline : goal.returns-clause-headline
-returns-clause-headline g c = λ v asked zero. answered-verifies c.spelled_source_is_accepted.ensures c.owed_is_sound.ensures c.proved_is_valid.ensures _ _ _ _ _ (answered-by _ _ _ _ _ c.reply_to-reply.result c.reply_to-reply.ensures.fits c.deliver.ensures) v asked zero
+returns-clause-headline g c = λ v asked zero. answered-verifies c.spelled_source_is_accepted.ensures c.owed_is_sound.ensures c.owed_is_one.ensures c.proved_is_valid.ensures c.provable_is_proved.ensures _ _ _ _ _ (answered-by _ _ _ _ _ c.reply_to-reply.result c.reply_to-reply.ensures.fits c.deliver.ensures) v asked zero
 
 pub returns-clause-report : goal.returns-clause-report
-returns-clause-report g c = λ v asked low. answered-reports c.spelled_source_is_accepted.ensures c.owed_is_sound.ensures c.proved_is_valid.ensures _ _ _ _ _ (answered-by _ _ _ _ _ c.reply_to-reply.result c.reply_to-reply.ensures.fits c.deliver.ensures) v asked low
+returns-clause-report g c = λ v asked low. answered-reports c.spelled_source_is_accepted.ensures c.owed_is_sound.ensures c.owed_is_one.ensures c.proved_is_valid.ensures c.provable_is_proved.ensures _ _ _ _ _ (answered-by _ _ _ _ _ c.reply_to-reply.result c.reply_to-reply.ensures.fits c.deliver.ensures) v asked low
 
 pub returns-clause-returned : goal.returns-clause-returned
 returns-clause-returned g c = λ r asked zero. answered-runs _ _ _ _ _ (answered-by _ _ _ _ _ c.reply_to-reply.result c.reply_to-reply.ensures.fits c.deliver.ensures) r asked zero

@@ -2,7 +2,12 @@ use Rattle.std.proofs.Common.{ap, ◌∙◌}
 use Rattle.std.specs.Prelude.{Some, map, string_bytes}
 use Rattle.jh_words.specs.Held.{job_in, run_in, verify_in}
 use Rattle.jahob.proofs.Fitting.{file-fits, run-fits, words-fits}
+use Rattle.jahob.proofs.Leaves.{has-leaves}
 use Rattle.jahob.proofs.top.reply_to.Goals as goal
+
+-- src/top.rt
+pub verify_file-requires : goal.verify_file-requires
+verify_file-requires g c = has-leaves (map (λ word. string_bytes word) c.args.words.now) (verify_in c.in-Ok-Verify.verify) (c.in-Ok-Verify.ensures.job ∙ ap (λ j. Some (job_in j)) c.in-Ok-Verify.field-0-is)
 
 -- src/top.rt
 pub returns-in-Ok-Verify-clause-fits : goal.returns-in-Ok-Verify-clause-fits

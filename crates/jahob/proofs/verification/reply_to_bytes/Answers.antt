@@ -9,7 +9,7 @@ reply_to_program-requires-clause-accepted c = c.spelled_source_is_accepted.ensur
 
 -- src/verification.rt
 pub returns-in-Ok : goal.returns-in-Ok
-returns-in-Ok c = reply-fits c.args.bytes.now (program_tree c.in-Ok.source.program) c.reply_to_program.result c.in-Ok.ensures.spelled c.reply_to_program.ensures
+returns-in-Ok c = reply-fits c.args.options c.args.bytes.now (program_tree c.in-Ok.source.program) c.reply_to_program.result c.in-Ok.ensures.spelled c.reply_to_program.ensures
 
 -- src/verification.rt
 pub returns-in-Err : goal.returns-in-Err

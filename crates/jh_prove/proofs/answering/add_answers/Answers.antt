@@ -12,7 +12,7 @@ use Rattle.jh_prove.proofs.answering.add_answers.Goals as goal
 
 pub loop-place-init : goal.loop-place-init
 loop-place-init c = record {
-  right = λ ss are. subst (λ (answers : List Answer). AllRight [] answers) (sym c.requires.made) tt;
+  right = λ ss are. subst (λ (answers : List Answer). AllRight c.args.options [] answers) (sym c.requires.made) tt;
   memo = c.requires.memo;
   seen = c.requires.seen;
   grows = extends-refl c.args.table.now;
@@ -35,8 +35,8 @@ loop-place-preserved c =
     record {
       right = λ ss are.
           let there = paired-at (IsSequent t all.hyps all.method) all.sequents.items ss i x are c.sequent_at-sequent.ensures in
-          subst (λ (answers : List Answer). AllRight (take (i + 1) ss) answers) (sym c.in_ok-push.ensures.items)
-          (right-next ss c.loop-place.made.items i there.0 c.in_ok-answer.answer there.1 (c.loop-place.invariant.right ss are)
+          subst (λ (answers : List Answer). AllRight c.args.options (take (i + 1) ss) answers) (sym c.in_ok-push.ensures.items)
+          (right-next c.args.options ss c.loop-place.made.items i there.0 c.in_ok-answer.answer there.1 (c.loop-place.invariant.right ss are)
           (c.in_ok-answer.ensures.right there.0 (sequent-stays t c.loop-place.table c.loop-place.invariant.grows all.hyps all.method x there.0 there.2)));
       memo = c.in_ok-answer.ensures.memo;
       seen = c.in_ok-answer.ensures.seen;
@@ -48,4 +48,4 @@ returns-clause-right c = λ ss are.
     let all = c.args.sequents.now in
     let count = paired-length (IsSequent c.args.table.now all.hyps all.method) all.sequents.items ss are in
     let far : length ss ≤ c.loop-place.place = search (arith, count) in
-    subst (λ (xs : List SequentTree). AllRight xs c.loop-place.made.items) (take_all c.loop-place.place ss far) (c.loop-place.invariant.right ss are)
+    subst (λ (xs : List SequentTree). AllRight c.args.options xs c.loop-place.made.items) (take_all c.loop-place.place ss far) (c.loop-place.invariant.right ss are)

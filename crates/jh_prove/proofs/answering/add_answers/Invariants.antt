@@ -12,7 +12,7 @@ use Rattle.jh_prove.proofs.answering.add_answers.Given as goal
 -- the answers to the first sequents are right
 abbrev pub invariant-loop-place : goal.invariant-loop-place
 invariant-loop-place l = record {
-  right : (ss : List SequentTree) → AreSequents l.initial.table l.sequents.hyps l.sequents.method l.sequents.sequents.items ss → AllRight (take l.place ss) l.made.items;
+  right : (ss : List SequentTree) → AreSequents l.initial.table l.sequents.hyps l.sequents.method l.sequents.sequents.items ss → AllRight l.options (take l.place ss) l.made.items;
   memo : HoldsUnlabelled (nodes l.table) (found l.memo.answers);
   seen : IsRight (nodes l.table) l.seen;
   grows : Extends l.initial.table l.table;

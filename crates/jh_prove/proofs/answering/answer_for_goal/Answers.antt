@@ -45,8 +45,8 @@ returns-clause-right c =
     let u = c.facts_without_labels.new.table in
     IfOk-weaker
     c.answer_over.result
-    (λ made. (s : SequentTree) → IsAsked u c.as_slice-2.result.now c.args.sequent.mark c.as_slice-3.result.now c.args.goal (unlabelled s) → Right s made)
-    (λ made. (s : SequentTree) → IsSequent t c.args.sequents.now.hyps c.args.sequents.now.method c.args.sequent s → Right s made)
+    (λ made. (s : SequentTree) → IsAsked u c.as_slice-2.result.now c.args.sequent.mark c.as_slice-3.result.now c.args.goal (unlabelled s) → Right c.args.options s made)
+    (λ made. (s : SequentTree) → IsSequent t c.args.sequents.now.hyps c.args.sequents.now.method c.args.sequent s → Right c.args.options s made)
     (λ made right s h. right s (asked-of t u c.facts_without_labels.ensures.grows c.args.sequents.now.hyps c.args.sequents.now.method c.args.sequent s h c.as_slice-2.result.now
     (subst (λ (xs : List NodeHyp). ArePaired (IsHyp t) xs s.hyps) (sym c.as_slice-2.ensures.value) (c.in_ok-hyps.ensures t s.hyps h.hyps))
     c.as_slice-3.result.now

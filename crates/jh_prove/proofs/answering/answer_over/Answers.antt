@@ -1,13 +1,14 @@
-use Rattle.std.proofs.Common.{subst, sym}
-use Rattle.std.proofs.lemmas.Result.{IfOk-weaker}
+use Rattle.std.proofs.Common.{◌≡◌, subst, sym}
 use Rattle.jh_table.specs.Nodes.{nodes}
+use Rattle.jh_table.proofs.Listed.{extends-trans}
 use Rattle.jh_approx.specs.Regions.{bapa_of, unlabelled}
-use Rattle.jh_kept.specs.Asking.{IsAsked}
-use Rattle.jh_sequent.specs.Sequents.{SequentTree}
-use Rattle.jh_prove.specs.Right.{IsDecided, Right}
-use Rattle.jh_prove.proofs.Asking.{asked-bare}
+use Rattle.jh_local.specs.declared.answer.Searched.TheVariants as searched
+use Rattle.jh_mentioned.proofs.Growing.{mentions-grow}
+use Rattle.jh_query.specs.Bare.{query_tree}
+use Rattle.jh_prove.specs.Right.{IsProof}
+use Rattle.jh_prove.proofs.Asking.{asked-bare, asked-stays}
+use Rattle.jh_prove.proofs.Rights.{local-right, regional-cause, regional-proof, tried-as}
 use Rattle.jh_prove.proofs.Bareness.{bare-truth, bare-truths, not-both, trivial-over}
-use Rattle.jh_prove.proofs.Rights.{decided-right}
 use Rattle.jh_prove.proofs.answering.answer_over.Goals as goal
 
 pub is_trivial-requires-clause-goal : goal.is_trivial-requires-clause-goal
@@ -27,15 +28,55 @@ returns-then-is_trivial-clause-right c = λ s h.
     let a = c.args.asked in
     subst (λ (P : Type 0). P) (trivial-over c.args.table.now a.facts.now a.goal s (asked-bare c.args.table.now a.hyps.now a.label a.facts.now a.goal s h)) (c.is_trivial.ensures.0 c.if-is_trivial.true)
 
-pub returns-clause-right : goal.returns-clause-right
-returns-clause-right c =
+pub by_search-requires-clause-sequent : goal.by_search-requires-clause-sequent
+by_search-requires-clause-sequent c =
+    let a = c.args.asked in
+    let s = c.requires.sequent.0 in
+    (s, asked-stays c.args.table.now c.by_regions.new.table c.by_regions.ensures.grows a.hyps.now a.label a.facts.now a.goal (unlabelled s) c.requires.sequent.1)
+
+pub returns-in_err-by_search-in-Unproved-clause-grows : goal.returns-in_err-by_search-in-Unproved-clause-grows
+returns-in_err-by_search-in-Unproved-clause-grows c = extends-trans c.args.table.now c.by_regions.new.table c.by_search.new.table c.by_regions.ensures.grows c.by_search.ensures.grows
+
+pub returns-in-Proved-clause-right : goal.returns-in-Proved-clause-right
+returns-in-Proved-clause-right c = λ s h.
     let t = c.args.table.now in
     let a = c.args.asked in
-    IfOk-weaker
-    c.by_regions.result
-    (λ made. (s : SequentTree) → IsAsked t a.hyps.now a.label a.facts.now a.goal (unlabelled s) → IsDecided (bapa_of s) made)
-    (λ made. (s : SequentTree) → IsAsked t a.hyps.now a.label a.facts.now a.goal (unlabelled s) → Right s made)
-    (λ made decided s h. decided-right s made
+    let proof : (query_tree c.in-Proved.query ≡ bapa_of s) × IsProof (bapa_of s) = regional-proof (bapa_of s) c.in_ok-query.field-0 c.in-Proved.query c.in-Proved.is (c.in_ok-query.ensures.decided s h) in (
+      (λ trivial. not-both c.is_trivial.result (c.is_trivial.ensures.1 (subst (λ (P : Type 0). P) (sym (trivial-over t a.facts.now a.goal s (asked-bare t a.hyps.now a.label a.facts.now a.goal s h))) trivial)) c.if-is_trivial.false),
+      proof.0,
+      proof.1,
+    )
+
+pub returns-in-Proved-2-clause-right : goal.returns-in-Proved-2-clause-right
+returns-in-Proved-2-clause-right c = λ s h.
+    let t = c.args.table.now in
+    let u = c.by_regions.new.table in
+    let a = c.args.asked in
+    local-right c.args.options s c.in-Unproved.bapa
     (λ trivial. not-both c.is_trivial.result (c.is_trivial.ensures.1 (subst (λ (P : Type 0). P) (sym (trivial-over t a.facts.now a.goal s (asked-bare t a.hyps.now a.label a.facts.now a.goal s h))) trivial)) c.if-is_trivial.false)
-    (decided s h))
-    c.by_regions.ensures.decided
+    (regional-cause (bapa_of s) c.in_ok-query.field-0 c.in-Unproved.bapa c.in-Unproved.is (c.in_ok-query.ensures.decided s h))
+    (tried-as c.args.options s c.in_ok-by_search-in-Unproved.field-0 searched.Proved c.in-Proved-2.is
+    (c.in_ok-by_search-in-Unproved.ensures.tried s (asked-stays t u c.by_regions.ensures.grows a.hyps.now a.label a.facts.now a.goal (unlabelled s) h)))
+
+pub returns-in-Proved-2-clause-seen : goal.returns-in-Proved-2-clause-seen
+returns-in-Proved-2-clause-seen c = mentions-grow (nodes c.by_regions.new.table) (nodes c.by_search.new.table) c.by_search.ensures.grows.nodes c.by_regions.new.seen c.in_ok-query.ensures.seen
+
+pub returns-in-Proved-2-clause-grows : goal.returns-in-Proved-2-clause-grows
+returns-in-Proved-2-clause-grows c = extends-trans c.args.table.now c.by_regions.new.table c.by_search.new.table c.by_regions.ensures.grows c.by_search.ensures.grows
+
+pub returns-in-Unproved-2-clause-right : goal.returns-in-Unproved-2-clause-right
+returns-in-Unproved-2-clause-right c = λ s h.
+    let t = c.args.table.now in
+    let u = c.by_regions.new.table in
+    let a = c.args.asked in (
+      (λ trivial. not-both c.is_trivial.result (c.is_trivial.ensures.1 (subst (λ (P : Type 0). P) (sym (trivial-over t a.facts.now a.goal s (asked-bare t a.hyps.now a.label a.facts.now a.goal s h))) trivial)) c.if-is_trivial.false),
+      regional-cause (bapa_of s) c.in_ok-query.field-0 c.in-Unproved.bapa c.in-Unproved.is (c.in_ok-query.ensures.decided s h),
+      tried-as c.args.options s c.in_ok-by_search-in-Unproved.field-0 (searched.Unproved c.in-Unproved-2.local) c.in-Unproved-2.is
+          (c.in_ok-by_search-in-Unproved.ensures.tried s (asked-stays t u c.by_regions.ensures.grows a.hyps.now a.label a.facts.now a.goal (unlabelled s) h)),
+    )
+
+pub returns-in-Unproved-2-clause-seen : goal.returns-in-Unproved-2-clause-seen
+returns-in-Unproved-2-clause-seen c = mentions-grow (nodes c.by_regions.new.table) (nodes c.by_search.new.table) c.by_search.ensures.grows.nodes c.by_regions.new.seen c.in_ok-query.ensures.seen
+
+pub returns-in-Unproved-2-clause-grows : goal.returns-in-Unproved-2-clause-grows
+returns-in-Unproved-2-clause-grows c = extends-trans c.args.table.now c.by_regions.new.table c.by_search.new.table c.by_regions.ensures.grows c.by_search.ensures.grows

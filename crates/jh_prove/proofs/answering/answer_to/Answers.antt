@@ -38,7 +38,7 @@ returns-clause-right c =
     let x = c.args.sequent in
     IfOk-weaker
     c.answer_for_goal.result
-    (λ made. (s : SequentTree) → IsSequent u links method x s → Right s made)
-    (λ made. (s : SequentTree) → IsSequent t links method x s → Right s made)
+    (λ made. (s : SequentTree) → IsSequent u links method x s → Right c.args.options s made)
+    (λ made. (s : SequentTree) → IsSequent t links method x s → Right c.args.options s made)
     (λ made right s h. right s (sequent-stays t u c.without_labels.ensures.grows links method x s h))
     c.answer_for_goal.ensures.right

@@ -6,7 +6,7 @@ use Rattle.jh_query.specs.Bare.{query_tree}
 use Rattle.jh_query.specs.Named.{IsWellFormed}
 use Rattle.jh_query.specs.Tree.{QueryTree}
 use Rattle.jh_sequent.specs.Sequents.{SequentTree}
-use Rattle.jh_prove.specs.Right.{IsDecided}
+use Rattle.jh_prove.specs.Right.{IsRegional}
 use Rattle.jh_prove.proofs.regions.by_regions.Goals as goal
 
 pub answer_of-requires : goal.answer_of-requires
@@ -20,7 +20,7 @@ returns-clause-decided c =
     let a = c.args.asked in
     IfOk-weaker
     c.answer_of.result
-    (λ made. IsDecided (query_tree c.in_ok-query.query) made)
-    (λ made. (s : SequentTree) → IsAsked t a.hyps.now a.label a.facts.now a.goal (unlabelled s) → IsDecided (bapa_of s) made)
-    (λ made decided s h. subst (λ (q : QueryTree). IsDecided q made) (c.in_ok-query.ensures.query s h) decided)
+    (λ made. IsRegional (query_tree c.in_ok-query.query) made)
+    (λ made. (s : SequentTree) → IsAsked t a.hyps.now a.label a.facts.now a.goal (unlabelled s) → IsRegional (bapa_of s) made)
+    (λ made decided s h. subst (λ (q : QueryTree). IsRegional q made) (c.in_ok-query.ensures.query s h) decided)
     c.answer_of.ensures
