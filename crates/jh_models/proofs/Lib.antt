@@ -4,5 +4,6 @@ mod Clashing
 mod Models
 mod Cases
 mod Leaves
+mod Beginning
 mod Fixing
 pub mod Growing

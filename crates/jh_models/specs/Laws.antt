@@ -1,5 +1,5 @@
 -- What is true of propagation, clashes and explanations.
-use Rattle.std.specs.Prelude.{◌⊎◌, ℕ, ◌<◌, ◌^◌, true, false, List, length}
+use Rattle.std.specs.Prelude.{◌⊎◌, ℕ, ◌<◌, ◌^◌, true, false, List, [], length}
 use Rattle.jh_tree.specs.Tree.{FormulaTree}
 use Rattle.jh_structure.specs.Structures.{Structure}
 use Rattle.jh_structure.specs.Literals.{LiteralTree, IsListed, AreListed, MeetsOne, Meets}
@@ -42,6 +42,10 @@ abbrev pub SpentIsBelow : Type 0
 SpentIsBelow =
     (is atoms : List FormulaTree) → ((a : FormulaTree) → IsGroundAtom is a → StandsIn atoms a) →
     (leaves : ℕ) (bs : List ClosedTree) → IsSpent is leaves bs → leaves < 2 ^ length atoms
+
+-- A budget is spent only where propagation alone doesn't close the instances: the empty list is open.
+abbrev pub SpentIsOpen : Type 0
+SpentIsOpen = (is : List FormulaTree) (leaves : ℕ) (bs : List ClosedTree) → IsSpent is leaves bs → IsOpen is []
 
 -- Propagation of more literals adds more, and what it added adds nothing more.
 pub record PropagationGrows : Type 0 where

@@ -1,4 +1,4 @@
-ghost use Rattle.jh_models.specs.Laws.{PropagationIsSound, ClashIsSound, ModelsHoldPropagated, ExplainedIsClosed, PropagationGrows, SpentIsBelow, FixpointIsOpen, WholeFixpointIsModel};
+ghost use Rattle.jh_models.specs.Laws.{PropagationIsSound, ClashIsSound, ModelsHoldPropagated, ExplainedIsClosed, PropagationGrows, SpentIsBelow, SpentIsOpen, FixpointIsOpen, WholeFixpointIsModel};
 
 /// A structure that meets the literals of a list and makes the instances true meets what propagation adds. It is a law, and
 /// does nothing.
@@ -24,6 +24,11 @@ pub fn explained_is_closed()
 /// A budget that is spent is below 2 to the power of the number of ground atoms. It is a law, and does nothing.
 pub fn spent_is_below()
     ensures { SpentIsBelow }
+{}
+
+/// A budget is spent only where propagation alone doesn't close the instances. It is a law, and does nothing.
+pub fn spent_is_open()
+    ensures { SpentIsOpen }
 {}
 
 /// Propagation of more literals adds more, and what it added adds nothing more. It is a law, and does nothing.
