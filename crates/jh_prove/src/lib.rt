@@ -3,6 +3,7 @@
 
 mod answer;
 mod answering;
+mod forms;
 mod laws;
 mod memo;
 mod queries;
@@ -12,5 +13,6 @@ mod unlabelling;
 
 pub use answer::{Answer, BapaCause, Verdict, is_unproved, status_of, verdict_of};
 pub use answering::answers;
+pub use forms::local_form_of_sequent;
 pub use laws::{one_verdict_is_right, provable_is_proved, proved_is_valid};
 pub use queries::query_of_sequent;
