@@ -1,8 +1,10 @@
 -- What the closure of a state says, of literals.
-use Rattle.std.proofs.Common.{◌≡◌, refl, sym, ap, subst, ◌∙◌, ℕ, ◌<◌, Bool, true, false, List, [], ◌∷◌, ◌++◌, length, map, slice_get, Some, arith}
+use Rattle.std.proofs.Common.{◌≡◌, refl, sym, ap, subst, ◌∙◌, ℕ, ◌<◌, Bool, true, false, List, [], ◌∷◌, ◌++◌, length, map, take, slice_get, Some, arith}
+use Rattle.std.proofs.lemmas.List.{take-map}
 use Rattle.jh_closure.specs.Nodes.{Follows, FollowsFrom, Has}
 use Rattle.jh_closure.specs.declared.equation.Equation.{Equation}
 use Rattle.jh_closure.specs.declared.node.Node.{Node}
+use Rattle.jh_closure.proofs.Having.{has-at}
 use Rattle.jh_table.specs.Nodes.{nodes}
 use Rattle.jh_tree.specs.Tree.{ValueTree}
 use Rattle.jh_flat.specs.Flattening.{Flattens}
@@ -12,8 +14,8 @@ use Rattle.jh_cong.specs.Saying.{CanBeSaid, Entails, IsUnmet, picked, tree_at}
 use Rattle.jh_cong.specs.States.{AreSeparate, IsState, IsTold, told}
 use Rattle.jh_cong.specs.declared.literal.Said.{Said}
 use Rattle.jh_cong.specs.declared.state.State.{State}
-use Rattle.jh_cong.proofs.Keeping.{told-long}
-use Rattle.jh_cong.proofs.Meeting.{apart-values, entails-follows, follows-entails, from-entails, is-met, unmet-apart, unmet-denied, value-here}
+use Rattle.jh_cong.proofs.Keeping.{enough-all, has-taken, told-long}
+use Rattle.jh_cong.proofs.Meeting.{apart-values, entails-follows, follows-entails, from-entails, is-met, unless-follows, unmet-apart, unmet-denied, value-here}
 
 -- what the closure was told
 abbrev told-list : State → List Equation
@@ -32,13 +34,16 @@ begin-separate ts ns pairs fl pr e h f =
     let same : l.1 e.left ≡ l.1 e.right = f l.0 l.1 l.2 (λ q w. absurd w) in
     apart-values some_structure (tree_at ts e.left) (tree_at ts e.right) p.apart (value-here ts some_structure l.1 l.3 e.left p.left_inside ∙ (same ∙ sym (value-here ts some_structure l.1 l.3 e.right p.right_inside)))
 
-pub begin-state : (st : State) → ArePairs (nodes st.table) st.apart.items → Flattens (nodes st.table) st.closure.nodes → st.closure.said ≡ [] → st.said.items ≡ [] → IsState st
-begin-state st pr fl eqs said = record {
+pub begin-state : (st : State) → ArePairs (nodes st.table) st.apart.items → Flattens (nodes st.table) st.closure.nodes → st.closure.said ≡ [] → st.said.items ≡ [] → st.enough ≡ 0 → IsState st
+begin-state st pr fl eqs said enough = record {
   told = record {
     flattens = fl;
     told_all = eqs ∙ ap (λ (es : List Said). map told es) (sym said);
     pairs = pr;
     sayable = λ e h. absurd (subst (λ (es : List Said). Has es e) said h);
+    denied = λ k e here off. absurd (subst (λ (es : List Said). Has es e) said (has-at st.said.items k e here));
+    inside = omega (arith, enough);
+    enough = enough-all st.closure.nodes st.closure.said st.enough (enough ∙ sym (ap length eqs));
   };
   separate = λ e h f. begin-separate (nodes st.table) st.closure.nodes st.apart.items fl pr e h (subst (λ (es : List Equation). Follows st.closure.nodes es e.left e.right) eqs f);
   differ = λ e h off f. subst (λ (es : List Said). Has es e) said h;
@@ -85,3 +90,9 @@ module _ (st : State) (h : IsState st) where
   -- some structure meets the literals
   pub state-met : IsUnmet (nodes st.table) st.said.items → ⊥
   state-met unmet = is-met (nodes st.table) st.closure.nodes h.told.flattens st.said.items h.told.sayable st.apart.items h.told.pairs separate-told (λ e w off. not-moved e.left e.right (h.differ e w off)) unmet
+
+  -- what follows follows from as many literals as are enough
+  pub enough-entails : (a b : ℕ) → CanBeSaid (nodes st.table) a b → Entails (nodes st.table) st.said.items a b → Entails (nodes st.table) (take st.enough st.said.items) a b
+  enough-entails a b can entails =
+      unless-follows (nodes st.table) st.closure.nodes h.told.flattens (take st.enough st.said.items) (λ e w. h.told.sayable e (has-taken st.enough st.said.items e w)) a b can (λ none.
+      entails-same a b can (λ f. none (subst (λ (es : List Equation). Follows st.closure.nodes es a b) (ap (take st.enough) h.told.told_all ∙ take-map told st.enough st.said.items) (h.told.enough a b f))) entails)

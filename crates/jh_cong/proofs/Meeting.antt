@@ -1,6 +1,7 @@
 -- What structures say of literals, and what structures of plain nodes say of what the closure was told.
 use Rattle.std.proofs.Common.{◌≡◌, refl, sym, ap, subst, ◌∙◌, ℕ, zero, suc, ◌<◌, Bool, true, false, List, [], ◌∷◌, ◌++◌, map, length, get_or, slice_get, inl, inr, Option, Some, None, arith}
 use Rattle.std.specs.Option.{option_map}
+use Rattle.std.proofs.lemmas.Bool.Decides.{eqb_tells}
 use Rattle.std.proofs.lemmas.List.{length-map}
 use Rattle.std.proofs.lemmas.Option.{slice_get-get_or, slice_get-map, slice_get_within, same_Some}
 use Rattle.jh_closure.specs.Nodes.{Structure, Gives, Follows, FollowsFrom, Has, MeetsListed}
@@ -167,6 +168,15 @@ module _ (ts : List ValueTree) (ns : List Node) (fl : Flattens ts ns) (said : Li
   -- what the closure says of two nodes follows from the literals
   pub follows-entails : (a b : ℕ) → CanBeSaid ts a b → Follows ns (map told said) a b → Entails ts said a b
   follows-entails a b h follows s m = let l = fl.lowers s in at-says ts s l.1 l.3 a b h (follows l.0 l.1 l.2 (meets-told ts s l.1 l.3 said ok m))
+
+  -- also where it isn't so that it doesn't
+  pub unless-follows : (a b : ℕ) → CanBeSaid ts a b → ((Follows ns (map told said) a b → ⊥) → ⊥) → Entails ts said a b
+  unless-follows a b h sure s m =
+      let l = fl.lowers s in
+      elim (eqb_tells (l.1 a) (l.1 b)) [
+        | inl same ↦ at-says ts s l.1 l.3 a b h same.1
+        | inr other ↦ absurd (sure (λ follows. other.1 (follows l.0 l.1 l.2 (meets-told ts s l.1 l.3 said ok m))))
+      ]
 
   pub from-entails : (listed : List ℕ) (a b : ℕ) → CanBeSaid ts a b → FollowsFrom ns (map told said) listed a b → Entails ts (picked said listed) a b
   from-entails listed a b h follows s m = let l = fl.lowers s in at-says ts s l.1 l.3 a b h (follows l.0 l.1 l.2 (meets-picked ts s l.1 l.3 said ok listed m))

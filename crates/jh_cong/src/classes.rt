@@ -71,6 +71,14 @@ impl Classes {
         self.state.said.as_slice().len()
     }
 
+    /// How many of the first literals are enough: from those behind them nothing more follows.
+    pub fn enough(&self) -> usize
+        ensures inside { result ≤ length self.now.said }
+        ensures enough { (a b : ℕ) → CanBeSaid (nodes self.now.table) a b → Entails (nodes self.now.table) self.now.said a b → Entails (nodes self.now.table) (take result self.now.said) a b }
+    {
+        self.state.enough
+    }
+
     /// Asserts literals. Conflict comes exactly where no structure meets them with what was asserted before, and lists the
     /// numbers of some that no structure meets, where the new ones are numbered behind the asserted ones. After a refusal
     /// nothing has changed.

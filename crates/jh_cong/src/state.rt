@@ -4,13 +4,16 @@ use crate::Said;
 use jh_closure::{Closure, Equation};
 use jh_table::Table;
 
-/// A table, the closure of what was said of its nodes, the pairs that are apart from the start, and what was said.
+/// A table, the closure of what was said of its nodes, the pairs that are apart from the start, what was said, the numbers of the
+/// literals that say that two nodes differ, and how many of the first literals are enough for all that follows.
 #[derive(Drop)]
 pub(crate) struct State {
     pub(crate) table: Table,
     pub(crate) closure: Closure,
     pub(crate) apart: Vec<Equation>,
     pub(crate) said: Vec<Said>,
+    pub(crate) denied: Vec<usize>,
+    pub(crate) enough: usize,
 }
 
 /// The table of a state that is given up.
@@ -22,6 +25,8 @@ pub(crate) fn into_table(state: State) -> Table
         closure: _closure,
         apart: _apart,
         said: _said,
+        denied: _denied,
+        enough: _enough,
     } = state;
     table
 }

@@ -1,14 +1,15 @@
-ghost use Rattle.std.specs.Prelude.{◌≡◌, ◌<◌, ◌≤◌, ◌++◌, [], ◌∷◌, ℕ, Err, IfNone, IfOk, IfSome, List, OnErr, OnOk, length, take};
+ghost use Rattle.std.specs.Prelude.{◌≡◌, ◌<◌, ◌≤◌, ◌++◌, [], ◌∷◌, ℕ, Err, IfNone, IfOk, IfSome, List, OnErr, OnOk, false, length, take};
+ghost use Rattle.jh_closure.specs.Cores.{Begins};
 ghost use Rattle.jh_closure.specs.Nodes.{Has};
 ghost use Rattle.jh_table.specs.Nodes.{nodes};
 ghost use Rattle.jh_flat.specs.Flattening.{Flattens};
 ghost use Rattle.jh_cong.specs.Constants.{ArePairs};
 ghost use Rattle.jh_cong.specs.Saying.{AreSayable, CanBeSaid, IsUnmet, picked};
-ghost use Rattle.jh_cong.specs.States.{Continues, IsState, IsTold, told};
+ghost use Rattle.jh_cong.specs.States.{AreEnough, Continues, IsState, IsTold, told};
 ghost use Rattle.jh_cong.specs.declared.literal.CongError.TheVariants.{Conflict};
 
 use crate::apart::pairs_of;
-use crate::clashing::{reason, said_at};
+use crate::clashing::{number_at, reason, said_at};
 use crate::state::State;
 use crate::{CongError, Said};
 use jh_closure::{Closure, Equation};
@@ -35,6 +36,43 @@ fn told_of(said: Said) -> Equation
     }
 }
 
+/// Notes the number of a literal where it says that two nodes differ.
+fn note(denied: &mut Vec<usize>, number: usize, said: Said) -> Result<(), NoMemory>
+    ensures noted { OnOk result (said.holds ≡ false → Has denied.new.items number) }
+    ensures grows { Begins denied.old.items denied.new.items }
+{
+    if !said.holds {
+        denied.push(number)?;
+    }
+    Ok(())
+}
+
+/// Tells the closure of an equation. The answer is how many equations are then enough for what follows: as many as before where both
+/// nodes were equal already, and else all.
+fn tell_closure(
+    alloc: Global,
+    closure: &mut Closure,
+    equation: Equation,
+    enough: usize,
+) -> Result<usize, NoMemory>
+    requires left { equation.left < length closure.old.nodes }
+    requires right { equation.right < length closure.old.nodes }
+    requires inside { enough ≤ length closure.old.said }
+    requires enough { AreEnough closure.old.nodes closure.old.said enough }
+    ensures ok { OnOk result (closure.new ≡ record { nodes = closure.old.nodes; said = closure.old.said ++ equation ∷ [] }) }
+    ensures err { OnErr result (closure.new ≡ closure.old) }
+    ensures inside { IfOk result (λ count. count ≤ length closure.new.said) }
+    ensures enough { IfOk result (λ count. AreEnough closure.new.nodes closure.new.said count) }
+{
+    let is_known = closure.same(equation.left, equation.right);
+    closure.assert(alloc, equation.left, equation.right)?;
+    if is_known {
+        Ok(enough)
+    } else {
+        Ok(closure.len())
+    }
+}
+
 /// Tells the closure of one more literal. Where memory is wanting it may be said and not told.
 fn tell_one(alloc: Global, state: &mut State, said: Said) -> Result<(), NoMemory>
     requires told { IsTold state.old }
@@ -43,9 +81,12 @@ fn tell_one(alloc: Global, state: &mut State, said: Said) -> Result<(), NoMemory
     ensures said { OnOk result (state.new.said.items ≡ state.old.said.items ++ said ∷ []) }
     ensures continues { Continues state.old state.new }
 {
-    state.said.push(said)?;
+    let number = state.said.as_slice().len();
     let equation = told_of(said);
-    state.closure.assert(alloc, equation.left, equation.right)
+    note(&mut state.denied, number, said)?;
+    state.said.push(said)?;
+    state.enough = tell_closure(alloc, &mut state.closure, equation, state.enough)?;
+    Ok(())
 }
 
 /// Tells the closure of literals, one after the other. Where memory is wanting some may be said and told.
@@ -64,7 +105,7 @@ fn tell(alloc: Global, state: &mut State, said: &[Said]) -> Result<(), NoMemory>
 
 /// Tells the closure of literals, and looks for a reason why no structure meets all.
 fn settle(alloc: Global, state: &mut State, said: &[Said]) -> Result<Option<Vec<usize>>, NoMemory>
-    requires told { IsTold state.old }
+    requires state { IsState state.old }
     requires said { AreSayable (nodes state.old.table) said.now }
     ensures said { OnOk result (state.new.said.items ≡ state.old.said.items ++ said.now) }
     ensures continues { Continues state.old state.new }
@@ -72,8 +113,31 @@ fn settle(alloc: Global, state: &mut State, said: &[Said]) -> Result<Option<Vec<
     ensures numbers { IfOk result (λ found. IfSome found (λ listed. (i : ℕ) → Has listed.items i → i < length (state.old.said.items ++ said.now))) }
     ensures met { IfOk result (λ found. IfNone found (IsState state.new)) }
 {
+    let count = state.said.as_slice().len();
     tell(alloc, state, said)?;
-    reason(alloc, state)
+    reason(alloc, state, count)
+}
+
+/// How many numbers of a list are left where those at its end go that are no less than another one.
+fn left_below(numbers: &[usize], count: usize) -> usize
+    ensures { (k : ℕ) → k < count → Has numbers.now k → Has (take result numbers.now) k }
+{
+    let mut left = numbers.len();
+    while left > 0 {
+        if number_at(numbers, left - 1) < count {
+            return left;
+        }
+        left -= 1;
+    }
+    left
+}
+
+/// Takes numbers off the end of a list that are no less than another one.
+fn forget(denied: &mut Vec<usize>, count: usize)
+    ensures { (k : ℕ) → k < count → Has denied.old.items k → Has denied.new.items k }
+{
+    let left = left_below(denied.as_slice(), count);
+    denied.truncate(left);
 }
 
 /// Takes all literals back but the first ones.
@@ -83,9 +147,13 @@ fn cut(state: &mut State, count: usize)
     ensures closure { state.new.closure ≡ record { nodes = state.old.closure.nodes; said = take count state.old.closure.said } }
     ensures apart { state.new.apart.items ≡ state.old.apart.items }
     ensures table { state.new.table ≡ state.old.table }
+    ensures denied { (k : ℕ) → k < count → Has state.old.denied.items k → Has state.new.denied.items k }
+    ensures enough { state.new.enough ≡ count }
 {
+    forget(&mut state.denied, count);
     state.said.truncate(count);
     state.closure.undo(count);
+    state.enough = count;
 }
 
 /// Asserts literals, unless no structure meets them with what was said before. After a refusal nothing has changed.
@@ -142,10 +210,14 @@ pub(crate) fn begin(alloc: Global, table: Table) -> Result<State, NoMemory>
     ensures said { IfOk result (λ state. state.said.items ≡ []) }
 {
     let (apart, closure) = parts_of(alloc, &table)?;
+    let said = Vec::new(alloc);
+    let denied = Vec::new(alloc);
     Ok(State {
         table,
         closure,
         apart,
-        said: Vec::new(alloc),
+        said,
+        denied,
+        enough: 0,
     })
 }
