@@ -1,7 +1,7 @@
 use jh_name::{Name, NoMemory, Place};
 
 /// Why a source isn't verified.
-#[derive(Debug, Drop)]
+#[derive(Drop)]
 pub enum Refusal {
     /// The source is refused with this number, from 1 to 7, at this place.
     At(u8, Place),
@@ -14,7 +14,7 @@ pub enum Refusal {
 }
 
 /// Why there is no report on a program.
-#[derive(Debug, Drop)]
+#[derive(Drop)]
 pub enum Unreported {
     /// A method has more than 2,000 sequents; the line says which, the first such, and how many.
     Crowded(String),

@@ -4,7 +4,7 @@ use jh_name::Place;
 /// An expression of code, at the place of its first token. What stands in brackets is the inside,
 /// at the place of the bracket.
 #[cycle(expr)]
-#[derive(Debug, Drop)]
+#[derive(Drop)]
 pub struct Expr {
     pub place: Place,
     pub body: ExprBody,
@@ -12,7 +12,7 @@ pub struct Expr {
 
 /// What an expression is.
 #[cycle(expr)]
-#[derive(Debug, Drop)]
+#[derive(Drop)]
 pub enum ExprBody {
     /// `null`
     Null,
@@ -37,7 +37,7 @@ pub enum ExprBody {
 }
 
 /// An operator between two operands in code.
-#[derive(Clone, Copy, Debug, PartialEq, Eq)]
+#[derive(Clone, Copy, PartialEq, Eq)]
 pub enum Op {
     /// `||`
     Or,

@@ -2,13 +2,13 @@ use crate::{Expr, JType, Labelled, Param, Spec, Stmt, Word};
 use jh_name::{Kind, Place, Row};
 
 /// A source: its classes in the order of the text.
-#[derive(Debug, Drop)]
+#[derive(Drop)]
 pub struct Program {
     pub classes: Row<Class>,
 }
 
 /// A class. Each list is in the order of the text.
-#[derive(Debug, Drop)]
+#[derive(Drop)]
 pub struct Class {
     pub name: Word,
     pub fields: Row<Field>,
@@ -19,7 +19,7 @@ pub struct Class {
 }
 
 /// A field of each object, or one of the class where it is `fixed` (static).
-#[derive(Debug, Drop)]
+#[derive(Drop)]
 pub struct Field {
     pub name: Word,
     pub jtype: JType,
@@ -29,7 +29,7 @@ pub struct Field {
 
 /// A specification variable: ghost state, or one that a definition explains. Where it is `fixed` (static)
 /// there is one of the class, else one of each object.
-#[derive(Debug, Drop)]
+#[derive(Drop)]
 pub struct SpecVar {
     pub name: Word,
     pub kind: Kind,
@@ -39,14 +39,14 @@ pub struct SpecVar {
 }
 
 /// The definition of a specification variable.
-#[derive(Debug, Drop)]
+#[derive(Drop)]
 pub struct VarDef {
     pub name: Word,
     pub body: Spec,
 }
 
 /// A method: `fixed` means static, `end` is the place of its closing brace.
-#[derive(Debug, Drop)]
+#[derive(Drop)]
 pub struct Method {
     pub name: Word,
     pub public: bool,

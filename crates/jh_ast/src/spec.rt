@@ -4,7 +4,7 @@ use jh_name::{Place, Row};
 /// A formula of a specification as it is written, at the place of its first token. What stands in
 /// brackets is the inside, at the place of the bracket.
 #[cycle(spec)]
-#[derive(Debug, Drop)]
+#[derive(Drop)]
 pub struct SpecTree {
     pub place: Place,
     pub body: SpecBody,
@@ -12,7 +12,7 @@ pub struct SpecTree {
 
 /// What a formula, a term or a set is. Their sorts are told apart by the type rules alone.
 #[cycle(spec)]
-#[derive(Debug, Drop)]
+#[derive(Drop)]
 pub enum SpecBody {
     /// `null`
     Null,
@@ -55,7 +55,7 @@ pub enum SpecBody {
 }
 
 /// An operator between two operands in a formula.
-#[derive(Clone, Copy, Debug, PartialEq, Eq)]
+#[derive(Clone, Copy, PartialEq, Eq)]
 pub enum SpecOp {
     /// `-->`
     Implies,
@@ -94,7 +94,7 @@ pub enum SpecOp {
 /// A formula of the file: the place of its opening quote, its number, counted from 0 in the order of the
 /// text, and what it says. The left side of a ghost assignment has a number too, and where it has no
 /// quotes the place of its word.
-#[derive(Debug, Drop)]
+#[derive(Drop)]
 pub struct Spec {
     pub place: Place,
     pub number: u32,
@@ -102,7 +102,7 @@ pub struct Spec {
 }
 
 /// A formula with its label, where it has one, and the names of the facts that it is to follow from.
-#[derive(Debug, Drop)]
+#[derive(Drop)]
 pub struct Labelled {
     pub name: Option<Word>,
     pub body: Spec,

@@ -4,7 +4,7 @@ use jh_name::{Place, Row};
 /// A statement, at the place of its first token. A specification that is the body of an `if`, an `else`
 /// or a `while` is one block, at the place where it opens.
 #[cycle(stmt)]
-#[derive(Debug, Drop)]
+#[derive(Drop)]
 pub struct Stmt {
     pub place: Place,
     pub body: StmtBody,
@@ -12,7 +12,7 @@ pub struct Stmt {
 
 /// What a statement is.
 #[cycle(stmt)]
-#[derive(Debug, Drop)]
+#[derive(Drop)]
 pub enum StmtBody {
     /// `;`
     Empty,
@@ -39,7 +39,7 @@ pub enum StmtBody {
 }
 
 /// What is assigned.
-#[derive(Debug, Drop)]
+#[derive(Drop)]
 pub enum Rhs {
     /// The value of an expression.
     Value(Expr),
@@ -50,7 +50,7 @@ pub enum Rhs {
 }
 
 /// A call of a method, on a receiver where one is written.
-#[derive(Debug, Drop)]
+#[derive(Drop)]
 pub struct Call {
     pub receiver: Option<Expr>,
     pub method: Word,

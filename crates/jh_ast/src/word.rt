@@ -2,14 +2,14 @@ use jh_name::{Name, Place};
 
 /// A word of the source: its text, as a name of turn 0, and the place where it begins. A qualified
 /// word keeps its dot in its text.
-#[derive(Debug, PartialEq, Eq, Drop)]
+#[derive(PartialEq, Eq, Drop)]
 pub struct Word {
     pub text: Name,
     pub place: Place,
 }
 
 /// A type as it is written.
-#[derive(Debug, PartialEq, Eq, Drop)]
+#[derive(PartialEq, Eq, Drop)]
 pub enum JType {
     /// `int`
     Int,
@@ -22,7 +22,7 @@ pub enum JType {
 }
 
 /// A parameter, or a local where it is declared.
-#[derive(Debug, PartialEq, Eq, Drop)]
+#[derive(PartialEq, Eq, Drop)]
 pub struct Param {
     pub name: Word,
     pub jtype: JType,

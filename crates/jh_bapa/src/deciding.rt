@@ -21,7 +21,7 @@ const ELEMENTS: u32 = 8;
 const SIZE: u128 = 67_108_864;
 
 /// What is decided of a query.
-#[derive(Debug, Drop)]
+#[derive(Drop)]
 pub enum Decided {
     /// It is true under all sizes that fit it.
     Valid,

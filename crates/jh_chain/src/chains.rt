@@ -6,7 +6,7 @@ use std::alloc::Global;
 use std::marker::Model;
 
 /// An item of a list, and the number of the item before it, where there is one.
-#[derive(Clone, Copy, Debug)]
+#[derive(Clone, Copy)]
 pub struct Link<T> {
     pub before: Option<usize>,
     pub item: T,

@@ -1,5 +1,5 @@
 /// Two nodes, by their numbers, that are said to be equal.
-#[derive(Clone, Copy, Debug, PartialEq, Eq)]
+#[derive(Clone, Copy, PartialEq, Eq)]
 pub struct Equation {
     pub left: usize,
     pub right: usize,

@@ -14,7 +14,7 @@ use jh_name::NoMemory;
 use std::alloc::Global;
 
 /// Two nodes that are one after the first merges, of which it is asked why.
-#[derive(Clone, Copy, Debug)]
+#[derive(Clone, Copy)]
 pub(crate) struct Question {
     pub(crate) left: usize,
     pub(crate) right: usize,

@@ -12,7 +12,7 @@ use jh_name::NoMemory;
 use std::alloc::Global;
 
 /// How many merges and signatures there are.
-#[derive(Clone, Copy, Debug)]
+#[derive(Clone, Copy)]
 pub(crate) struct Mark {
     pub(crate) merges: usize,
     pub(crate) entries: usize,

@@ -7,7 +7,7 @@ use jh_forest::Forest;
 
 /// An operation without parts, or an operation of two nodes, which are named by their numbers. An operation of one part
 /// has it twice; one of more parts is made of several of these.
-#[derive(Clone, Copy, Debug, PartialEq, Eq, Hash)]
+#[derive(Clone, Copy, PartialEq, Eq, Hash)]
 pub enum Node {
     Leaf(usize),
     Apply(usize, usize, usize),

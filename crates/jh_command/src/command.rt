@@ -1,7 +1,7 @@
 use jh_name::{Name, Row};
 
 /// A guarded command. Its formulas and values are nodes of a table, each by its number.
-#[derive(Debug, Drop)]
+#[derive(Drop)]
 pub enum Command {
     /// A run goes on only where the formula is true.
     Assume(usize),

@@ -31,7 +31,7 @@ pub trait Exchange {
 }
 
 /// Nothing may be exchanged.
-#[derive(Clone, Copy, Debug)]
+#[derive(Clone, Copy)]
 pub struct Nothing {
     /// Whether labels are compared.
     pub labels: bool,

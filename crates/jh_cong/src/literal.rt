@@ -1,7 +1,7 @@
 use jh_name::Row;
 
 /// A literal over nodes of a table, by their numbers: that two nodes are equal, or that they differ.
-#[derive(Clone, Copy, Debug, PartialEq, Eq)]
+#[derive(Clone, Copy, PartialEq, Eq)]
 pub struct Said {
     pub left: usize,
     pub right: usize,
@@ -10,7 +10,7 @@ pub struct Said {
 
 /// Why literals aren't asserted: the numbers of literals that no structure meets, where the new ones are numbered behind those
 /// asserted before, or want of memory.
-#[derive(Debug, Drop)]
+#[derive(Drop)]
 pub enum CongError {
     Conflict(Row<usize>),
     Memory,

@@ -22,7 +22,7 @@ use jh_table::Table;
 use jh_witnesses::{in_front, put_one, settle};
 
 /// So many universals of one shape, and how many variables they have.
-#[derive(Clone, Copy, Debug)]
+#[derive(Clone, Copy)]
 pub(crate) struct Group {
     pub(crate) node: usize,
     pub(crate) variables: usize,

@@ -1,5 +1,5 @@
 /// How many puts there are so far, and how many terms.
-#[derive(Clone, Copy, Debug)]
+#[derive(Clone, Copy)]
 pub(crate) struct Tally {
     pub(crate) puts: u128,
     pub(crate) terms: u128,

@@ -18,14 +18,14 @@ use jh_name::NoMemory;
 use jh_table::{Shape, Table};
 
 /// At how many terms a variable is put, and the powers of that for the binders round a formula, the innermost binder's first.
-#[derive(Clone, Copy, Debug)]
+#[derive(Clone, Copy)]
 pub(crate) struct Scope<'a> {
     pub(crate) terms: u128,
     pub(crate) powers: &'a [usize],
 }
 
 /// What a term and those inside it weigh together, and what each of them weighs.
-#[derive(Clone, Copy, Debug)]
+#[derive(Clone, Copy)]
 struct Weights {
     all: u128,
     each: u128,

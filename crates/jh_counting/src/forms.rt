@@ -7,7 +7,7 @@ use jh_table::Shape;
 
 /// What a formula asks as a goal: two goals of its parts, one of them, one under a label, those of `tree`, a truth
 /// name, True, or itself alone.
-#[derive(Clone, Copy, Debug)]
+#[derive(Clone, Copy)]
 pub(crate) enum Form {
     Both(usize, usize),
     Part(usize),

@@ -11,7 +11,7 @@ use jh_name::NoMemory;
 use std::alloc::Global;
 
 /// How often a truth name stands as a whole goal, under a label or not. The name is known by its node.
-#[derive(Clone, Copy, Debug)]
+#[derive(Clone, Copy)]
 pub(crate) struct Share {
     pub(crate) leaf: usize,
     pub(crate) marked: bool,
@@ -19,14 +19,14 @@ pub(crate) struct Share {
 }
 
 /// What has to be true: so many goals, and the shares of truth names.
-#[derive(Debug, Drop)]
+#[derive(Drop)]
 pub(crate) struct Tally {
     pub(crate) fixed: u128,
     pub(crate) shares: Vec<Share>,
 }
 
 /// The shares without those of one name, and how often it stands under no label and under one.
-#[derive(Debug, Drop)]
+#[derive(Drop)]
 pub(crate) struct Taken {
     pub(crate) rest: Vec<Share>,
     pub(crate) plain: u128,

@@ -11,7 +11,7 @@ use jh_parts::{NodeList, Order, PartTest};
 use jh_table::{Shape, Table};
 
 /// Asks for what has no local form.
-#[derive(Clone, Copy, Debug)]
+#[derive(Clone, Copy)]
 struct Foreign;
 
 impl PartTest for Foreign {

@@ -13,7 +13,7 @@ use jh_rebuild::{BuildRules, Polarity, rebuild};
 use jh_table::{Shape, Table};
 
 /// The rule that opens equivalences.
-#[derive(Clone, Copy, Debug)]
+#[derive(Clone, Copy)]
 struct OpeningIffs;
 
 /// Two implications.

@@ -18,7 +18,7 @@ use jh_rebuild::{BuildRules, Polarity, rebuild};
 use jh_table::{Shape, Table};
 
 /// The rule that cuts.
-#[derive(Clone, Copy, Debug)]
+#[derive(Clone, Copy)]
 struct Cutting;
 
 /// What stands for an atom that is cut.

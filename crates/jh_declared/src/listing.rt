@@ -15,7 +15,7 @@ use jh_name::{NoMemory, Text};
 use std::alloc::Global;
 
 /// The code of a method, with the number of its class and its own name.
-#[derive(Debug, Drop)]
+#[derive(Drop)]
 pub struct ClassMethod {
     pub class: usize,
     pub name: Text,

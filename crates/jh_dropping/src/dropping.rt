@@ -12,7 +12,7 @@ use jh_rebuild::{BuildRules, Polarity, rebuild};
 use jh_table::{Shape, Table};
 
 /// The rule that drops updates whose value is a whole field.
-#[derive(Clone, Copy, Debug)]
+#[derive(Clone, Copy)]
 struct Dropping;
 
 /// An update, or the field that it updates where it changes nothing.

@@ -7,7 +7,7 @@ use std::alloc::Global;
 
 /// What is assigned: the set of all objects, that of the objects of a class or of none, or a static, field or ghost
 /// variable by its class and its own name.
-#[derive(Debug, PartialEq, Eq, Hash, Drop)]
+#[derive(PartialEq, Eq, Hash, Drop)]
 pub enum Write {
     Allocated,
     Objects(usize),
@@ -16,14 +16,14 @@ pub enum Write {
 }
 
 /// A method that is called, by its class and its name.
-#[derive(Debug, Drop)]
+#[derive(Drop)]
 pub struct Callee {
     pub class: usize,
     pub name: Text,
 }
 
 /// What is assigned and called, in the order of the text.
-#[derive(Debug, Drop)]
+#[derive(Drop)]
 pub struct Effects {
     pub writes: Vec<Write>,
     pub calls: Vec<Callee>,

@@ -27,7 +27,7 @@ use jh_witnesses::{in_front, prenexed, witnessed};
 pub const MOST_NODES: u64 = 1 << 24;
 
 /// A fact that is taken apart: its number, the turn of its first constant, and how many constants it has.
-#[derive(Clone, Copy, Debug)]
+#[derive(Clone, Copy)]
 struct Fact {
     number: usize,
     first: u32,

@@ -10,7 +10,7 @@ use jh_name::NoMemory;
 use std::alloc::Global;
 
 /// Where an entry comes from: a fact, by its number, or a universal that was put, by its place in the list.
-#[derive(Clone, Copy, Debug, PartialEq, Eq)]
+#[derive(Clone, Copy, PartialEq, Eq)]
 pub enum Origin {
     Fact(usize),
     Entry(usize),
@@ -18,7 +18,7 @@ pub enum Origin {
 
 /// An entry: the node of its formula, its source, where the terms stand at which the universal was put, the outermost
 /// variable's first, and the turn of the first constant that was made and how many were.
-#[derive(Clone, Copy, Debug)]
+#[derive(Clone, Copy)]
 pub struct NodeEntry {
     pub formula: usize,
     pub source: Origin,

@@ -5,7 +5,7 @@ use jh_closed_terms::Terms;
 use jh_name::NoMemory;
 
 /// Why there are no instances: there can be so many, or there is no memory.
-#[derive(Clone, Copy, Debug)]
+#[derive(Clone, Copy)]
 pub enum InstanceError {
     TooMany(u128),
     Memory,
@@ -24,7 +24,7 @@ impl From<NoMemory> for InstanceError {
 
 /// A universal at hand: its place in the list, its node, how many variables it has, and at how many of the terms it was
 /// put.
-#[derive(Clone, Copy, Debug)]
+#[derive(Clone, Copy)]
 pub(crate) struct AtHand {
     pub(crate) place: usize,
     pub(crate) node: usize,

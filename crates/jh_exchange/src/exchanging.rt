@@ -18,7 +18,7 @@ use jh_table::{Shape, Table};
 
 /// The rules by which one node stands for another, wherever that one stands, with their loose bound variables raised by the
 /// binders that were passed.
-#[derive(Clone, Copy, Debug)]
+#[derive(Clone, Copy)]
 struct ExchangingUnder {
     old: usize,
     new: usize,

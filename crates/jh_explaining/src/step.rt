@@ -5,7 +5,7 @@ ghost use Rattle.jh_explaining.specs.Steps.{literals_of};
 use jh_trail::Decided;
 
 /// A literal of an explanation, and whether it was decided.
-#[derive(Clone, Copy, Debug, PartialEq, Eq)]
+#[derive(Clone, Copy, PartialEq, Eq)]
 pub struct Step {
     pub literal: Decided,
     pub is_decision: bool,

@@ -8,7 +8,7 @@ use jh_rules::{FieldEntry, MethodEntry, StateEntry};
 
 /// What a member of a class is: a field or static, as code and as formulas see it, a method, or a
 /// specification variable.
-#[derive(Debug, Drop)]
+#[derive(Drop)]
 pub enum MemberEntry {
     Field(FieldEntry, StateEntry),
     Method(MethodEntry),
@@ -16,7 +16,7 @@ pub enum MemberEntry {
 }
 
 /// A member of a class, with the place of its name.
-#[derive(Debug, Drop)]
+#[derive(Drop)]
 pub struct Member {
     pub place: Place,
     pub entry: MemberEntry,

@@ -19,7 +19,7 @@ use jh_name::{NoMemory, Row, Text};
 use jh_table::Table;
 
 /// The facts of each state that hang on no local: those that come before the facts of locals, and those behind them.
-#[derive(Debug, Drop)]
+#[derive(Drop)]
 pub struct StateFacts {
     pub head: Row<usize>,
     pub tail: Row<usize>,

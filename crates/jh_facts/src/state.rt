@@ -3,7 +3,7 @@ use jh_rules::Ty;
 
 /// A static, field or ghost variable: the text of its name, the number of its class, the kind of its values, whether it
 /// is a static, and its type, which a ghost variable has not.
-#[derive(Debug, Drop)]
+#[derive(Drop)]
 pub struct Member {
     pub text: Text,
     pub class: usize,

@@ -34,7 +34,7 @@ fn is_due(failing: &[u64], call: u64, free: usize) -> bool
 
 /// Files in memory, of which the calls with given numbers fail, and each call for a name that they don't
 /// hold.
-#[derive(Debug, Drop)]
+#[derive(Drop)]
 pub struct MemFiles {
     held: Vec<(String, Vec<u8>)>,
     failing: Vec<u64>,
@@ -98,7 +98,7 @@ impl Files for MemFiles {
 }
 
 /// A sink in memory, of which the puts with given numbers fail, and each put that finds the room full.
-#[derive(Debug, Drop)]
+#[derive(Drop)]
 pub struct MemSink {
     written: Vec<u8>,
     room: usize,

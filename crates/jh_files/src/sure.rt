@@ -9,7 +9,7 @@ use jh_name::NoMemory;
 use std::alloc::Global;
 
 /// Files in memory that never fail. A name that they don't hold has no bytes.
-#[derive(Debug, Drop)]
+#[derive(Drop)]
 pub struct SureFiles {
     held: Vec<(String, Vec<u8>)>,
 }
@@ -42,7 +42,7 @@ impl Files for SureFiles {
 
 /// A sink in memory that never fails. From the first piece that finds its room full it takes what comes
 /// without keeping it, and tells nothing.
-#[derive(Debug, Drop)]
+#[derive(Drop)]
 pub struct SureSink {
     written: Vec<u8>,
     room: usize,

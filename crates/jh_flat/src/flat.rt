@@ -90,7 +90,7 @@ pub(crate) const OWN: usize = 39;
 /// What is made of a shape: a node without parts; an operation of one or of two parts; an operation with a number; an
 /// update; a question whether a path leads from one node to another; one over a list of fields alone; or the part itself,
 /// for a label.
-#[derive(Clone, Copy, Debug)]
+#[derive(Clone, Copy)]
 pub(crate) enum Flat {
     Leaf,
     Unary(usize, usize),

@@ -5,7 +5,7 @@ ghost use Rattle.jh_forest.specs.Stamps.{IsStamped, IsTurn};
 use crate::Merge;
 
 /// The first merge by which one of two numbers went, and whether it was the left one.
-#[derive(Clone, Copy, Debug)]
+#[derive(Clone, Copy)]
 pub(crate) struct Turn {
     pub(crate) time: usize,
     pub(crate) left_went: bool,

@@ -5,7 +5,7 @@ use jh_name::NoMemory;
 use std::alloc::Global;
 
 /// How many methods and sequents a source has, how many of the sequents were proved in each way, and how many weren't.
-#[derive(Clone, Copy, Debug, PartialEq, Eq)]
+#[derive(Clone, Copy, PartialEq, Eq)]
 pub struct Counts {
     pub methods: usize,
     pub sequents: usize,

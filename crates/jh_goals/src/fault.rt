@@ -1,7 +1,7 @@
 use jh_name::NoMemory;
 
 /// Why a command has no list of sequents.
-#[derive(Clone, Copy, Debug, PartialEq, Eq)]
+#[derive(Clone, Copy, PartialEq, Eq)]
 pub enum GoalsFault {
     /// It has more than `MOST_SEQUENTS`: this many, or the greatest `u128` where there are more.
     TooMany(u128),

@@ -7,7 +7,7 @@ use jh_rules::Ty;
 
 /// What can have a value: a static, a field or a parameter, with its kind and, where it has one, its type. Statics and fields have
 /// the text that formulas have, with their class and a dot, and the text of their class.
-#[derive(Clone, Copy, Debug)]
+#[derive(Clone, Copy)]
 pub struct Holder<'a> {
     pub text: &'a str,
     pub kind: Kind,
@@ -17,7 +17,7 @@ pub struct Holder<'a> {
 
 /// What a heap text is read by: the texts of all classes in the order of the source, with `Object` for the objects of none as the
 /// last; the statics and the fields, ghost variables among them; the class of `this` by its number; and the parameters.
-#[derive(Debug, Drop)]
+#[derive(Drop)]
 pub struct Outline<'a> {
     pub classes: Vec<&'a str>,
     pub statics: Vec<Holder<'a>>,

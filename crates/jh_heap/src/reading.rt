@@ -20,7 +20,7 @@ use std::alloc::Global;
 
 /// Why a text is no heap: the number of the first line that has no form or stands out of order; the number of the first line that
 /// breaks a rule, with the least rule that it breaks; or want of memory.
-#[derive(Clone, Copy, Debug, PartialEq, Eq)]
+#[derive(Clone, Copy, PartialEq, Eq)]
 pub enum HeapError {
     BadLine(u32),
     NotWellFormed { line: u32, rule: u8 },

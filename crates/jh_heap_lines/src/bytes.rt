@@ -6,7 +6,7 @@ use jh_name::NoMemory;
 use std::alloc::Global;
 
 /// What stands before a byte, and what behind it.
-#[derive(Clone, Copy, Debug)]
+#[derive(Clone, Copy)]
 pub(crate) struct Cut<'a> {
     pub before: &'a [u8],
     pub behind: &'a [u8],

@@ -14,7 +14,7 @@ use std::alloc::Global;
 use std::str::from_utf8;
 
 /// A value; whether a number is that of an object depends on what has it.
-#[derive(Debug, Drop)]
+#[derive(Drop)]
 pub enum Value {
     Number(i64),
     Truth(bool),
@@ -23,7 +23,7 @@ pub enum Value {
 
 /// A line: the greatest object; the objects of a class; the value of a static, of a field at an object, of `this`, and of a
 /// parameter.
-#[derive(Debug, Drop)]
+#[derive(Drop)]
 pub enum Line<'a> {
     Universe(u8),
     Class(&'a [u8], Row<u64>),

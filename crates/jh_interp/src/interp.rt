@@ -9,7 +9,7 @@ ghost use Rattle.jh_sem.specs.Wide.{AreInside};
 use jh_name::{Name, Row};
 
 /// The values of a field at the objects from 0 on, at one kind.
-#[derive(Debug, Drop)]
+#[derive(Drop)]
 pub enum FieldValue {
     Obj(Row<u32>),
     Int(Row<i128>),
@@ -19,7 +19,7 @@ pub enum FieldValue {
 }
 
 /// An interpretation as lists.
-#[derive(Debug, Drop)]
+#[derive(Drop)]
 pub struct Interp {
     /// The greatest object.
     pub greatest: u32,

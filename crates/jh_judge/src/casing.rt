@@ -4,7 +4,7 @@ ghost use Rattle.jh_judge.specs.Judged.{case_truth};
 use jh_query::Cond;
 
 /// The case of an atom.
-#[derive(Clone, Copy, Debug)]
+#[derive(Clone, Copy)]
 pub enum Case {
     /// Not chosen yet.
     Open,
@@ -18,7 +18,7 @@ pub enum Case {
 }
 
 /// An atom that isn't on elements alone, with its case.
-#[derive(Clone, Copy, Debug)]
+#[derive(Clone, Copy)]
 pub struct Atom<'a> {
     pub cond: &'a Cond,
     pub case: Case,

@@ -5,7 +5,7 @@ use jh_name::Kind;
 
 /// What a formula may say, beside what its scope says: whether `old` may stand, and the kind of `result` where
 /// that may stand and has one.
-#[derive(Clone, Copy, Debug, PartialEq, Eq)]
+#[derive(Clone, Copy, PartialEq, Eq)]
 pub struct Spot {
     pub old: bool,
     pub result: Option<Option<Kind>>,

@@ -4,7 +4,7 @@ ghost use Rattle.jh_lex.specs.Modes.{mode_after};
 use crate::TokenKind;
 
 /// What kind of text stands at a place. Each mode has signs and reserved words of its own.
-#[derive(Clone, Copy, Debug, PartialEq, Eq, Hash)]
+#[derive(Clone, Copy, PartialEq, Eq, Hash)]
 pub enum Mode {
     /// The text of the program itself.
     Code,

@@ -3,7 +3,7 @@ ghost use Rattle.jh_lex.specs.Numbers.{symbol_number};
 ghost use Rattle.jh_lex.specs.Symbols.{text_of};
 
 /// A token whose text is fixed: a sign or a reserved word.
-#[derive(Clone, Copy, Debug, PartialEq, Eq, Hash)]
+#[derive(Clone, Copy, PartialEq, Eq, Hash)]
 pub enum Symbol {
     /// `{`
     LeftBrace,

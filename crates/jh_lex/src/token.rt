@@ -5,14 +5,14 @@ use crate::Symbol;
 use jh_name::{Name, Place};
 
 /// A token of a source, and where it begins.
-#[derive(Debug, PartialEq, Eq, Drop)]
+#[derive(PartialEq, Eq, Drop)]
 pub struct Token {
     pub kind: TokenKind,
     pub place: Place,
 }
 
 /// What a token is.
-#[derive(Debug, PartialEq, Eq, Drop)]
+#[derive(PartialEq, Eq, Drop)]
 pub enum TokenKind {
     /// A word that its mode doesn't reserve, as a name of turn 0.
     Word(Name),

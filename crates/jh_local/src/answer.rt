@@ -2,20 +2,20 @@ use jh_name::Row;
 use jh_structure::Literal;
 
 /// Literals of a branch, in the order in which they were found.
-#[derive(Debug, Drop)]
+#[derive(Drop)]
 pub struct Branch {
     pub literals: Row<Literal>,
 }
 
 /// A branch that is closed: its decisions, in order, and literals that explain why.
-#[derive(Debug, Drop)]
+#[derive(Drop)]
 pub struct Closed {
     pub decisions: Row<Literal>,
     pub explanation: Row<Literal>,
 }
 
 /// Why the ground search doesn't prove a sequent.
-#[derive(Debug, Drop)]
+#[derive(Drop)]
 pub enum LocalCause {
     /// This is a ground model of the instances.
     Open(Branch),
@@ -26,7 +26,7 @@ pub enum LocalCause {
 }
 
 /// What the ground search says of a sequent.
-#[derive(Debug, Drop)]
+#[derive(Drop)]
 pub enum Searched {
     /// The instances have no ground model.
     Proved,

@@ -18,7 +18,7 @@ use jh_stores::{put_name, writes};
 use std::alloc::Global;
 
 /// What a name has at the sorts of locals.
-#[derive(Clone, Copy, Debug)]
+#[derive(Clone, Copy)]
 pub struct Saved {
     pub object: u32,
     pub number: i64,

@@ -3,7 +3,7 @@ use jh_name::{Name, Place};
 /// An expression whose value is an object. A name is that of a parameter, a local or a static; a read has its field, its
 /// receiver, and the place of the receiver's first token.
 #[cycle(object_code)]
-#[derive(Debug, Drop)]
+#[derive(Drop)]
 pub enum ObjectCode {
     Null,
     This,
@@ -13,7 +13,7 @@ pub enum ObjectCode {
 
 /// An expression whose value is a number. Arithmetic has the place of its own first token.
 #[cycle(number_code)]
-#[derive(Debug, Drop)]
+#[derive(Drop)]
 pub enum NumberCode {
     Const(i64),
     Name(Name),
@@ -26,7 +26,7 @@ pub enum NumberCode {
 
 /// An expression whose value is a truth.
 #[cycle(truth_code)]
-#[derive(Debug, Drop)]
+#[derive(Drop)]
 pub enum TruthCode {
     Literal(bool),
     Name(Name),
@@ -44,7 +44,7 @@ pub enum TruthCode {
 }
 
 /// An expression of code, by the type of its values.
-#[derive(Debug, Drop)]
+#[derive(Drop)]
 pub enum AnyCode {
     Object(ObjectCode),
     Number(NumberCode),

@@ -3,7 +3,7 @@ use jh_name::{Name, Place, Row, Text};
 use jh_rules::Ty;
 
 /// A parameter or a local, with its type.
-#[derive(Debug, Drop)]
+#[derive(Drop)]
 pub struct Local {
     pub name: Name,
     pub ty: Ty,
@@ -11,7 +11,7 @@ pub struct Local {
 
 /// Where a value goes: nowhere, to a local that is declared here, to another local or a static, or to a field of an
 /// object, with the place of the object's first token.
-#[derive(Debug, Drop)]
+#[derive(Drop)]
 pub enum Target {
     Nowhere,
     New(Local),
@@ -21,7 +21,7 @@ pub enum Target {
 
 /// A formula of a contract, an invariant, an assert or a note, by its number in the source: with the place of its opening
 /// quote, its label and the names of the facts that it follows from.
-#[derive(Debug, Drop)]
+#[derive(Drop)]
 pub struct Claim {
     pub label: Option<Name>,
     pub place: Place,
@@ -31,7 +31,7 @@ pub struct Claim {
 
 /// A call, by the class of its method and the method's own name. `place` is that of the statement, `receiver_place` that
 /// of the receiver where there is one.
-#[derive(Debug, Drop)]
+#[derive(Drop)]
 pub struct CallCode {
     pub place: Place,
     pub target: Target,
@@ -44,7 +44,7 @@ pub struct CallCode {
 
 /// A statement.
 #[cycle(code)]
-#[derive(Debug, Drop)]
+#[derive(Drop)]
 pub enum Code {
     Empty,
     Block(Row<Code>),
@@ -63,7 +63,7 @@ pub enum Code {
 }
 
 /// A method: `this` is the class of its receiver, where it is not static.
-#[derive(Debug, Drop)]
+#[derive(Drop)]
 pub struct MethodCode {
     pub place: Place,
     pub is_public: bool,

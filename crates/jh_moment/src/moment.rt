@@ -10,7 +10,7 @@ use jh_table::Table;
 
 /// Where a name of a formula has its value: under the number, in a memory, of the name of its text at turn 0; in the
 /// state at entry where it stands under `old`.
-#[derive(Clone, Copy, Debug)]
+#[derive(Clone, Copy)]
 pub struct Home {
     pub number: usize,
     pub is_old: bool,

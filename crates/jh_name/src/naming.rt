@@ -5,7 +5,7 @@ use std::alloc::Global;
 
 /// A text with a number, its turn. Turn 0 is a name as a source spells it. A name of a greater turn
 /// is made by the tool and printed `text@turn`, which no source can spell.
-#[derive(Debug, PartialEq, Eq, Hash, Drop)]
+#[derive(PartialEq, Eq, Hash, Drop)]
 pub struct Name {
     pub(crate) text: Text,
     pub(crate) turn: u32,

@@ -7,7 +7,7 @@ pub struct Place {
 }
 
 /// The kinds of values that a field or a variable can hold.
-#[derive(Clone, Copy, Debug, PartialEq, Eq, Hash)]
+#[derive(Clone, Copy, PartialEq, Eq, Hash)]
 pub enum Kind {
     Obj,
     Int,
@@ -16,7 +16,7 @@ pub enum Kind {
 }
 
 /// The sorts of terms: the kinds, and whole fields.
-#[derive(Clone, Copy, Debug, PartialEq, Eq, Hash)]
+#[derive(Clone, Copy, PartialEq, Eq, Hash)]
 pub enum Sort {
     Obj,
     Int,
@@ -27,7 +27,7 @@ pub enum Sort {
 
 /// A method of a program: the number of its class in the source, and its number in the class, both
 /// from 0.
-#[derive(Clone, Copy, Debug, PartialEq, Eq, Hash)]
+#[derive(Clone, Copy, PartialEq, Eq, Hash)]
 pub struct MethodId {
     pub class: u32,
     pub method: u32,

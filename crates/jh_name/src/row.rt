@@ -8,7 +8,6 @@ use std::marker::Model;
 
 /// A list that contracts see as its items, without its memory. It can stand inside the type of its
 /// items.
-#[derive(Debug)]
 pub struct Row<T> {
     items: Vec<T>,
 }

@@ -4,7 +4,7 @@ ghost use Rattle.jh_named.specs.Kinds as spec;
 use jh_table::Shape;
 
 /// What a shape is where names are gathered.
-#[derive(Clone, Copy, Debug, PartialEq, Eq)]
+#[derive(Clone, Copy, PartialEq, Eq)]
 pub enum Kind {
     /// It has a name itself.
     Name,

@@ -6,7 +6,7 @@ use jh_name::NoMemory;
 use std::alloc::Global;
 
 /// A formula, or the negation of it.
-#[derive(Clone, Copy, Debug, PartialEq, Eq, Hash)]
+#[derive(Clone, Copy, PartialEq, Eq, Hash)]
 pub struct Signed {
     pub node: usize,
     pub positive: bool,

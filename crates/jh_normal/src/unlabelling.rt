@@ -11,7 +11,7 @@ use jh_rebuild::{BuildRules, Polarity, rebuild};
 use jh_table::{Shape, Table};
 
 /// The rule that takes labels off.
-#[derive(Clone, Copy, Debug)]
+#[derive(Clone, Copy)]
 struct Unlabelling;
 
 impl BuildRules for Unlabelling {

@@ -6,7 +6,7 @@ use jh_name::{MethodId, NoMemory};
 use std::alloc::AllocFailed;
 
 /// Why a program has no list of sequents.
-#[derive(Clone, Copy, Debug, PartialEq, Eq)]
+#[derive(Clone, Copy, PartialEq, Eq)]
 pub enum LogicError {
     /// The first method with more than 2,000 has so many; the greatest `u128` stands for itself and for more.
     TooManySequents { method: MethodId, n: u128 },

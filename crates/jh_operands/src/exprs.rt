@@ -3,7 +3,7 @@ use jh_name::Place;
 /// An expression whose value is an object. A name is that of a parameter, a local or a static, and stands by its number in
 /// a run, as `this` does; a read has its field, its receiver, and the place of the receiver's first token.
 #[cycle(object_expr)]
-#[derive(Debug, Drop)]
+#[derive(Drop)]
 pub enum ObjectExpr {
     Null,
     This(usize),
@@ -13,7 +13,7 @@ pub enum ObjectExpr {
 
 /// An expression whose value is a number. Arithmetic has the place of its own first token.
 #[cycle(number_expr)]
-#[derive(Debug, Drop)]
+#[derive(Drop)]
 pub enum NumberExpr {
     Const(i64),
     Name(usize),
@@ -26,7 +26,7 @@ pub enum NumberExpr {
 
 /// An expression whose value is a truth.
 #[cycle(truth_expr)]
-#[derive(Debug, Drop)]
+#[derive(Drop)]
 pub enum TruthExpr {
     Literal(bool),
     Name(usize),
@@ -44,7 +44,7 @@ pub enum TruthExpr {
 }
 
 /// An expression of code, by the type of its values.
-#[derive(Debug, Drop)]
+#[derive(Drop)]
 pub enum AnyExpr {
     Object(ObjectExpr),
     Number(NumberExpr),

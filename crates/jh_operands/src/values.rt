@@ -15,7 +15,7 @@ use crate::truths::truth_value;
 use jh_memory::Memory;
 
 /// A value of code: an object, a number or a truth.
-#[derive(Clone, Copy, Debug, PartialEq, Eq)]
+#[derive(Clone, Copy, PartialEq, Eq)]
 pub enum Scalar {
     Object(u32),
     Number(i64),

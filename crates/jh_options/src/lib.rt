@@ -2,7 +2,7 @@
 #![tactic(auto)]
 
 /// How far the search for a proof of a sequent goes.
-#[derive(Clone, Copy, Debug)]
+#[derive(Clone, Copy)]
 pub struct Options {
     /// How often the universal facts are put at the objects that are at hand, at least 1.
     pub rounds: u32,

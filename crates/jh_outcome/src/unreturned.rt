@@ -4,7 +4,7 @@ use jh_todo::Stop;
 
 /// Why a run doesn't return: the program has no such method, the text spells no heap of it, the run stops before its end,
 /// or memory ran out.
-#[derive(Clone, Copy, Debug, PartialEq, Eq)]
+#[derive(Clone, Copy, PartialEq, Eq)]
 pub enum Unreturned {
     NoMethod,
     NoHeap(HeapError),

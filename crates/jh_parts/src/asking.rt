@@ -8,7 +8,7 @@ use jh_name::Sort;
 use jh_table::{Shape, Table};
 
 /// Asks for the terms for objects that have no loose bound variable.
-#[derive(Clone, Copy, Debug)]
+#[derive(Clone, Copy)]
 pub struct ClosedObjects;
 
 impl PartTest for ClosedObjects {
@@ -23,7 +23,7 @@ impl PartTest for ClosedObjects {
 }
 
 /// Asks for the updates of fields.
-#[derive(Clone, Copy, Debug)]
+#[derive(Clone, Copy)]
 pub struct Updates;
 
 impl PartTest for Updates {
@@ -36,7 +36,7 @@ impl PartTest for Updates {
 
 /// Asks for the formulas that speak of a list of fields: that an object is reached along them, and that they are a
 /// forest.
-#[derive(Clone, Copy, Debug)]
+#[derive(Clone, Copy)]
 pub struct FieldLists;
 
 impl PartTest for FieldLists {
@@ -48,7 +48,7 @@ impl PartTest for FieldLists {
 }
 
 /// Asks for the free names, each at its sort: the shape of a node that is found says both.
-#[derive(Clone, Copy, Debug)]
+#[derive(Clone, Copy)]
 pub struct FreeNames;
 
 impl PartTest for FreeNames {

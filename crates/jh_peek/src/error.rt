@@ -5,7 +5,7 @@ use jh_name::NoMemory;
 use std::alloc::{AllocError, AllocFailed};
 
 /// Why nothing was read.
-#[derive(Clone, Copy, Debug, PartialEq, Eq)]
+#[derive(Clone, Copy, PartialEq, Eq)]
 pub enum ReadError {
     /// No such thing stands there: reading stopped at the token of this number.
     Refused(usize),

@@ -1,7 +1,7 @@
 use jh_name::Kind;
 
 /// No node, one or two.
-#[derive(Clone, Copy, Debug)]
+#[derive(Clone, Copy)]
 pub enum Nodes {
     Nothing,
     One(usize),
@@ -9,7 +9,7 @@ pub enum Nodes {
 }
 
 /// The branches that a step leads to, each with what it adds.
-#[derive(Clone, Copy, Debug)]
+#[derive(Clone, Copy)]
 pub enum Adds {
     Closes,
     Goes(Nodes),
@@ -17,14 +17,14 @@ pub enum Adds {
 }
 
 /// What a step needs and where it leads to.
-#[derive(Clone, Copy, Debug)]
+#[derive(Clone, Copy)]
 pub struct NodeRule {
     pub needs: Nodes,
     pub adds: Adds,
 }
 
 /// A step whose operands are nodes without labels. The name of a witness is the node of its term.
-#[derive(Clone, Copy, Debug)]
+#[derive(Clone, Copy)]
 pub enum NodeStep {
     Absurd,
     Pair(usize),

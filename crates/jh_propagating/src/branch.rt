@@ -13,7 +13,7 @@ use jh_name::{NoMemory, Row};
 use jh_trail::{Decided, Trail, others_say_nothing};
 
 /// Why a literal stands in the trail.
-#[derive(Clone, Copy, Debug, PartialEq, Eq)]
+#[derive(Clone, Copy, PartialEq, Eq)]
 pub enum Reason {
     /// It was decided.
     Decision,
@@ -24,7 +24,7 @@ pub enum Reason {
 }
 
 /// Why a branch is closed.
-#[derive(Debug, Drop)]
+#[derive(Drop)]
 pub enum Cause {
     /// The instance at this place is false.
     Instance(usize),

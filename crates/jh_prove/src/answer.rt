@@ -5,7 +5,7 @@ use jh_local::LocalCause;
 use jh_query::{Query, Sizes};
 
 /// Why regions don't prove a sequent.
-#[derive(Debug, Drop)]
+#[derive(Drop)]
 pub enum BapaCause {
     /// These sizes fit the query of the sequent, and make its hypotheses true and its goal false.
     Refuted(Sizes),
@@ -18,7 +18,7 @@ pub enum BapaCause {
 }
 
 /// What is said of a sequent.
-#[derive(Debug, Drop)]
+#[derive(Drop)]
 pub enum Answer {
     /// It is valid at sight.
     Trivial,
@@ -31,7 +31,7 @@ pub enum Answer {
 }
 
 /// What is said of a sequent, in one word.
-#[derive(Clone, Copy, Debug, PartialEq, Eq)]
+#[derive(Clone, Copy, PartialEq, Eq)]
 pub enum Verdict {
     Trivial,
     Bapa,

@@ -16,7 +16,7 @@ use jh_table::{Shape, Table};
 
 /// The rules by which a node stands for a binder's own variable, with its loose bound variables raised by the binders that
 /// were passed.
-#[derive(Clone, Copy, Debug)]
+#[derive(Clone, Copy)]
 struct Putting {
     with: usize,
 }

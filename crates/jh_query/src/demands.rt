@@ -9,7 +9,7 @@ use crate::matching::same_atom;
 use crate::{Cond, Query};
 
 /// What a query wants of an atom.
-#[derive(Clone, Copy, Debug)]
+#[derive(Clone, Copy)]
 pub enum Demand {
     True,
     False,

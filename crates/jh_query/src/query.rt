@@ -1,7 +1,7 @@
 use jh_name::Row;
 
 /// A set of objects.
-#[derive(Debug, Drop)]
+#[derive(Drop)]
 pub enum SetExpr {
     /// The set with this number.
     Var(u32),
@@ -17,7 +17,7 @@ pub enum SetExpr {
 }
 
 /// A whole number, which has no bounds.
-#[derive(Debug, Drop)]
+#[derive(Drop)]
 pub enum Num {
     Const(i64),
     /// The number with this number.
@@ -32,7 +32,7 @@ pub enum Num {
 }
 
 /// What may be true or false.
-#[derive(Debug, Drop)]
+#[derive(Drop)]
 pub enum Cond {
     True,
     False,
@@ -58,7 +58,7 @@ pub enum Cond {
 
 /// Whether the goal follows from the hypotheses, whatever sets, elements, numbers and flags there are.
 /// Element 0 is null, and is always there.
-#[derive(Debug, Drop)]
+#[derive(Drop)]
 pub struct Query {
     /// How many sets there are.
     pub sets: u32,

@@ -1,7 +1,7 @@
 use jh_name::Row;
 
 /// Where an element stands. Elements of one class are one object, and elements of two classes are two.
-#[derive(Clone, Copy, Debug)]
+#[derive(Clone, Copy)]
 pub struct Spot {
     pub class: u32,
     /// The region of the object: the sets in which it lies are those whose bits are 1.
@@ -9,7 +9,7 @@ pub struct Spot {
 }
 
 /// A whole number: plus minus minus, each in binary digits, the least first.
-#[derive(Debug, Drop)]
+#[derive(Drop)]
 pub struct Whole {
     pub plus: Row<bool>,
     pub minus: Row<bool>,
@@ -17,7 +17,7 @@ pub struct Whole {
 
 /// All that matters for the truth of a query. Region r is the set of the objects that lie in exactly the
 /// sets whose bits are 1 in r.
-#[derive(Debug, Drop)]
+#[derive(Drop)]
 pub struct Sizes {
     /// How many objects of each region are no element, in binary digits, the least first.
     pub rest: Row<Row<bool>>,

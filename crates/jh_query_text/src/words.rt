@@ -2,7 +2,7 @@ use jh_name::NoMemory;
 use std::alloc::{AllocError, AllocFailed};
 
 /// A text is no query, or memory ran out.
-#[derive(Clone, Copy, Debug)]
+#[derive(Clone, Copy)]
 pub struct Unread;
 
 impl From<NoMemory> for Unread {
@@ -24,7 +24,7 @@ impl<T: Drop> From<AllocFailed<T>> for Unread {
 }
 
 /// Words, and the place of the next.
-#[derive(Debug, Drop)]
+#[derive(Drop)]
 pub(crate) struct Words<'a> {
     pub(crate) words: &'a [&'a str],
     pub(crate) place: usize,

@@ -18,7 +18,7 @@ use jh_rules::StateEntry;
 use std::alloc::Global;
 
 /// A field, static or variable that is read, with its own name.
-#[derive(Debug, Drop)]
+#[derive(Drop)]
 pub struct Read {
     pub entry: StateEntry,
     pub own: Text,

@@ -7,7 +7,7 @@ use jh_name::NoMemory;
 use std::alloc::Global;
 
 /// A node, seen where it stands so.
-#[derive(Clone, Copy, Debug, PartialEq, Eq, Hash)]
+#[derive(Clone, Copy, PartialEq, Eq, Hash)]
 pub struct Key {
     pub node: usize,
     pub polarity: Polarity,

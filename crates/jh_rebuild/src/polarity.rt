@@ -5,7 +5,7 @@ ghost use Rattle.jh_rebuild.specs.Built.{turned};
 
 /// How a part stands in the whole: positive where a stronger part makes the whole stronger, negative where
 /// it makes the whole weaker, and both where only a part of the same meaning will do.
-#[derive(Clone, Copy, Debug, PartialEq, Eq, Hash)]
+#[derive(Clone, Copy, PartialEq, Eq, Hash)]
 pub enum Polarity {
     Positive,
     Negative,

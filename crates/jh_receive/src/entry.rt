@@ -13,7 +13,7 @@ use jh_rewrite::{LeafRules, walked};
 use jh_table::{Shape, Table};
 
 /// The rules by which state at the method's entry stands for state.
-#[derive(Clone, Copy, Debug)]
+#[derive(Clone, Copy)]
 struct Entry {}
 
 impl LeafRules for Entry {

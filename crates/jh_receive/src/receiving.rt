@@ -14,7 +14,7 @@ use jh_several::lift;
 use jh_table::{Shape, Table};
 
 /// The rules by which a node stands for the one loose variable of a definition's value.
-#[derive(Clone, Copy, Debug)]
+#[derive(Clone, Copy)]
 struct Receiving {
     receiver: usize,
 }

@@ -46,7 +46,7 @@ pub fn coerced(table: &mut Table, node: usize, sort: Sort) -> Result<usize, NoMe
 }
 
 /// Two nodes.
-#[derive(Clone, Copy, Debug)]
+#[derive(Clone, Copy)]
 pub struct Two {
     pub left: usize,
     pub right: usize,

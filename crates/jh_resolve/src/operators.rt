@@ -210,7 +210,7 @@ fn multiple(table: &mut Table, factor: Option<i64>, inner: usize) -> Result<usiz
 }
 
 /// The operands of an operator, each with the number that it is as a literal.
-#[derive(Clone, Copy, Debug)]
+#[derive(Clone, Copy)]
 pub struct Operands {
     pub left_literal: Option<i64>,
     pub left: usize,

@@ -17,7 +17,7 @@ use jh_name::NoMemory;
 use jh_table::{Shape, Table};
 
 /// The rules by which one node stands for another, wherever that one stands.
-#[derive(Clone, Copy, Debug)]
+#[derive(Clone, Copy)]
 struct Exchanging {
     old: usize,
     new: usize,

@@ -6,7 +6,7 @@ use jh_name::NoMemory;
 use std::alloc::Global;
 
 /// A node, seen where this number of binders were passed.
-#[derive(Clone, Copy, Debug, PartialEq, Eq, Hash)]
+#[derive(Clone, Copy, PartialEq, Eq, Hash)]
 pub struct Key {
     pub node: usize,
     pub depth: u32,

@@ -16,7 +16,7 @@ use jh_name::NoMemory;
 use jh_table::{Shape, Table};
 
 /// The rules by which a node stands for a binder's own variable.
-#[derive(Clone, Copy, Debug)]
+#[derive(Clone, Copy)]
 struct Opening {
     with: usize,
 }

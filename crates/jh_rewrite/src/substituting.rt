@@ -24,7 +24,7 @@ use jh_table::{Shape, Table};
 
 /// The rules by which a node stands for a free name of its sort: the name's number, its node at that
 /// sort, and the node that stands for it.
-#[derive(Clone, Copy, Debug)]
+#[derive(Clone, Copy)]
 struct Substituting {
     name: usize,
     leaf: usize,

@@ -9,7 +9,7 @@ use jh_name::Place;
 
 /// What is found of a part of a program: the least fault in it, and what is known of it where nothing in it
 /// is wrong.
-#[derive(Clone, Copy, Debug, PartialEq, Eq)]
+#[derive(Clone, Copy, PartialEq, Eq)]
 pub struct Found<T> {
     pub least: Option<Fault>,
     pub known: Option<T>,

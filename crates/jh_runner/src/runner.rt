@@ -25,7 +25,7 @@ use jh_todo::Stop;
 use std::alloc::Global;
 
 /// How a run from a heap ends that returns: the heap at its end, and the result, where there is one.
-#[derive(Debug, Drop)]
+#[derive(Drop)]
 pub struct Answered {
     pub heap: Heap,
     pub result: Option<Cell>,

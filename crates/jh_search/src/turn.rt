@@ -2,7 +2,7 @@ use jh_propagating::Branch;
 use jh_trail::Decided;
 
 /// A branch that is closed: its decisions, and literals that explain why.
-#[derive(Debug, Drop)]
+#[derive(Drop)]
 pub struct ClosedBranch {
     pub decisions: Vec<Decided>,
     pub explanation: Vec<Decided>,
@@ -28,7 +28,7 @@ pub struct Searching {
 }
 
 /// What a closed branch leads back to: nothing is left; a decision is turned round; or the budget is spent.
-#[derive(Clone, Copy, Debug, PartialEq, Eq)]
+#[derive(Clone, Copy, PartialEq, Eq)]
 pub enum Retreat {
     Finished,
     Turned,
@@ -37,7 +37,7 @@ pub enum Retreat {
 
 /// What a search comes to: there is no ground model; the trail of its branch is one; or so many branches are closed, and it isn't
 /// finished.
-#[derive(Clone, Copy, Debug, PartialEq, Eq)]
+#[derive(Clone, Copy, PartialEq, Eq)]
 pub enum Found {
     NoModel,
     Model,

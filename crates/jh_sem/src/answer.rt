@@ -8,7 +8,7 @@ use jh_name::NoMemory;
 use std::alloc::AllocFailed;
 
 /// Why a formula or a term has no answer.
-#[derive(Clone, Copy, Debug, PartialEq, Eq)]
+#[derive(Clone, Copy, PartialEq, Eq)]
 pub enum SemError {
     /// Some number term in it has a value outside `i128` for some objects in place of its bound variables.
     Wide,

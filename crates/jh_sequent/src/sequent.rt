@@ -2,14 +2,14 @@ use jh_name::{MethodId, Name, Row};
 use jh_tree::{Formula, Mark};
 
 /// A hypothesis, with the name under which it is known.
-#[derive(Debug, Drop)]
+#[derive(Drop)]
 pub struct Hyp {
     pub name: Option<Name>,
     pub fact: Formula,
 }
 
 /// A proof obligation of a method: where the hypotheses are true, the goal is to be true.
-#[derive(Debug, Drop)]
+#[derive(Drop)]
 pub struct Sequent {
     pub method: MethodId,
     pub mark: Mark,

@@ -20,7 +20,7 @@ use jh_table::{Shape, Table};
 
 /// The rules by which constants stand for the variables of binders that were passed: their turns, that of the
 /// innermost binder first.
-#[derive(Clone, Copy, Debug)]
+#[derive(Clone, Copy)]
 struct Closing<'a> {
     turns: &'a [u32],
 }

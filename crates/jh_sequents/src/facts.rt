@@ -17,7 +17,7 @@ use jh_table::{Shape, Table};
 
 /// An assumption that is to be taken apart: its node, its innermost label, and the list of the binders that were
 /// passed.
-#[derive(Clone, Copy, Debug)]
+#[derive(Clone, Copy)]
 pub(crate) struct Assumed {
     pub(crate) node: usize,
     pub(crate) mark: Option<usize>,
@@ -25,7 +25,7 @@ pub(crate) struct Assumed {
 }
 
 /// A list of hypotheses, and the turn of the first constant that is free behind them.
-#[derive(Clone, Copy, Debug)]
+#[derive(Clone, Copy)]
 pub(crate) struct Facts {
     pub(crate) hyps: Option<usize>,
     pub(crate) next: u32,

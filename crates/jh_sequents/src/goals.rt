@@ -16,7 +16,7 @@ use jh_table::{Shape, Table};
 
 /// A goal that is to be split: its node, its innermost label, the list of the binders that were passed, and the
 /// hypotheses.
-#[derive(Clone, Copy, Debug)]
+#[derive(Clone, Copy)]
 pub(crate) struct Goal {
     pub(crate) node: usize,
     pub(crate) mark: Option<usize>,

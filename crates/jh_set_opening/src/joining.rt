@@ -12,7 +12,7 @@ use jh_name::NoMemory;
 use jh_table::Table;
 
 /// How what two sets say of an object is joined.
-#[derive(Clone, Copy, Debug, PartialEq, Eq)]
+#[derive(Clone, Copy, PartialEq, Eq)]
 pub enum Join {
     Or,
     And,

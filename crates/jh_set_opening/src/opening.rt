@@ -15,7 +15,7 @@ use jh_rebuild::{BuildRules, Polarity, rebuild};
 use jh_table::{Shape, Table};
 
 /// The rule that opens sets.
-#[derive(Clone, Copy, Debug)]
+#[derive(Clone, Copy)]
 struct OpeningSets;
 
 /// The set of no object, as a comprehension.

@@ -14,7 +14,7 @@ use jh_rewrite::{LeafRules, walked};
 use jh_table::{Shape, Table};
 
 /// The rules by which loose bound variables rise.
-#[derive(Clone, Copy, Debug)]
+#[derive(Clone, Copy)]
 struct Lifting {
     by: u32,
 }

@@ -15,7 +15,7 @@ use jh_rewrite::{LeafRules, walked};
 use jh_table::{Shape, Table};
 
 /// The rules by which nodes stand for the variables of several binders.
-#[derive(Clone, Copy, Debug)]
+#[derive(Clone, Copy)]
 struct OpeningAll<'a> {
     with: &'a [usize],
 }

@@ -11,7 +11,7 @@ use jh_table::{Shape, Table};
 
 /// A free name by its number in a table, its node at the sort of a value, and the node of the value that is
 /// put for it. `replacement` makes one.
-#[derive(Clone, Copy, Debug)]
+#[derive(Clone, Copy)]
 pub struct Instead {
     pub name: usize,
     pub leaf: usize,

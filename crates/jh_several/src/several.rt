@@ -17,7 +17,7 @@ use jh_rewrite::{LeafRules, walked};
 use jh_table::{Shape, Table};
 
 /// The rules by which each name of a list has a node put for it.
-#[derive(Clone, Copy, Debug)]
+#[derive(Clone, Copy)]
 struct Several<'a> {
     pairs: &'a [Instead],
 }

@@ -11,7 +11,7 @@ use jh_name::NoMemory;
 use jh_table::{Shape, Table};
 
 /// How two formulas are joined.
-#[derive(Clone, Copy, Debug, PartialEq, Eq)]
+#[derive(Clone, Copy, PartialEq, Eq)]
 pub enum Connective {
     And,
     Or,
@@ -20,7 +20,7 @@ pub enum Connective {
 }
 
 /// What is left of two formulas that are joined, where True and False are folded away.
-#[derive(Clone, Copy, Debug, PartialEq, Eq)]
+#[derive(Clone, Copy, PartialEq, Eq)]
 pub enum Rest {
     True,
     False,

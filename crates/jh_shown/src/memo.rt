@@ -8,14 +8,14 @@ use jh_name::NoMemory;
 use std::alloc::Global;
 
 /// A formula, and whether it stands positively in its sequent.
-#[derive(Clone, Copy, Debug, PartialEq, Eq, Hash)]
+#[derive(Clone, Copy, PartialEq, Eq, Hash)]
 pub struct Signed {
     pub node: usize,
     pub positive: bool,
 }
 
 /// What is shown of a formula, and whether that is all of it.
-#[derive(Clone, Copy, Debug, PartialEq, Eq)]
+#[derive(Clone, Copy, PartialEq, Eq)]
 pub struct Made {
     pub node: usize,
     pub sayable: bool,

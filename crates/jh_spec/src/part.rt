@@ -2,7 +2,7 @@ use jh_ast::{Labelled, Spec, SpecVar, Stmt, VarDef, Word};
 use jh_name::Row;
 
 /// A part of a specification that stands among the members of a class.
-#[derive(Debug, Drop)]
+#[derive(Drop)]
 pub enum SpecItem {
     /// `specvar`
     Var(SpecVar),
@@ -13,7 +13,7 @@ pub enum SpecItem {
 }
 
 /// What a specification comment holds.
-#[derive(Debug, Drop)]
+#[derive(Drop)]
 pub enum SpecPart {
     /// `claimedby` and a class, before a class.
     Claimed(Word),

@@ -7,7 +7,7 @@ use std::alloc::Global;
 use std::marker::Model;
 
 /// That something is so of the thing `of`: a method, say, writes the piece of state of number `what`.
-#[derive(Clone, Copy, Debug, PartialEq, Eq, Hash)]
+#[derive(Clone, Copy, PartialEq, Eq, Hash)]
 pub struct Fact {
     pub of: usize,
     pub what: usize,

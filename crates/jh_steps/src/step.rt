@@ -2,7 +2,7 @@ use jh_name::{Kind, Name, Row};
 use jh_tree::{FieldTerm, Formula, Term, Value};
 
 /// The field of which a field is the update, at one object: as the last of the axioms on reachability takes it.
-#[derive(Debug, Drop)]
+#[derive(Drop)]
 pub struct Base {
     /// The place of the field in the list of fields.
     pub place: u32,
@@ -13,7 +13,7 @@ pub struct Base {
 
 /// A step of a derivation, with its operands: it closes its branch, or it adds facts and goes on in one branch
 /// or in two. Which formulas have to be facts and which are added is said by `rule_of` of specs/Rules.
-#[derive(Debug, Drop)]
+#[derive(Drop)]
 pub enum DerivStep {
     /// False is a fact.
     Absurd,
@@ -54,7 +54,7 @@ pub enum DerivStep {
 }
 
 /// A derivation: a tree of steps, kept as their list, the root first and each left branch before the right one.
-#[derive(Debug, Drop)]
+#[derive(Drop)]
 pub struct Derivation {
     pub steps: Row<DerivStep>,
 }

@@ -1,7 +1,7 @@
 use jh_tree::Formula;
 
 /// An atom, and whether it is said to hold. Which structures meet it is said by `Meets` of specs/Literals.
-#[derive(Debug, Drop)]
+#[derive(Drop)]
 pub struct Literal {
     pub atom: Formula,
     pub holds: bool,

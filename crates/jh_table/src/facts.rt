@@ -10,7 +10,7 @@ use jh_walk::{Extent, NOTHING, beside, over};
 
 /// What is kept beside a node: its extent, the number of binders that it needs around it, 64 bits of the
 /// numbers of its free names, and the least turn that is greater than that of each of them.
-#[derive(Clone, Copy, Debug)]
+#[derive(Clone, Copy)]
 pub struct Facts {
     pub extent: Extent,
     pub loose: u64,

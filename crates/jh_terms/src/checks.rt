@@ -13,7 +13,7 @@ use jh_table::{Shape, Table};
 use std::alloc::Global;
 
 /// A fact that is checked, by its node, and the place for which it is.
-#[derive(Clone, Copy, Debug)]
+#[derive(Clone, Copy)]
 pub struct CheckNode {
     pub place: Place,
     pub fact: usize,

@@ -11,7 +11,7 @@ use std::alloc::AllocFailed;
 /// Why a run stops before its end: null was dereferenced at a place, the formula of an assert or a note at a place was
 /// false, a statement at a place found no object to take, no step was left, a number at a place left its integers, or
 /// memory ran out.
-#[derive(Clone, Copy, Debug, PartialEq, Eq)]
+#[derive(Clone, Copy, PartialEq, Eq)]
 pub enum Stop {
     Null(Place),
     AssertFailed(Place),

@@ -22,14 +22,14 @@ use jh_table::Table;
 use jh_walk::boxed;
 
 /// How two numbers are compared.
-#[derive(Clone, Copy, Debug)]
+#[derive(Clone, Copy)]
 pub enum Comparison {
     Equal,
     Less,
 }
 
 /// How two sets are compared.
-#[derive(Clone, Copy, Debug)]
+#[derive(Clone, Copy)]
 pub enum Relation {
     Equal,
     Within,

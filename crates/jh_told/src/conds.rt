@@ -22,7 +22,7 @@ use jh_table::{Shape, Table};
 use jh_walk::boxed;
 
 /// How two conditions are joined.
-#[derive(Clone, Copy, Debug)]
+#[derive(Clone, Copy)]
 pub enum Connective {
     And,
     Or,

@@ -22,7 +22,7 @@ use jh_table::{Shape, Table};
 use jh_walk::boxed;
 
 /// How two numbers are joined.
-#[derive(Clone, Copy, Debug)]
+#[derive(Clone, Copy)]
 pub enum Sign {
     Plus,
     Minus,

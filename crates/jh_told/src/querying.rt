@@ -18,7 +18,7 @@ use jh_table::Table;
 use std::alloc::Global;
 
 /// How many names there are of each sort.
-#[derive(Clone, Copy, Debug)]
+#[derive(Clone, Copy)]
 pub struct Counts {
     pub sets: u32,
     pub elements: u32,

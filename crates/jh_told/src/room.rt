@@ -6,7 +6,7 @@ use jh_name::NoMemory;
 pub const MOST_PARTS: u64 = 1 << 20;
 
 /// How many parts may still be made.
-#[derive(Clone, Copy, Debug)]
+#[derive(Clone, Copy)]
 pub struct Room {
     pub left: u64,
 }

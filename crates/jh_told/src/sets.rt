@@ -21,7 +21,7 @@ use jh_table::{Shape, Table};
 use jh_walk::boxed;
 
 /// How two sets are joined.
-#[derive(Clone, Copy, Debug)]
+#[derive(Clone, Copy)]
 pub enum Operator {
     Union,
     Inter,

@@ -2,7 +2,7 @@ ghost use Rattle.std.specs.Prelude.{◌≡◌, ◌↔◌, IsTrue};
 ghost use Rattle.jh_trail.specs.Saying.{opposite_of};
 
 /// A literal over nodes of a table: a formula by the number of its node, and whether it is said to hold.
-#[derive(Clone, Copy, Debug, PartialEq, Eq)]
+#[derive(Clone, Copy, PartialEq, Eq)]
 pub struct Decided {
     pub atom: usize,
     pub holds: bool,

@@ -8,7 +8,7 @@ use crate::Decided;
 use jh_table::{Shape, Table};
 
 /// What an instance is: known to be true or false, a literal, or two instances joined by And or Or.
-#[derive(Clone, Copy, Debug)]
+#[derive(Clone, Copy)]
 pub(crate) enum Form {
     Known(bool),
     Literal(Decided),

@@ -17,7 +17,7 @@ use jh_table::Table;
 use std::alloc::Global;
 
 /// What a look at an instance comes to: it is false, or these literals are forced, those that are decided already among them.
-#[derive(Debug, Drop)]
+#[derive(Drop)]
 pub enum Looked {
     False,
     Forces(Row<Decided>),

@@ -7,7 +7,7 @@ use jh_name::{Name, Row};
 
 /// A term for an object. A bound variable is the number of binders between it and its own.
 #[cycle(form)]
-#[derive(Debug, Drop)]
+#[derive(Drop)]
 pub enum Term {
     Bound(u32),
     Free(Name),
@@ -18,7 +18,7 @@ pub enum Term {
 
 /// A term for a whole number, which has no bounds.
 #[cycle(form)]
-#[derive(Debug, Drop)]
+#[derive(Drop)]
 pub enum IntTerm {
     Const(i64),
     Free(Name),
@@ -35,7 +35,7 @@ pub enum IntTerm {
 
 /// A term for a set of objects.
 #[cycle(form)]
-#[derive(Debug, Drop)]
+#[derive(Drop)]
 pub enum SetTerm {
     Free(Name),
     /// The value of a field of sets at an object.
@@ -55,7 +55,7 @@ pub enum SetTerm {
 
 /// A term for a whole field.
 #[cycle(form)]
-#[derive(Debug, Drop)]
+#[derive(Drop)]
 pub enum FieldTerm {
     Free(Name),
     /// A field with another value at one object.
@@ -64,7 +64,7 @@ pub enum FieldTerm {
 
 /// A term of any sort. A truth is a formula.
 #[cycle(form)]
-#[derive(Debug, Drop)]
+#[derive(Drop)]
 pub enum Value {
     Obj(Term),
     Int(IntTerm),
@@ -75,7 +75,6 @@ pub enum Value {
 
 /// A formula.
 #[cycle(form)]
-#[derive(Debug)]
 pub enum Formula {
     True,
     False,
@@ -110,7 +109,7 @@ pub enum Formula {
 }
 
 /// What the parts of a formula are.
-#[derive(Clone, Copy, Debug)]
+#[derive(Clone, Copy)]
 enum Kind {
     /// Formulas, a field at an object, or none.
     Connective,

@@ -1,7 +1,7 @@
 use jh_name::{Name, Place, Row};
 
 /// Why a fact or a check stands where it does.
-#[derive(Clone, Copy, Debug, PartialEq, Eq, Hash)]
+#[derive(Clone, Copy, PartialEq, Eq, Hash)]
 pub enum MarkKind {
     /// A receiver is not null.
     Null,
@@ -26,7 +26,7 @@ pub enum MarkKind {
 }
 
 /// The label of a part of a formula. It changes no meaning.
-#[derive(Debug, PartialEq, Eq, Hash, Drop)]
+#[derive(PartialEq, Eq, Hash, Drop)]
 pub struct Mark {
     pub kind: MarkKind,
     /// Where the source states the part.

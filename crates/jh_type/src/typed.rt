@@ -46,14 +46,14 @@ impl Typed {
 }
 
 /// Why a program is refused: a broken type rule and its place, or want of memory.
-#[derive(Clone, Copy, Debug, PartialEq, Eq)]
+#[derive(Clone, Copy, PartialEq, Eq)]
 pub enum TypeError {
     TypeFault { rule: u8, place: Place },
     Memory,
 }
 
 /// A refusal, with the program as it was handed in.
-#[derive(Debug, Drop)]
+#[derive(Drop)]
 pub struct TypeRefused {
     pub fault: TypeError,
     pub program: Program,

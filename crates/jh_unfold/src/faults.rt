@@ -2,7 +2,7 @@ use jh_name::{Name, NoMemory};
 use jh_type::Typed;
 
 /// Why a program isn't unfolded.
-#[derive(Debug, Drop)]
+#[derive(Drop)]
 pub enum VarsError {
     /// A definition reads its own variable, directly or through others: the first such variable of the text.
     CyclicDef(Name),

@@ -4,7 +4,7 @@ use jh_parts::PartTest;
 use jh_table::{Shape, Table};
 
 /// Asks for the updates that hold no variable bound outside them.
-#[derive(Clone, Copy, Debug)]
+#[derive(Clone, Copy)]
 pub(crate) struct WholeUpdates;
 
 impl PartTest for WholeUpdates {

@@ -14,7 +14,7 @@ use jh_name::NoMemory;
 use jh_table::{Shape, Table};
 
 /// An update by nodes: the name that stands for it, and its parts, in which other updates have their names.
-#[derive(Clone, Copy, Debug)]
+#[derive(Clone, Copy)]
 pub struct NamedUpdate {
     pub name: usize,
     pub field: usize,

@@ -4,7 +4,7 @@ use jh_name::NoMemory;
 
 /// The number of nodes of a tree and the number of nodes on its longest way down, or the greatest u64
 /// where that is passed.
-#[derive(Clone, Copy, Debug, PartialEq, Eq)]
+#[derive(Clone, Copy, PartialEq, Eq)]
 pub struct Extent {
     pub nodes: u64,
     pub depth: u64,

@@ -9,7 +9,7 @@ use jh_tree::{FieldTerm, Formula, IntTerm, SetTerm, Term};
 use std::alloc::Global;
 
 /// The leaves that change nothing.
-#[derive(Clone, Copy, Debug)]
+#[derive(Clone, Copy)]
 pub struct Unchanged;
 
 // Out of line, so that the levels above a leaf don't keep its room on the stack.

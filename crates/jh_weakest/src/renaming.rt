@@ -13,7 +13,7 @@ use jh_rewrite::{LeafRules, walked};
 use jh_table::{Shape, Table};
 
 /// The rules by which one name stands for another at every sort, each by its number.
-#[derive(Clone, Copy, Debug)]
+#[derive(Clone, Copy)]
 struct Renaming {
     name: usize,
     with: usize,

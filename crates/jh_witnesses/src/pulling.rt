@@ -16,7 +16,7 @@ use jh_several::lift;
 use jh_table::{Shape, Table};
 
 /// A body, and behind how many quantifiers `all` it stands.
-#[derive(Clone, Copy, Debug)]
+#[derive(Clone, Copy)]
 pub(crate) struct Matrix {
     pub(crate) variables: u32,
     pub(crate) body: usize,

@@ -15,7 +15,7 @@ use jh_name::NoMemory;
 use jh_table::Table;
 
 /// A formula with constants for what is said to be there, and the number behind those of the constants.
-#[derive(Clone, Copy, Debug)]
+#[derive(Clone, Copy)]
 pub struct Settled {
     pub node: usize,
     pub next: u32,

@@ -13,7 +13,7 @@ use jh_name::{NoMemory, Text};
 use std::alloc::Global;
 
 /// Why there is no job.
-#[derive(Debug, Drop)]
+#[derive(Drop)]
 pub enum WordsError {
     /// The words ask for nothing; the text says what is wrong with them and what may be asked for.
     Usage(Text),
