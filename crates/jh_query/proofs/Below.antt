@@ -8,7 +8,7 @@ use Rattle.jh_query.specs.Size.{capped}
 use Rattle.jh_query.specs.Tree.{NumTree}
 use Rattle.jh_query.specs.Truth.{Reading, read_number, sum_below}
 use Rattle.jh_query.proofs.Fitting.{checked-is}
-use Rattle.jh_query.proofs.Ceilings.{plus-capped}
+use Rattle.jh_capped.proofs.Ceilings.{plus-capped}
 
 and_false : (b c : Bool) → c ≡ false → (b && c) ≡ false
 and_false true c e = e

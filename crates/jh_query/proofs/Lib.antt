@@ -1,9 +1,9 @@
+pub use Rattle.jh_capped.proofs.Ceilings
 pub mod Steps
 pub mod Fitting
 pub mod Digits
 pub mod Values
 pub mod Others
-pub mod Ceilings
 pub mod Below
 pub mod Standing
 pub mod Tallying

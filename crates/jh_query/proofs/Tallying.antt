@@ -8,7 +8,7 @@ use Rattle.jh_query.specs.Tree.{CondTree, QueryTree}
 use Rattle.jh_query.specs.Same.{same_atom}
 use Rattle.jh_query.specs.Size.{atom_weight, distinct, is_small_atom, product_by, slacks}
 use Rattle.jh_query.specs.Tallies.{IsTally, fresh, joined}
-use Rattle.jh_query.proofs.Ceilings.{plus-capped, times-capped}
+use Rattle.jh_capped.proofs.Ceilings.{plus-capped, times-capped}
 
 pub fresh-append : (xs ys later : List CondTree) → fresh (xs ++ ys) later ≡ fresh xs (ys ++ later) ++ fresh ys later
 fresh-append [] ys later = refl

@@ -1,8 +1,9 @@
 -- The size of a query: what bounds the work of deciding it. It is the number of places of the elements, times the
 -- cases of the atoms, times the nodes that a digit system of the query has at most.
-use Rattle.std.specs.Prelude.{ℕ, zero, suc, ◌+◌, ◌*◌, ◌-◌, ◌^◌, nat_lt, min, max, Bool, true, false, not, ◌&&◌, ◌||◌, if◌then◌else◌, List, [], ◌∷◌, ◌++◌, unsigned_abs, is_some}
+use Rattle.std.specs.Prelude.{ℕ, zero, suc, ◌+◌, ◌*◌, ◌-◌, ◌^◌, nat_lt, max, Bool, true, false, not, ◌&&◌, ◌||◌, if◌then◌else◌, List, [], ◌∷◌, ◌++◌, unsigned_abs, is_some}
 use Rattle.std.specs.List.{list_all, list_any, flat_map, sum_by}
 use Rattle.jh_tree.specs.Meaning.{all_below}
+pub use Rattle.jh_capped.specs.Capped.{capped, count_max}
 use Rattle.jh_query.specs.declared.demands.Demand.{Demand}
 use Rattle.jh_query.specs.declared.demands.Demand.TheVariants.{True, False, Loose}
 use Rattle.jh_query.specs.Tree.{SetExprTree, NumTree, CondTree, QueryTree}
@@ -11,13 +12,6 @@ use Rattle.jh_query.specs.Truth.{Reading, read_number, sum_below}
 use Rattle.jh_query.specs.Fitting.{checked_number}
 use Rattle.jh_query.specs.Linear.{rest_factor, number_factor, constant_part}
 use Rattle.jh_query.specs.Same.{same_atom}
-
--- the greatest count, and a count that stays there where it would be greater
-abbrev pub count_max : ℕ
-count_max = 2 ^ 128 - 1
-
-abbrev pub capped : ℕ → ℕ
-capped n = min n count_max
 
 -- the atoms of a condition, from the left
 abbrev pub atoms : CondTree → List CondTree

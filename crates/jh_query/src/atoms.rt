@@ -1,4 +1,4 @@
-#![tactic(auto, using(crate::proofs::Steps::tree_steps, crate::proofs::Standing::standing_steps))]
+#![tactic(auto, using(crate::proofs::Standing::standing_steps), unfolding(crate::specs::Bare::set_tree, crate::specs::Bare::num_tree, crate::specs::Bare::cond_tree))]
 
 ghost use Rattle.std.specs.Prelude.{◌≡◌, map};
 ghost use Rattle.std.specs.List.{flat_map, list_any};

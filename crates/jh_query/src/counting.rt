@@ -1,4 +1,4 @@
-#![tactic(auto, using(crate::proofs::Steps::tree_steps))]
+#![tactic(auto, unfolding(crate::specs::Bare::set_tree, crate::specs::Bare::num_tree, crate::specs::Bare::cond_tree))]
 
 ghost use Rattle.std.specs.Prelude.{◌≡◌, ◌+◌, ◌≤◌, ◌==◌, ◌&&◌, ◌||◌, if◌then◌else◌, IfSome, length, map, pos, slice_index_or};
 ghost use Rattle.std.specs.List.{list_any};
@@ -127,7 +127,7 @@ pub(crate) fn set_size(set: &SetExpr, sizes: &Sizes) -> Option<i128>
 }
 
 /// How two sets are compared.
-#[derive(Clone, Copy, Debug)]
+#[derive(Clone, Copy)]
 pub(crate) enum Comparison {
     /// The same objects are in both.
     Equal,

@@ -1,4 +1,4 @@
-#![tactic(auto, using(crate::proofs::Steps::tree_steps, crate::proofs::Values::value_steps))]
+#![tactic(auto, using(crate::proofs::Values::value_steps), unfolding(crate::specs::Bare::set_tree, crate::specs::Bare::num_tree, crate::specs::Bare::cond_tree))]
 
 ghost use Rattle.std.specs.Prelude.{◌≡◌, ◌==◌, IfSome, map, slice_index_or, false, int_lt, option_map};
 ghost use Rattle.std.specs.Ordering.{int_eq};

@@ -3,7 +3,6 @@
 #![tactic(auto)]
 
 mod atoms;
-mod capped;
 mod counting;
 mod demands;
 mod holding;

@@ -1,4 +1,4 @@
-#![tactic(auto, using(crate::proofs::Steps::tree_steps, crate::proofs::Others::other_steps))]
+#![tactic(auto, using(crate::proofs::Others::other_steps), unfolding(crate::specs::Bare::set_tree, crate::specs::Bare::num_tree, crate::specs::Bare::cond_tree))]
 
 ghost use Rattle.std.specs.Prelude.{◌≡◌, ◌==◌};
 ghost use Rattle.std.specs.Ordering.{int_eq};

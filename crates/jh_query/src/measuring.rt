@@ -1,6 +1,6 @@
-#![tactic(auto, using(crate::proofs::Steps::tree_steps, crate::proofs::Ceilings::capped_steps, crate::proofs::Tallying::tally_steps))]
+#![tactic(auto, using(jh_capped::proofs::Ceilings::capped_steps, crate::proofs::Tallying::tally_steps), unfolding(crate::specs::Bare::set_tree, crate::specs::Bare::num_tree, crate::specs::Bare::cond_tree))]
 
-ghost use Rattle.std.specs.Prelude.{◌≡◌, ◌+◌, ◌*◌, ◌^◌, ◌≤◌, ◌∷◌, [], MatchOption, false, map, true, unsigned_abs};
+ghost use Rattle.std.specs.Prelude.{◌≡◌, ◌+◌, ◌≤◌, ◌∷◌, [], MatchOption, false, map, true, unsigned_abs};
 ghost use Rattle.std.specs.List.{flat_map};
 ghost use Rattle.jh_query.specs.Bare.{cond_tree, query_tree};
 ghost use Rattle.jh_query.specs.Tree.{QueryTree};
@@ -9,10 +9,10 @@ ghost use Rattle.jh_query.specs.Tallies.{IsTally, fresh, joined};
 ghost use Rattle.jh_query.specs.Size.{atom_weight, atoms, atoms_of, capped, cases, distinct, is_small_atom, places, query_size, remainder_cases, slacks, three_cases, two_cases};
 
 use crate::atoms::{Later, is_later};
-use crate::capped::{plus, times};
 use crate::demands::{Demand, demanded};
 use crate::rows::atom_bound;
 use crate::{Cond, Query};
+use jh_capped::{column_count, plus, times};
 
 fn three_cases(demand: Demand) -> u128
     ensures { result ≡ three_cases demand }
@@ -96,7 +96,7 @@ fn atom_weight(query: &Query, atom: &Cond) -> Option<u128>
 }
 
 /// What the different atoms of a part of a query come to.
-#[derive(Clone, Copy, Debug)]
+#[derive(Clone, Copy)]
 pub(crate) struct Tally {
     /// The product of their weights.
     pub(crate) product: u128,
@@ -224,10 +224,7 @@ pub fn size(query: &Query) -> u128
     }
     match tally_all(query) {
         Some(tally) => {
-            let columns = plus(
-                1 << query.sets,
-                plus(2 * query.numbers as u128, tally.slacks),
-            );
+            let columns = column_count(query.sets, query.numbers, tally.slacks);
             let cases = times(places(query.sets, query.elements), tally.product);
             times(cases, plus(columns, 1))
         }

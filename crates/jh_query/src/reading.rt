@@ -1,4 +1,4 @@
-#![tactic(auto, using(crate::proofs::Steps::tree_steps, crate::proofs::Fitting::some_fitted))]
+#![tactic(auto, using(crate::proofs::Fitting::some_fitted), unfolding(crate::specs::Bare::set_tree, crate::specs::Bare::num_tree, crate::specs::Bare::cond_tree))]
 
 ghost use Rattle.std.specs.Prelude.{◌≡◌, ◌+ℤ◌, ◌-ℤ◌, ◌*ℤ◌, neg_ℤ, pos, if◌then◌else◌};
 ghost use Rattle.jh_query.specs.Bare.{num_tree, set_tree};
@@ -10,7 +10,7 @@ use crate::inside::rest_lies;
 use crate::{Num, SetExpr, Spot};
 
 /// What is picked of a number that is a sum over the rests of regions and over numbers.
-#[derive(Clone, Copy, Debug)]
+#[derive(Clone, Copy)]
 pub enum Part<'a> {
     /// The factor of the rest of a region.
     Rest(u64),

@@ -1,20 +1,20 @@
-#![tactic(auto, using(crate::proofs::Steps::tree_steps, crate::proofs::Ceilings::capped_steps))]
+#![tactic(auto, using(jh_capped::proofs::Ceilings::capped_steps), unfolding(crate::specs::Bare::set_tree, crate::specs::Bare::num_tree, crate::specs::Bare::cond_tree))]
 
 ghost use Rattle.std.specs.Prelude.{◌≡◌, ◌+◌, ◌*◌, ◌^◌, ◌≤◌, MatchOption, false, is_some, true, unsigned_abs};
 ghost use Rattle.jh_query.specs.Truth.{read_number};
 ghost use Rattle.jh_tree.specs.Meaning.{all_below};
 ghost use Rattle.jh_query.specs.Bare.{cond_tree, num_tree, query_tree};
 ghost use Rattle.jh_query.specs.Fitting.{checked_number};
-ghost use Rattle.jh_query.specs.Linear.{constant_part, number_factor, picked, rest_factor};
+ghost use Rattle.jh_query.specs.Linear.{number_factor, picked, rest_factor};
 ghost use Rattle.jh_query.specs.Sides.{side_tree};
 ghost use Rattle.jh_query.specs.Size.{atom_bound, capped, card_weight, fits_at, is_small, is_small_atom, number_weight, rest_weight, row_bound};
 
-use crate::capped::{plus, times};
 use crate::reading::{Part, difference, part_of};
 use crate::{Cond, Num, Query};
+use jh_capped::{plus, times};
 
 /// A number atom brought to one side.
-#[derive(Clone, Copy, Debug)]
+#[derive(Clone, Copy)]
 pub enum Side<'a> {
     Alone(&'a Num),
     Difference(&'a Num, &'a Num),

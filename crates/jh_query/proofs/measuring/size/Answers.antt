@@ -5,5 +5,5 @@ use Rattle.jh_query.proofs.measuring.size.Goals as goal
 
 pub returns-in-Some : goal.returns-in-Some
 returns-in-Some c =
-    size-is (query_tree c.args.query.now) _ _ _ _ _ _ _ _ _ (omega arith) (omega arith) c.in-Some.ensures.0 refl c.in-Some.ensures.2 c.plus.ensures c.plus-columns.ensures c.plus-in-Some.ensures c.places.ensures c.in-Some.ensures.1
+    size-is (query_tree c.args.query.now) _ _ _ _ _ _ _ (omega arith) c.in-Some.ensures.0 c.in-Some.ensures.2 c.column_count-columns.ensures c.plus.ensures c.places.ensures c.in-Some.ensures.1
     c.times-cases.ensures c.times.ensures

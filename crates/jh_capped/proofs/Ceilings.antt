@@ -2,7 +2,7 @@
 use Rattle.std.proofs.Common.{◌≡◌, ℕ, zero, suc, ◌+◌, ◌*◌, ◌^◌, ◌≤◌, ◌<◌, min, refl, sym, ap, ◌∙◌, ⊎_elim, arith}
 use Rattle.std.proofs.lemmas.Bool.{cases_lt}
 use Rattle.std.proofs.Math.Nat.{mul-le-mul_left, mul_comm}
-use Rattle.jh_query.specs.Size.{capped, count_max}
+use Rattle.jh_capped.specs.Capped.{capped, count_max}
 
 le_times : (a b : ℕ) → 1 ≤ b → a ≤ a * b
 le_times a b h = omega (arith, mul-le-mul_left a h)
