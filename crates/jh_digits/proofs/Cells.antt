@@ -1,6 +1,6 @@
 -- The cell of coordinates that are in range has those coordinates.
 use Rattle.std.proofs.Common.{◌≡◌, ℕ, ◌<◌, ap}
-use Rattle.jh_digits.specs.declared.system.System.{System}
+use Rattle.jh_systems.specs.declared.system.System.{System}
 use Rattle.jh_digits.specs.declared.space.Step.{Step}
 use Rattle.jh_digits.specs.Cells.{coordinates, radix, after, next_of, IsInRange, cell_of, cell_count, coordinate}
 use Rattle.jh_digits.proofs.Radix.{coordinate_code, code_below, code_same}

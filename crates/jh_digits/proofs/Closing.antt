@@ -3,8 +3,8 @@ use Rattle.std.proofs.Common.{◌≡◌, ◌≢◌, ℕ, ◌+◌, ◌*◌, ◌�
 use Rattle.std.proofs.lemmas.Bool.{cases_eq, cases_lt}
 use Rattle.std.proofs.lemmas.List.{get_or-set_same, get_or-set_other, length-set, get_or-replicate, length-replicate}
 use Rattle.std.proofs.Math.ListN.{get_or-eq_default}
-use Rattle.jh_digits.specs.declared.system.System.{System}
-use Rattle.jh_digits.specs.Solution.{IsWellFormed, IsSolution}
+use Rattle.jh_systems.specs.declared.system.System.{System}
+use Rattle.jh_systems.specs.Solution.{IsWellFormed, IsSolution}
 use Rattle.jh_digits.specs.Cells.{cell_count}
 use Rattle.jh_digits.specs.Closed.{IsClosed, start_of, end_of}
 use Rattle.jh_digits.specs.Table.{node_of, mark_of, taken_of, halved_of, CanTake, CanHalve, IsTable}

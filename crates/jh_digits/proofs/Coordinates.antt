@@ -1,11 +1,11 @@
 -- The coordinates of a system's cells, by needs and by rows.
 use Rattle.std.proofs.Common.{◌≡◌, ℕ, ◌+◌, ◌*◌, ◌-◌, ◌≤◌, ◌<◌, refl, arith, length, ⊎_elim}
 use Rattle.std.proofs.lemmas.Bool.{cases_lt, lt-ltb, le-ltb}
-use Rattle.jh_digits.specs.declared.system.System.{System}
+use Rattle.jh_systems.specs.declared.system.System.{System}
 use Rattle.jh_digits.specs.declared.space.Step.{Step}
 use Rattle.jh_digits.specs.declared.space.Step.TheVariants.{Start, End}
-use Rattle.jh_digits.specs.Solution.{right_of}
-use Rattle.jh_digits.specs.Nodes.{width_of, plus, minus, node_limit}
+use Rattle.jh_systems.specs.Solution.{right_of}
+use Rattle.jh_systems.specs.Nodes.{width_of, plus, minus, node_limit}
 use Rattle.jh_digits.specs.Cells.{row_depth, row_after, flag_after, coordinates, radix, depth, after, cell_count, stride, coordinate, next_of, IsInRange}
 use Rattle.jh_digits.proofs.Widths.{width_of_parts}
 use Rattle.jh_digits.proofs.Radix.{stride_pos, radix_within, width_within, stride_within}

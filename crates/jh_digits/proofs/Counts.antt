@@ -1,8 +1,8 @@
 -- A system's nodes are its columns, and one more, times its cells.
 use Rattle.std.proofs.Common.{◌≡◌, ℕ, zero, suc, ◌+◌, ◌*◌, ◌^◌, ◌-◌, ◌≤◌, refl, arith, length, add-suc, add-zero}
 use Rattle.std.proofs.Math.Nat.{pow-suc}
-use Rattle.jh_digits.specs.declared.system.System.{System}
-use Rattle.jh_digits.specs.Nodes.{widths, node_count, node_limit}
+use Rattle.jh_systems.specs.declared.system.System.{System}
+use Rattle.jh_systems.specs.Nodes.{widths, node_count, node_limit}
 use Rattle.jh_digits.specs.Cells.{coordinates, radix, cell_count, stride}
 use Rattle.jh_digits.proofs.Coordinates.{radix_need, radix_row}
 

@@ -6,11 +6,11 @@ use Rattle.std.proofs.lemmas.Nat.Bits.{bit_at_or, bit_at_ones, bit_at_cat_low, b
 use Rattle.std.proofs.Math.Nat.{pow-suc, pow-le-pow_right, one-le-pow}
 use Rattle.std.specs.Int.{bit_at}
 use Rattle.std.specs.Int.RustNames.{bit_or, bit_and}
-use Rattle.jh_digits.specs.declared.system.System.{System}
+use Rattle.jh_systems.specs.declared.system.System.{System}
 use Rattle.jh_digits.specs.declared.space.Step.{Step}
 use Rattle.jh_digits.specs.declared.space.Step.TheVariants.{Start, End, Take, Halve}
-use Rattle.jh_digits.specs.Solution.{need_of}
-use Rattle.jh_digits.specs.Nodes.{node_limit}
+use Rattle.jh_systems.specs.Solution.{need_of}
+use Rattle.jh_systems.specs.Nodes.{node_limit}
 use Rattle.jh_digits.specs.Cells.{names, radix, stride, code, rest, coordinate, cell_count, coordinates, next_of, flags_of, mask_of, flag_after}
 use Rattle.jh_digits.proofs.Radix.{coordinate_code, code_below, rest_is}
 use Rattle.jh_digits.proofs.Coordinates.{after_need, radix_need, scale_small}

@@ -1,6 +1,4 @@
 pub mod Saturation
-pub mod Sums
-pub mod Layers
 pub mod Widths
 pub mod Radix
 pub mod Coordinates

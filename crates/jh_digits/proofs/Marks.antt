@@ -4,7 +4,7 @@ use Rattle.std.proofs.lemmas.Bool.{cases_eq}
 use Rattle.std.proofs.lemmas.List.{get_or-set_same, get_or-set_other, length-set}
 use Rattle.std.proofs.lemmas.List.Sums.{sum_by-set}
 use Rattle.std.proofs.lemmas.Nat.{mul-add-lt, same_from_place}
-use Rattle.jh_digits.specs.declared.system.System.{System}
+use Rattle.jh_systems.specs.declared.system.System.{System}
 use Rattle.jh_digits.specs.Cells.{cell_count}
 use Rattle.jh_digits.specs.Closed.{start_of, end_of}
 use Rattle.jh_digits.specs.Table.{node_of, mark_of, taken_of, halved_of, CanTake, CanHalve, marks_left, IsFollowed, IsTable, Adds}

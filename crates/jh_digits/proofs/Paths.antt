@@ -2,15 +2,15 @@
 -- that can't be left has the start and not the end.
 use Rattle.std.proofs.Common.{◌≡◌, ℕ, zero, suc, ◌+◌, ◌*◌, ◌-◌, ◌/◌, ◌%◌, ◌≤◌, ◌<◌, ◌⊎◌, max, List, Bool, true, false, cond, eqb, length, get_or, refl, sym, ◌∙◌, inl, inr, ⊎_elim, arith}
 use Rattle.std.proofs.lemmas.Bool.{cases_lt, eq-eqb}
-use Rattle.jh_digits.specs.declared.system.System.{System}
+use Rattle.jh_systems.specs.declared.system.System.{System}
 use Rattle.jh_digits.specs.declared.space.Step.TheVariants.{Start, End, Take, Halve}
-use Rattle.jh_digits.specs.Solution.{entry_of, right_of, need_of, weighted, IsMet, IsSolution, IsWellFormed}
-use Rattle.jh_digits.specs.Nodes.{plus, minus, positive, negative, width_of}
-use Rattle.jh_digits.specs.Totals.{plus_total, minus_total}
+use Rattle.jh_systems.specs.Solution.{entry_of, right_of, need_of, weighted, IsMet, IsSolution, IsWellFormed}
+use Rattle.jh_systems.specs.Nodes.{plus, minus, positive, negative, width_of}
+use Rattle.jh_systems.specs.Totals.{plus_total, minus_total}
 use Rattle.jh_digits.specs.Cells.{row_halve, row_depth, names, after, coordinates, next_of, IsInRange, cell_of}
 use Rattle.jh_digits.specs.Closed.{IsClosed, start_of, end_of}
 use Rattle.jh_digits.proofs.Widths.{width_of_parts}
-use Rattle.jh_digits.proofs.Sums.{equal_parts, plus_total-split, minus_total-split, plus_total-zero, minus_total-zero}
+use Rattle.jh_systems.proofs.Sums.{equal_parts, plus_total-split, minus_total-split, plus_total-zero, minus_total-zero}
 use Rattle.jh_digits.proofs.Coordinates.{after_need, after_row, radix_need, radix_row, row_number}
 use Rattle.jh_digits.proofs.Walks.{walked, walked_need, walked_row, row_walked, flag_walked, AreDigits, row_sum, minus_part_of, positive_more, negative_more, flag_state, names_place}
 use Rattle.jh_digits.proofs.Cells.{cell_below, cell_same, next_in_range, next_cell}

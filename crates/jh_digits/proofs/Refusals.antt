@@ -4,10 +4,10 @@ use Prim.Native.Nat.{◌∣◌}
 use Rattle.std.proofs.Math.Nat.{dvd-add, dvd-add_iff_right, dvd-mul_right_of_dvd, eq-zero_of_zero-dvd}
 use Rattle.std.proofs.lemmas.Bool.{cases_eq, true≢false}
 use Rattle.std.proofs.lemmas.Nat.Gcd.{dvd-zero, dvd_trans, mod-eq-zero_of_dvd}
-use Rattle.jh_digits.specs.Solution.{weighted}
-use Rattle.jh_digits.specs.Nodes.{plus, minus, positive, negative}
-use Rattle.jh_digits.specs.Totals.{plus_total, minus_total}
-use Rattle.jh_digits.proofs.Sums.{equal_parts}
+use Rattle.jh_systems.specs.Solution.{weighted}
+use Rattle.jh_systems.specs.Nodes.{plus, minus, positive, negative}
+use Rattle.jh_systems.specs.Totals.{plus_total, minus_total}
+use Rattle.jh_systems.proofs.Sums.{equal_parts}
 
 plus_divided : (g : ℕ) (e : ℕ → ℤ) (v : ℕ → ℕ) (n : ℕ) → ((j : ℕ) → j < n → g ∣ plus (e j)) → g ∣ plus_total e v n
 plus_divided g e v zero h = dvd-zero g

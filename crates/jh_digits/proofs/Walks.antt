@@ -1,11 +1,11 @@
 -- The coordinates of a cell on a walk through the columns of a layer.
 use Rattle.std.proofs.Common.{◌≡◌, ℕ, zero, suc, ◌+◌, ◌*◌, ◌-◌, ◌≤◌, ◌<◌, ◌⊎◌, ℤ, List, [], ◌∷◌, Bool, true, false, cond, ◌||◌, eqb, length, get_or, refl, sym, ap, ◌∙◌, inl, inr, ⊎_elim, arith}
 use Rattle.std.proofs.lemmas.Bool.{eq-eqb, le-leb, false≢true, cases_lt}
-use Rattle.jh_digits.specs.declared.system.System.{System}
+use Rattle.jh_systems.specs.declared.system.System.{System}
 use Rattle.jh_digits.specs.declared.space.Step.TheVariants.{Take}
-use Rattle.jh_digits.specs.Solution.{entry_of, need_of}
-use Rattle.jh_digits.specs.Nodes.{plus, minus, positive, negative, width_of}
-use Rattle.jh_digits.specs.Totals.{plus_total, minus_total}
+use Rattle.jh_systems.specs.Solution.{entry_of, need_of}
+use Rattle.jh_systems.specs.Nodes.{plus, minus, positive, negative, width_of}
+use Rattle.jh_systems.specs.Totals.{plus_total, minus_total}
 use Rattle.jh_digits.specs.Cells.{row_take, names, after}
 use Rattle.jh_digits.proofs.Coordinates.{after_need, after_row}
 

@@ -4,9 +4,9 @@ use Rattle.std.proofs.Common.{◌≡◌, ℕ, ◌+◌, max, ℤ, pos, negsuc, �
 use Rattle.std.proofs.lemmas.Int.{ints, clamps}
 use Rattle.std.specs.Prelude.{unsigned_abs}
 use Rattle.std.specs.Int.{int_max, int_min}
-use Rattle.jh_digits.specs.declared.system.System.{System}
-use Rattle.jh_digits.specs.Solution.{entry_of, right_of}
-use Rattle.jh_digits.specs.Nodes.{plus, minus, positive, negative, width, width_of}
+use Rattle.jh_systems.specs.declared.system.System.{System}
+use Rattle.jh_systems.specs.Solution.{entry_of, right_of}
+use Rattle.jh_systems.specs.Nodes.{plus, minus, positive, negative, width, width_of}
 
 whole : (c : ℤ) (p n : ℕ) → (int_max c (pos n) -ℤ int_min c (neg_ℤ (pos p))) +ℤ pos (1 + p + n) ≡ pos (max (plus c) n + max (minus c) p + 1 + p + n)
 whole (pos a) p n = omega (arith, ints, clamps)

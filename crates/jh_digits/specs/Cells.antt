@@ -4,12 +4,12 @@
 -- below 0.
 use Rattle.std.specs.Prelude.{◌≡◌, ◌==◌, ℕ, zero, suc, ◌+◌, ◌*◌, ◌-◌, ◌/◌, ◌%◌, ◌^◌, ◌<◌, ◌≤◌, nat_lt, nat_le, max, ℤ, List, Bool, if◌then◌else◌, length, slice_index}
 use Rattle.std.specs.List.{list_any}
-use Rattle.jh_digits.specs.declared.system.System.{System}
+use Rattle.jh_systems.specs.declared.system.System.{System}
 use Rattle.jh_digits.specs.declared.space.Step.{Step}
 use Rattle.jh_digits.specs.declared.space.Step.TheVariants.{Start, End, Take, Halve}
 use Rattle.jh_digits.specs.declared.space.Space.{Space}
-use Rattle.jh_digits.specs.Solution.{entry_of, right_of, need_of}
-use Rattle.jh_digits.specs.Nodes.{plus, minus, positive, width_of, node_limit}
+use Rattle.jh_systems.specs.Solution.{entry_of, right_of, need_of}
+use Rattle.jh_systems.specs.Nodes.{plus, minus, positive, width_of, node_limit}
 
 -- how far remainders of row t may lie below 0: -(min(c, -p) - p)
 unfoldable pub row_depth : System → ℕ → ℕ

@@ -1,6 +1,6 @@
 -- A set of nodes that a search can't leave. A node is a column at work and a cell.
 use Rattle.std.specs.Prelude.{ℕ, suc, ◌<◌}
-use Rattle.jh_digits.specs.declared.system.System.{System}
+use Rattle.jh_systems.specs.declared.system.System.{System}
 use Rattle.jh_digits.specs.declared.space.Step.TheVariants.{Start, End, Take, Halve}
 use Rattle.jh_digits.specs.Cells.{next_of, IsInRange, cell_of, cell_count}
 

@@ -1,7 +1,7 @@
-pub mod Solution
-pub mod Nodes
-pub mod Totals
-pub mod Answers
+pub use Rattle.jh_systems.specs.Solution
+pub use Rattle.jh_systems.specs.Nodes
+pub use Rattle.jh_systems.specs.Totals
+pub use Rattle.jh_systems.specs.Answers
 pub mod Cells
 pub mod Closed
 pub mod Table

@@ -2,7 +2,7 @@
 -- digits, counted from 1 and at most 127, and 128 more where its steps were followed.
 use Rattle.std.specs.Prelude.{◌≡◌, ◌≢◌, ℕ, suc, ◌+◌, ◌*◌, ◌-◌, ◌<◌, ◌≤◌, List, length, slice_index}
 use Rattle.std.specs.List.{sum_by}
-use Rattle.jh_digits.specs.declared.system.System.{System}
+use Rattle.jh_systems.specs.declared.system.System.{System}
 use Rattle.jh_digits.specs.declared.space.Step.TheVariants.{Take, Halve}
 use Rattle.jh_digits.specs.Cells.{next_of, IsInRange, cell_of, cell_count}
 use Rattle.jh_digits.specs.Closed.{start_of}

@@ -1,5 +1,5 @@
 ghost use Rattle.std.specs.Prelude.{◌≡◌, ◌<◌, ◌≤◌, ◌≢◌, ℕ, true, false};
-ghost use Rattle.jh_digits.specs.Solution.{IsWellFormed, IsSolution};
+ghost use Rattle.jh_systems.specs.Solution.{IsWellFormed, IsSolution};
 ghost use Rattle.jh_digits.specs.Cells.{IsSpace};
 ghost use Rattle.jh_digits.specs.Table.{marks_left, IsTable};
 

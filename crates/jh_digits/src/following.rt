@@ -1,5 +1,5 @@
 ghost use Rattle.std.specs.Prelude.{◌≡◌, ◌≢◌, ◌<◌, ◌≤◌, true, false};
-ghost use Rattle.jh_digits.specs.Solution.{IsWellFormed};
+ghost use Rattle.jh_systems.specs.Solution.{IsWellFormed};
 ghost use Rattle.jh_digits.specs.Cells.{cell_count, IsSpace};
 ghost use Rattle.jh_digits.specs.Table.{mark_of, marks_left, IsTable, IsFollowed, Adds};
 

@@ -1,7 +1,6 @@
 //! Linear systems over the natural numbers, solved exactly by binary digits.
 #![tactic(auto)]
 
-mod checking;
 mod counting;
 mod exploring;
 mod following;
@@ -10,11 +9,9 @@ mod refusing;
 mod solving;
 mod space;
 mod sweeping;
-mod system;
 mod tables;
 mod tracing;
 
-pub use checking::holds;
 pub use counting::nodes;
+pub use jh_systems::{Digits, Solved, System, holds};
 pub use solving::solve;
-pub use system::{Digits, Solved, System};

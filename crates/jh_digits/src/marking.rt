@@ -1,5 +1,5 @@
 ghost use Rattle.std.specs.Prelude.{◌≡◌, ◌≢◌, ◌<◌, ◌≤◌, ◌*◌, ◌+◌, length, suc, IfSome, IfNone, slice_set};
-ghost use Rattle.jh_digits.specs.Solution.{IsWellFormed};
+ghost use Rattle.jh_systems.specs.Solution.{IsWellFormed};
 ghost use Rattle.jh_digits.specs.Cells.{cell_count, IsSpace};
 ghost use Rattle.jh_digits.specs.Closed.{start_of, end_of};
 ghost use Rattle.jh_digits.specs.Table.{node_of, mark_of, taken_of, halved_of, CanTake, CanHalve, marks_left, IsTable, IsFollowed, Adds};

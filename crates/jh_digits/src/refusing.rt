@@ -1,14 +1,13 @@
 ghost use Rattle.std.specs.Prelude.{◌≡◌, ◌<◌, ◌≤◌, ◌^◌, ℕ, true};
 ghost use Prim.Native.Nat.{◌∣◌};
 ghost use Rattle.std.specs.Int.{IsGcd};
-ghost use Rattle.jh_digits.specs.Solution.{entry_of, IsWellFormed, IsSolution};
-ghost use Rattle.jh_digits.specs.Answers.{IsUnequal};
-ghost use Rattle.jh_digits.specs.Nodes.{plus, minus};
+ghost use Rattle.jh_systems.specs.Solution.{entry_of, IsWellFormed, IsSolution};
+ghost use Rattle.jh_systems.specs.Answers.{IsUnequal};
+ghost use Rattle.jh_systems.specs.Nodes.{plus, minus};
 
 use crate::System;
-use crate::counting::{
-    minus_entry, minus_right, negative_sum, plus_entry, plus_right, positive_sum,
-};
+use crate::counting::{negative_sum, positive_sum};
+use jh_systems::{minus_entry, minus_right, plus_entry, plus_right};
 
 /// The greatest common divisor of two numbers.
 fn gcd(left: u64, right: u64) -> u64

@@ -1,9 +1,9 @@
-ghost use Rattle.std.specs.Prelude.{◌≡◌, ◌<◌, ◌≤◌, ◌+◌, ◌*◌, ℕ, true, false, length, IfOk, IfSome, IfNone, min};
-ghost use Rattle.jh_digits.specs.Solution.{IsWellFormed, IsSolution, HasColumns, spelled};
-ghost use Rattle.jh_digits.specs.Nodes.{node_count, node_limit, count_max};
-ghost use Rattle.jh_digits.specs.Cells.{cell_count, IsSpace};
+ghost use Rattle.std.specs.Prelude.{◌≤◌, ◌+◌, ◌*◌, ℕ, IfOk, IfSome, IfNone};
+ghost use Rattle.jh_systems.specs.Solution.{IsWellFormed, IsSolution, HasColumns, spelled};
+ghost use Rattle.jh_systems.specs.Nodes.{node_count, node_limit};
+ghost use Rattle.jh_digits.specs.Cells.{IsSpace};
 ghost use Rattle.jh_digits.specs.Table.{IsTable};
-ghost use Rattle.jh_digits.specs.Answers.{IfSolution, IfNoSolution, IfTooLarge};
+ghost use Rattle.jh_systems.specs.Answers.{IfSolution, IfNoSolution, IfTooLarge};
 
 use crate::System;
 use crate::counting::nodes;
@@ -12,10 +12,10 @@ use crate::following::Node;
 use crate::marking::start_cell;
 use crate::refusing::is_refused;
 use crate::space::Space;
-use crate::system::{Digits, Solved};
 use crate::tables::space_of;
 use crate::tracing::trace;
 use jh_name::NoMemory;
+use jh_systems::{Digits, Solved, told};
 use std::alloc::Global;
 use std::collections::VecDeque;
 
@@ -73,9 +73,5 @@ pub fn solve(alloc: Global, system: &System) -> Solved
     if is_refused(system) {
         return Solved::NoSolution;
     }
-    match search(alloc, system) {
-        Ok(Some(digits)) => Solved::Solution(digits),
-        Ok(None) => Solved::NoSolution,
-        Err(_) => Solved::Memory,
-    }
+    told(system, search(alloc, system))
 }

@@ -1,11 +1,11 @@
 ghost use Rattle.std.specs.Prelude.{◌≡◌, ◌==◌, ◌<◌, ◌≤◌, ◌%◌, ◌^◌, length, IfSome, IfNone, slice_index};
 ghost use Rattle.std.specs.List.{list_any};
-ghost use Rattle.jh_digits.specs.Solution.{IsWellFormed, need_of};
-ghost use Rattle.jh_digits.specs.Nodes.{node_limit, width_of};
+ghost use Rattle.jh_systems.specs.Solution.{IsWellFormed, need_of};
+ghost use Rattle.jh_systems.specs.Nodes.{node_limit, width_of};
 ghost use Rattle.jh_digits.specs.Cells.{names, row_after, flags_of, after, radix, row_depth, coordinates, coordinate, next_of, IsInRange, cell_of, cell_count, StepFits, IsSpace};
 
 use crate::System;
-use crate::counting::{minus_entry, minus_right, plus_entry, plus_right};
+use jh_systems::{minus_entry, minus_right, plus_entry, plus_right};
 
 /// What leads from one cell to another.
 #[derive(Clone, Copy)]

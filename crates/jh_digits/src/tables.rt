@@ -1,6 +1,6 @@
 ghost use Rattle.std.specs.Prelude.{◌≡◌, ◌<◌, ◌≤◌, ◌^◌, ℕ, IfOk, if◌then◌else◌, length, slice_index};
-ghost use Rattle.jh_digits.specs.Solution.{need_of, IsWellFormed};
-ghost use Rattle.jh_digits.specs.Nodes.{node_limit, node_count};
+ghost use Rattle.jh_systems.specs.Solution.{need_of, IsWellFormed};
+ghost use Rattle.jh_systems.specs.Nodes.{node_limit, node_count};
 ghost use Rattle.jh_digits.specs.Cells.{names, radix, depth, coordinates, cell_count, mask_of, IsSpace};
 
 use crate::System;

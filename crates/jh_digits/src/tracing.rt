@@ -1,14 +1,12 @@
 ghost use Rattle.std.specs.Prelude.{◌≡◌, ◌↔◌, ◌<◌, ◌≤◌, IsTrue, IfOk};
-ghost use Rattle.jh_digits.specs.Solution.{IsWellFormed, IsSolution, HasColumns, spelled};
+ghost use Rattle.jh_systems.specs.Solution.{IsWellFormed, IsSolution, HasColumns, spelled};
 ghost use Rattle.jh_digits.specs.Cells.{cell_count, IsSpace};
 
 use crate::System;
-use crate::checking::holds;
-use crate::counting::{minus_entry, plus_entry};
 use crate::marking::{FOLLOWED, end_cell, halve_cell, take_cell};
 use crate::space::Space;
-use crate::system::Digits;
 use jh_name::{NoMemory, Row};
+use jh_systems::{Digits, holds, minus_entry, plus_entry};
 use std::alloc::Global;
 
 /// In which layer a node was reached, counted from 1; 0 where it was not.

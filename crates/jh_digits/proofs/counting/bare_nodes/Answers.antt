@@ -1,4 +1,4 @@
-use Rattle.jh_digits.specs.Nodes.{count_max}
+use Rattle.jh_systems.specs.Nodes.{count_max}
 use Rattle.jh_digits.proofs.Saturation.{saturated_double}
 use Rattle.jh_digits.proofs.counting.bare_nodes.Goals as goal
 

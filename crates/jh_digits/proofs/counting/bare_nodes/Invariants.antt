@@ -1,5 +1,5 @@
 use Rattle.std.proofs.Common.{◌≡◌, ◌*◌, ◌+◌, ◌^◌, min}
-use Rattle.jh_digits.specs.Nodes.{count_max}
+use Rattle.jh_systems.specs.Nodes.{count_max}
 use Rattle.jh_digits.proofs.counting.bare_nodes.Given as goal
 
 abbrev pub invariant-loop : goal.invariant-loop

@@ -1,5 +1,5 @@
 use Rattle.std.proofs.Common.{arith, add-one}
-use Rattle.jh_digits.specs.Nodes.{count_max}
+use Rattle.jh_systems.specs.Nodes.{count_max}
 use Rattle.jh_digits.proofs.Widths.{width_of_parts}
 use Rattle.jh_digits.proofs.Saturation.{saturated_product}
 use Rattle.jh_digits.proofs.counting.nodes.Goals as goal

@@ -1,5 +1,5 @@
 use Rattle.std.proofs.Common.{◌≡◌, ◌*◌, ◌+◌, ◌^◌, length, min}
-use Rattle.jh_digits.specs.Nodes.{widths, count_max}
+use Rattle.jh_systems.specs.Nodes.{widths, count_max}
 use Rattle.jh_digits.proofs.counting.nodes.Given as goal
 
 abbrev pub invariant-loop-row : goal.invariant-loop-row

@@ -1,6 +1,6 @@
 use Rattle.std.proofs.Common.{◌≡◌, ◌≤◌, ◌*◌, ◌^◌}
-use Rattle.jh_digits.specs.Solution.{entry_of}
-use Rattle.jh_digits.specs.Nodes.{positive}
+use Rattle.jh_systems.specs.Solution.{entry_of}
+use Rattle.jh_systems.specs.Nodes.{positive}
 use Rattle.jh_digits.proofs.counting.positive_sum.Given as goal
 
 abbrev pub invariant-loop-column : goal.invariant-loop-column

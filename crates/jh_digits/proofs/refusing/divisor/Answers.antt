@@ -1,6 +1,6 @@
 use Rattle.std.proofs.lemmas.Nat.Gcd.{dvd_trans}
-use Rattle.jh_digits.specs.Solution.{entry_of}
-use Rattle.jh_digits.specs.Nodes.{plus, minus}
+use Rattle.jh_systems.specs.Solution.{entry_of}
+use Rattle.jh_systems.specs.Nodes.{plus, minus}
 use Rattle.jh_digits.proofs.Refusals.{divides_more}
 use Rattle.jh_digits.proofs.refusing.divisor.Goals as goal
 

@@ -1,7 +1,7 @@
 use Rattle.std.proofs.Common.{◌<◌, ℕ}
 use Prim.Native.Nat.{◌∣◌}
-use Rattle.jh_digits.specs.Solution.{entry_of}
-use Rattle.jh_digits.specs.Nodes.{plus, minus}
+use Rattle.jh_systems.specs.Solution.{entry_of}
+use Rattle.jh_systems.specs.Nodes.{plus, minus}
 use Rattle.jh_digits.proofs.refusing.divisor.Given as goal
 
 abbrev pub invariant-loop-column : goal.invariant-loop-column

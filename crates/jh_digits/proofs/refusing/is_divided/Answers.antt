@@ -1,4 +1,4 @@
-use Rattle.jh_digits.specs.Solution.{entry_of, right_of}
+use Rattle.jh_systems.specs.Solution.{entry_of, right_of}
 use Rattle.jh_digits.proofs.Refusals.{right_divided}
 use Rattle.jh_digits.proofs.refusing.is_divided.Goals as goal
 

@@ -1,6 +1,6 @@
 use Rattle.std.proofs.Common.{sym, ◌∙◌, arith}
 use Rattle.std.proofs.lemmas.Bool.{eqb-true}
-use Rattle.jh_digits.specs.Solution.{entry_of, right_of}
+use Rattle.jh_systems.specs.Solution.{entry_of, right_of}
 use Rattle.jh_digits.proofs.Refusals.{not_negative}
 use Rattle.jh_digits.proofs.refusing.lacks_negative.Goals as goal
 

@@ -1,7 +1,7 @@
 use Rattle.std.proofs.Common.{◌≡◌, ◌<◌, ◌≤◌, ◌*◌, ◌+◌, ◌/◌, ℕ, List, length, arith, ap, sym, get_or, add-one, below_more}
 use Rattle.std.proofs.lemmas.Nat.{mod_below}
 use Rattle.jh_digits.specs.Cells.{radix, stride, cell_count, cell_of, coordinates, next_of}
-use Rattle.jh_digits.specs.Nodes.{node_limit}
+use Rattle.jh_systems.specs.Nodes.{node_limit}
 use Rattle.jh_digits.proofs.Radix.{code_step}
 use Rattle.jh_digits.proofs.Coordinates.{radix_pos, scale_more, cells_small}
 use Rattle.jh_digits.proofs.Counts.{needs_stride}

@@ -1,6 +1,6 @@
 use Rattle.std.proofs.Common.{◌≡◌, ◌-◌, arith, ap, length, sym, ◌∙◌}
 use Rattle.jh_digits.specs.Cells.{depth, radix}
-use Rattle.jh_digits.specs.Nodes.{width_of}
+use Rattle.jh_systems.specs.Nodes.{width_of}
 use Rattle.jh_digits.proofs.Coordinates.{depth_need, depth_row, row_number, radix_small, radix_row, depth_within}
 use Rattle.jh_digits.proofs.tables.depth_at.Goals as goal
 

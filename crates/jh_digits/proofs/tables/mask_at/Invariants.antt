@@ -1,5 +1,5 @@
 use Rattle.std.proofs.Common.{◌≡◌, ◌<◌, ◌^◌, cond}
-use Rattle.jh_digits.specs.Solution.{need_of}
+use Rattle.jh_systems.specs.Solution.{need_of}
 use Rattle.jh_digits.specs.Cells.{names, code, radix}
 use Rattle.jh_digits.proofs.tables.mask_at.Given as goal
 

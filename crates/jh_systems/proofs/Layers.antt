@@ -2,10 +2,10 @@
 use Rattle.std.proofs.Common.{◌≡◌, ℕ, suc, ◌+◌, ◌*◌, ◌/◌, ◌%◌, ◌≤◌, ◌<◌, ◌↔◌, List, [], ◌∷◌, Bool, length, get_or, drop, ℤ, refl, ap, ◌∙◌, arith, add-one, drop-cons, eqb, rules}
 use Rattle.std.specs.Prelude.{IsTrue}
 use Rattle.std.proofs.lemmas.List.{get_or_default}
-use Rattle.jh_digits.specs.Solution.{weighted, spelled}
-use Rattle.jh_digits.specs.Nodes.{plus, minus}
-use Rattle.jh_digits.specs.Totals.{plus_total, minus_total, digit}
-use Rattle.jh_digits.proofs.Sums.{plus_total-split, minus_total-split, plus_total-zero, minus_total-zero, equal_parts}
+use Rattle.jh_systems.specs.Solution.{weighted, spelled}
+use Rattle.jh_systems.specs.Nodes.{plus, minus}
+use Rattle.jh_systems.specs.Totals.{plus_total, minus_total, digit}
+use Rattle.jh_systems.proofs.Sums.{plus_total-split, minus_total-split, plus_total-zero, minus_total-zero, equal_parts}
 use Rattle.std.proofs.Math.ListN.{drop_of_length-le}
 
 -- what is left of a row from a layer on agrees with what both sides carry

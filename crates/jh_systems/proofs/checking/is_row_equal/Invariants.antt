@@ -1,7 +1,7 @@
 use Rattle.std.proofs.Common.{◌≡◌, ◌≤◌, ◌^◌, ◌↔◌, drop}
-use Rattle.jh_digits.specs.Solution.{entry_of, right_of, weighted, spelled}
-use Rattle.jh_digits.proofs.Layers.{Agrees}
-use Rattle.jh_digits.proofs.checking.is_row_equal.Given as goal
+use Rattle.jh_systems.specs.Solution.{entry_of, right_of, weighted, spelled}
+use Rattle.jh_systems.proofs.Layers.{Agrees}
+use Rattle.jh_systems.proofs.checking.is_row_equal.Given as goal
 
 abbrev pub invariant-loop-layer : goal.invariant-loop-layer
 invariant-loop-layer l = record {

@@ -1,7 +1,7 @@
 use Rattle.std.proofs.Common.{◌≡◌, ◌≤◌, ◌*◌, ◌^◌}
-use Rattle.jh_digits.specs.Solution.{entry_of}
-use Rattle.jh_digits.specs.Totals.{plus_total, digit}
-use Rattle.jh_digits.proofs.checking.plus_sum.Given as goal
+use Rattle.jh_systems.specs.Solution.{entry_of}
+use Rattle.jh_systems.specs.Totals.{plus_total, digit}
+use Rattle.jh_systems.proofs.checking.plus_sum.Given as goal
 
 abbrev pub invariant-loop-column : goal.invariant-loop-column
 invariant-loop-column l = record {

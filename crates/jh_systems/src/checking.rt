@@ -1,9 +1,9 @@
-ghost use Rattle.std.specs.Prelude.{◌≡◌, ◌≢◌, ◌↔◌, ◌<◌, ◌≤◌, ◌*◌, ◌+◌, ◌^◌, ℕ, length, IsTrue, slice_index, slice_index_or, false};
-ghost use Rattle.jh_digits.specs.Solution.{entry_of, right_of, need_of, IsWellFormed, IsSolution, IsMet, HasColumns, weighted, spelled};
-ghost use Rattle.jh_digits.specs.Totals.{plus_total, minus_total, digit};
+ghost use Rattle.std.specs.Prelude.{◌≡◌, ◌↔◌, ◌<◌, ◌≤◌, ◌^◌, ℕ, length, IsTrue, slice_index_or, false};
+ghost use Rattle.jh_systems.specs.Solution.{entry_of, right_of, need_of, IsWellFormed, IsSolution, IsMet, HasColumns, weighted, spelled};
+ghost use Rattle.jh_systems.specs.Totals.{plus_total, minus_total, digit};
 
 use crate::System;
-use crate::counting::{minus_entry, minus_right, plus_entry, plus_right};
+use crate::entries::{minus_entry, minus_right, plus_entry, plus_right};
 use crate::system::Digits;
 use jh_name::Row;
 

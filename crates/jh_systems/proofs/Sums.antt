@@ -1,9 +1,9 @@
 -- A row's sum over the integers, and its positive and negative parts in natural numbers.
 use Rattle.std.proofs.Common.{◌≡◌, ℕ, zero, suc, ◌+◌, ◌*◌, ◌<◌, ◌↔◌, ℤ, pos, negsuc, ◌+ℤ◌, ◌*ℤ◌, refl, ap, arith}
 use Rattle.std.proofs.lemmas.Int.{ints}
-use Rattle.jh_digits.specs.Solution.{weighted}
-use Rattle.jh_digits.specs.Nodes.{plus, minus}
-use Rattle.jh_digits.specs.Totals.{plus_total, minus_total}
+use Rattle.jh_systems.specs.Solution.{weighted}
+use Rattle.jh_systems.specs.Nodes.{plus, minus}
+use Rattle.jh_systems.specs.Totals.{plus_total, minus_total}
 
 product_parts : (e : ℤ) (k : ℕ) → (e *ℤ pos k) +ℤ pos (minus e * k) ≡ pos (plus e * k)
 product_parts (pos a) k = omega (arith, ints)

@@ -1,10 +1,10 @@
 -- What the answers of `solve` say.
 use Rattle.std.specs.Prelude.{◌≡◌, ℕ, ◌<◌, ◌≤◌, min}
-use Rattle.jh_digits.specs.declared.system.System.{System}
-use Rattle.jh_digits.specs.declared.system.Solved.{Solved}
-use Rattle.jh_digits.specs.declared.system.Solved.TheVariants.{Solution, NoSolution, TooLarge}
-use Rattle.jh_digits.specs.Solution.{entry_of, right_of, weighted, IsSolution, HasColumns, spelled}
-use Rattle.jh_digits.specs.Nodes.{node_count, node_limit, count_max}
+use Rattle.jh_systems.specs.declared.system.System.{System}
+use Rattle.jh_systems.specs.declared.system.Solved.{Solved}
+use Rattle.jh_systems.specs.declared.system.Solved.TheVariants.{Solution, NoSolution, TooLarge}
+use Rattle.jh_systems.specs.Solution.{entry_of, right_of, weighted, IsSolution, HasColumns, spelled}
+use Rattle.jh_systems.specs.Nodes.{node_count, node_limit, count_max}
 
 -- no natural numbers make a row equal to its right side
 abbrev pub IsUnequal : System → ℕ → Type 0

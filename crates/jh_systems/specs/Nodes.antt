@@ -2,8 +2,8 @@
 -- bounds, and the set of the needs that are met so far.
 use Rattle.std.specs.Prelude.{ℕ, zero, suc, ◌+◌, ◌*◌, ◌^◌, ◌-◌, ℤ, pos, negsuc, ◌+ℤ◌, ◌-ℤ◌, neg_ℤ, unsigned_abs, length}
 use Rattle.std.specs.Int.{int_max, int_min}
-use Rattle.jh_digits.specs.declared.system.System.{System}
-use Rattle.jh_digits.specs.Solution.{entry_of, right_of}
+use Rattle.jh_systems.specs.declared.system.System.{System}
+use Rattle.jh_systems.specs.Solution.{entry_of, right_of}
 
 -- z as a difference of two natural numbers, one of which is 0
 abbrev pub plus : ℤ → ℕ

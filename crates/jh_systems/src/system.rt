@@ -2,7 +2,7 @@ use jh_name::Row;
 
 /// Linear equations over natural numbers, one number for each column, with needs: of the columns
 /// that a need names, at least one is not 0.
-#[derive(Debug, Drop)]
+#[derive(Drop)]
 pub struct System {
     /// How many equations there are.
     pub rows: u32,
@@ -18,13 +18,13 @@ pub struct System {
 
 /// A natural number for each column, in binary digits: layer i has the digit of weight 2 to the
 /// power i of each column.
-#[derive(Debug, Drop)]
+#[derive(Drop)]
 pub struct Digits {
     pub layers: Row<Row<bool>>,
 }
 
 /// What `solve` finds.
-#[derive(Debug, Drop)]
+#[derive(Drop)]
 pub enum Solved {
     /// Numbers that solve the system.
     Solution(Digits),

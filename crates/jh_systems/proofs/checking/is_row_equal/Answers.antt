@@ -1,7 +1,7 @@
 use Rattle.std.proofs.Common.{arith, rules}
-use Rattle.jh_digits.specs.Solution.{entry_of, right_of}
-use Rattle.jh_digits.proofs.Layers.{layers_start, tested, layers_more, layers_unlike, layers_end}
-use Rattle.jh_digits.proofs.checking.is_row_equal.Goals as goal
+use Rattle.jh_systems.specs.Solution.{entry_of, right_of}
+use Rattle.jh_systems.proofs.Layers.{layers_start, tested, layers_more, layers_unlike, layers_end}
+use Rattle.jh_systems.proofs.checking.is_row_equal.Goals as goal
 
 pub loop-layer-init : goal.loop-layer-init
 loop-layer-init c = record {

@@ -1,7 +1,7 @@
 -- Sums over columns in natural numbers: those of the positive factors and of the negated negative
 -- ones, each apart.
 use Rattle.std.specs.Prelude.{ℕ, zero, suc, ◌+◌, ◌*◌, ℤ, List, Bool, false, if◌then◌else◌, slice_index_or}
-use Rattle.jh_digits.specs.Nodes.{plus, minus}
+use Rattle.jh_systems.specs.Nodes.{plus, minus}
 
 -- the sum of the positive part of e j times v j over the first n columns
 abbrev pub plus_total : (ℕ → ℤ) → (ℕ → ℕ) → ℕ → ℕ

@@ -1,6 +1,6 @@
 -- What solves a system.
 use Rattle.std.specs.Prelude.{◌≡◌, ◌≢◌, ℕ, zero, suc, ◌+◌, ◌*◌, ◌<◌, ℤ, pos, ◌+ℤ◌, ◌*ℤ◌, List, [], ◌∷◌, length, Bool, false, if◌then◌else◌, slice_index, slice_index_or}
-use Rattle.jh_digits.specs.declared.system.System.{System}
+use Rattle.jh_systems.specs.declared.system.System.{System}
 
 -- the factor of column j in row i; the entries stand row by row
 abbrev pub entry_of : System → ℕ → ℕ → ℤ

@@ -1,0 +1,4 @@
+pub mod Solution
+pub mod Nodes
+pub mod Totals
+pub mod Answers
