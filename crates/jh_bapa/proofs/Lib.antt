@@ -1,4 +1,3 @@
-mod Rowing
 mod Dots
 mod Said
 mod Equations

@@ -16,6 +16,7 @@ use Rattle.jh_query.specs.Truth.{Fits, IsTrueQuery, is_first, nowhere, query_tru
 use Rattle.jh_judge.specs.declared.casing.Atom.{Atom}
 use Rattle.jh_judge.specs.declared.casing.Case.{Case}
 use Rattle.jh_judge.specs.declared.casing.Case.TheVariants.{Open, True, False, Greater, Remainder}
+use Rattle.jh_branching.specs.Branches.{new_spot}
 use Rattle.jh_bapa.specs.Lists.{listed}
 use Rattle.jh_bapa.specs.Cases.{Met}
 use Rattle.jh_bapa.specs.Searching.{AllMet, IsLeft, IsPlacement, NoneLeft, are_open, is_open}
@@ -248,13 +249,13 @@ told-both q s u atoms there x tells e f g z left =
     let moved : Agrees z s there = subst (λ (xs : List Atom). Agrees z s xs) (sym g) at in
     tells z (subst (λ (v : List Spot). Agrees z v there) (sym f) moved) ∙ e
 
-pub new-more : (q : QueryTree) (s u : List Spot) (atoms there : List Atom) (class m : ℕ) → u ≡ s → there ≡ atoms → class ≡ length s → NewTried q s atoms m → NoneLeft q (u ++ (record { class = class; region = m }) ∷ []) there → NewTried q s atoms (m + 1)
-new-more q s u atoms there class m e f g tried none r h = elim (cases_eq r m) [
+pub new-more : (q : QueryTree) (s u v : List Spot) (atoms there : List Atom) (x : Spot) (m : ℕ) → u ≡ s → there ≡ atoms → v ≡ u → x ≡ new_spot v m → NewTried q s atoms m → NoneLeft q (u ++ x ∷ []) there → NewTried q s atoms (m + 1)
+new-more q s u v atoms there x m e f d g tried none r h = elim (cases_eq r m) [
   | inl k ↦
-      let at : NoneLeft q (s ++ (record { class = class; region = m }) ∷ []) there = subst (λ (v : List Spot). NoneLeft q (v ++ (record { class = class; region = m }) ∷ []) there) e none in
-      let here : NoneLeft q (s ++ (record { class = class; region = m }) ∷ []) atoms = subst (λ (xs : List Atom). NoneLeft q (s ++ (record { class = class; region = m }) ∷ []) xs) f at in
-      let numbered : NoneLeft q (s ++ (record { class = length s; region = m }) ∷ []) atoms = subst (λ (n : ℕ). NoneLeft q (s ++ (record { class = n; region = m }) ∷ []) atoms) g here in
-      subst (λ (n : ℕ). NoneLeft q (s ++ (record { class = length s; region = n }) ∷ []) atoms) (sym k) numbered
+      let same : x ≡ new_spot s r = g ∙ ap (λ (w : List Spot). new_spot w m) (d ∙ e) ∙ ap (λ (n : ℕ). new_spot s n) (sym k) in
+      let at : NoneLeft q (s ++ x ∷ []) there = subst (λ (w : List Spot). NoneLeft q (w ++ x ∷ []) there) e none in
+      let here : NoneLeft q (s ++ x ∷ []) atoms = subst (λ (xs : List Atom). NoneLeft q (s ++ x ∷ []) xs) f at in
+      subst (λ (y : Spot). NoneLeft q (s ++ y ∷ []) atoms) same here
   | inr k ↦ tried r (omega (arith, h, k))
 ]
 

@@ -12,6 +12,7 @@ use Rattle.jh_judge.specs.declared.casing.Atom.{Atom}
 use Rattle.jh_judge.specs.declared.casing.Case.{Case}
 use Rattle.jh_judge.specs.declared.casing.Case.TheVariants.{Open, True, False, Greater, Remainder}
 use Rattle.jh_judge.specs.Judged.{case_truth}
+pub use Rattle.jh_branching.specs.Branches.{case_count, truth_case, case_at}
 use Rattle.jh_bapa.specs.Lists.{dot}
 
 abbrev pub conds_of : List Atom → List CondTree
@@ -56,19 +57,6 @@ pub record Met (z : Sizing) (c : CondTree) (k : Case) : Type 0 where
   pub suits : is_case_of c k ≡ true
   pub truth : (x : Bool) → case_truth k ≡ Some x → holds z c ≡ x
   pub line : (x : ℕ → ℕ) × LineMet z (line_of c k) x 0
-
--- The cases of an atom that isn't on elements, by number; one of them is met by any sizes.
-abbrev pub case_count : CondTree → ℕ
-case_count (t.equal_num a b) = 3
-case_count (t.divides k a) = unsigned_abs k
-case_count c = 2
-
-abbrev pub truth_case : ℕ → Case
-truth_case n = if n == 0 then True else (if n == 1 then False else Greater)
-
-abbrev pub case_at : CondTree → ℕ → Case
-case_at (t.divides k a) n = Remainder n
-case_at c n = truth_case n
 
 -- a set atom is kept from being true by an object of region r that is no element, and by the class of an element
 abbrev pub rest_differs : ℕ → CondTree → Bool

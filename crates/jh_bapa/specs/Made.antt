@@ -1,6 +1,6 @@
 -- The system of a query, where its elements stand and its atoms have cases.
 use Rattle.std.specs.Prelude.{◌≡◌, List, length, ◌^◌}
-use Rattle.jh_digits.specs.declared.system.System.{System}
+use Rattle.jh_systems.specs.declared.system.System.{System}
 use Rattle.jh_query.specs.declared.sizes.Spot.{Spot}
 use Rattle.jh_query.specs.Tree.{QueryTree}
 use Rattle.jh_judge.specs.declared.casing.Atom.{Atom}

@@ -6,6 +6,7 @@ use Rattle.jh_query.specs.Truth.{is_first, spot_of}
 use Rattle.jh_query.specs.Tree as t
 use Rattle.jh_judge.specs.declared.casing.Atom.{Atom}
 use Rattle.jh_judge.specs.Judged.{names_below, told}
+use Rattle.jh_branching.specs.Branches.{new_spot}
 use Rattle.jh_bapa.specs.Cases.{conds_of}
 use Rattle.jh_bapa.specs.Searching.{NoneLeft, is_covered, is_open}
 
@@ -32,7 +33,7 @@ abbrev pub OldTried : QueryTree → List Spot → List Atom → ℕ → Type 0
 OldTried q spots atoms n = (e : ℕ) → e < n → is_first spots e ≡ true → NoneLeft q (spots ++ spot_of spots e ∷ []) atoms
 
 abbrev pub NewTried : QueryTree → List Spot → List Atom → ℕ → Type 0
-NewTried q spots atoms n = (r : ℕ) → r < n → NoneLeft q (spots ++ (record { class = length spots; region = r }) ∷ []) atoms
+NewTried q spots atoms n = (r : ℕ) → r < n → NoneLeft q (spots ++ new_spot spots r ∷ []) atoms
 
 -- where its atoms are in the list and all that it names stands, the truth of a condition is told
 abbrev pub KnownWhole : List Spot → List Atom → CondTree → Type 0

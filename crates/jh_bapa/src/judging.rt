@@ -1,4 +1,4 @@
-#![tactic(auto, using(jh_query::proofs::Steps::tree_steps, crate::proofs::Known::known_steps))]
+#![tactic(auto, using(crate::proofs::Known::known_steps), unfolding(jh_query::specs::Bare::set_tree, jh_query::specs::Bare::num_tree, jh_query::specs::Bare::cond_tree))]
 
 ghost use Rattle.std.specs.Prelude.{◌≡◌, IfNone, IfSome, None, Some, if◌then◌else◌, is_some, length, map, true};
 ghost use Rattle.std.specs.List.{list_all};

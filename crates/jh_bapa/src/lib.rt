@@ -2,7 +2,6 @@
 #![tactic(auto)]
 
 mod casing;
-mod counting;
 mod deciding;
 mod flagging;
 mod hoping;

@@ -1,4 +1,4 @@
-#![tactic(auto, using(jh_query::proofs::Steps::tree_steps))]
+#![tactic(auto, unfolding(jh_query::specs::Bare::set_tree, jh_query::specs::Bare::num_tree, jh_query::specs::Bare::cond_tree))]
 
 ghost use Rattle.std.specs.Prelude.{◌≡◌, Some, [], ◌∷◌, length, true};
 ghost use Rattle.jh_query.specs.Bare.{cond_tree, num_tree};
@@ -12,7 +12,7 @@ use jh_judge::{Atom, Case};
 use jh_query::{Cond, Num, Side};
 
 /// The factors of the columns that an equation adds.
-#[derive(Clone, Copy, Debug)]
+#[derive(Clone, Copy)]
 pub(crate) enum Slacks {
     One(i64),
     Two(i64, i64),
@@ -20,7 +20,7 @@ pub(crate) enum Slacks {
 
 /// A number atom in its case as an equation: its side and the factors of what it lacks come to what is
 /// added.
-#[derive(Clone, Copy, Debug)]
+#[derive(Clone, Copy)]
 pub(crate) struct Line<'a> {
     pub(crate) side: Side<'a>,
     pub(crate) slacks: Slacks,

@@ -1,4 +1,4 @@
-#![tactic(auto, using(jh_query::proofs::Steps::tree_steps))]
+#![tactic(auto, unfolding(jh_query::specs::Bare::set_tree, jh_query::specs::Bare::num_tree, jh_query::specs::Bare::cond_tree))]
 
 ghost use Rattle.std.specs.Prelude.{◌≡◌, ◌↔◌, IsTrue, map};
 ghost use Rattle.std.specs.List.{list_all};

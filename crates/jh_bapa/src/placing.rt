@@ -9,6 +9,7 @@ ghost use Rattle.jh_bapa.specs.Within.{IsWithin};
 
 use crate::splitting::split;
 use crate::spoiling::are_spoiled;
+use jh_branching::new_spot;
 use jh_judge::{Atom, judge_query};
 use jh_name::NoMemory;
 use jh_query::{Query, Sizes, Spot, is_first, spot_of};
@@ -103,9 +104,9 @@ fn place_new(
     ensures spots { IfOk result (λ found. IfNone found (spots.new.items ≡ spots.old.items)) }
     ensures some { IfOk result (λ found. IfSome found (λ sizes. Refutes (query_tree query.now) (sizing_of sizes))) }
 {
-    let class = spots.len() as u32;
     for region in 0..region_count(query.sets) {
-        let found = place_at(alloc, query, atoms, spots, Spot { class, region })?;
+        let spot = new_spot(spots, region);
+        let found = place_at(alloc, query, atoms, spots, spot)?;
         if found.is_some() {
             return Ok(found);
         }

@@ -1,77 +1,32 @@
-#![tactic(auto, using(jh_query::proofs::Steps::tree_steps))]
+#![tactic(auto, unfolding(jh_query::specs::Bare::set_tree, jh_query::specs::Bare::num_tree, jh_query::specs::Bare::cond_tree))]
 
-ghost use Rattle.std.specs.Prelude.{◌≡◌, ℕ, true, ◌+◌, ◌*◌, ◌<◌, ◌≤◌, ◌++◌, ◌-ℤ◌, IfOk, false, if◌then◌else◌, length, neg_ℤ, pos, slice_index_or, unsigned_abs};
+ghost use Rattle.std.specs.Prelude.{◌≡◌, ℕ, true, ◌+◌, ◌<◌, ◌≤◌, ◌++◌, IfOk, false, if◌then◌else◌, length, neg_ℤ, pos, slice_index_or, unsigned_abs};
 ghost use Rattle.std.specs.List.{All};
 ghost use Rattle.jh_query.specs.Bare.{cond_tree};
 ghost use Rattle.jh_query.specs.Sides.{side_tree};
 ghost use Rattle.jh_query.specs.Truth.{read_number};
-ghost use Rattle.jh_query.specs.Linear.{constant_part, number_factor, placed_part, rest_factor};
-ghost use Rattle.jh_query.specs.Size.{card_weight};
+ghost use Rattle.jh_query.specs.Linear.{number_factor, rest_factor};
 ghost use Rattle.jh_bapa.specs.Lists.{listed, pairs, zeros};
 ghost use Rattle.jh_bapa.specs.Cases.{is_case_of, line_of};
-ghost use Rattle.jh_bapa.specs.Counted.{IsFit, IsSlight, Narrow, has_divisor, moved, or_nought};
+ghost use Rattle.jh_bapa.specs.Counted.{IsFit, IsSlight, Narrow, has_divisor};
 ghost use Rattle.jh_bapa.specs.Lining.{frame, line_tree, slack_list};
 ghost use Rattle.jh_bapa.specs.Systems.{entries_of, line_entries, line_right, number_entry, rest_entry, rights_of, row_of, slack_count, slack_total};
 
-use crate::counting::moved_side;
 use crate::lines::{Line, Slacks, line_of, slack_count};
+use jh_branching::{number_factor, rest_factor, right_of};
 use jh_judge::Atom;
 use jh_name::NoMemory;
-use jh_query::{Part, Side, Spot, part_of_side};
+use jh_query::{Side, Spot};
 use std::alloc::Global;
 
 /// What stands over all rows: how many numbers there are, where the elements stand, which regions have no
 /// rest, and how many columns the atoms add.
-#[derive(Clone, Copy, Debug)]
+#[derive(Clone, Copy)]
 pub(crate) struct Layout<'a> {
     pub(crate) numbers: u32,
     pub(crate) spots: &'a [Spot],
     pub(crate) empty: &'a [bool],
     pub(crate) total: usize,
-}
-
-/// A number that is there and isn't large.
-fn narrowed(value: Option<i128>) -> i64
-    requires { unsigned_abs (or_nought value) ≤ 67108864 }
-    ensures { result ≡ or_nought value }
-{
-    match value {
-        Some(value) => value as i64,
-        None => 0,
-    }
-}
-
-/// The factor of the rest of a region.
-fn rest_factor(side: &Side<'_>, region: u64) -> i64
-    requires { Narrow (rest_factor region) (side_tree side.now) }
-    ensures { result ≡ read_number (rest_factor region) (side_tree side.now) }
-{
-    narrowed(part_of_side(side, Part::Rest(region)))
-}
-
-/// The factor of a number.
-fn number_factor(side: &Side<'_>, number: u32) -> i64
-    requires { Narrow (number_factor number) (side_tree side.now) }
-    ensures { result ≡ read_number (number_factor number) (side_tree side.now) }
-{
-    narrowed(part_of_side(side, Part::Number(number)))
-}
-
-/// What is left where all rests and numbers are 0, and there are no elements.
-fn constant(side: &Side<'_>) -> i64
-    requires { Narrow constant_part (side_tree side.now) }
-    ensures { result ≡ read_number constant_part (side_tree side.now) }
-{
-    narrowed(part_of_side(side, Part::Constant))
-}
-
-/// What the classes of a placement add.
-fn moved(side: &Side<'_>, spots: &[Spot]) -> i64
-    requires { length spots.now * card_weight (side_tree side.now) ≤ 67108864 }
-    ensures value { result ≡ moved spots.now (side_tree side.now) }
-    ensures bound { unsigned_abs result ≤ 67108864 }
-{
-    narrowed(moved_side(side, spots))
 }
 
 /// The entry of the rest of a region.
@@ -92,15 +47,6 @@ fn negated(number: i64) -> i64
     ensures { result ≡ neg_ℤ number }
 {
     -number
-}
-
-/// A difference.
-fn minus(left: i64, right: i64) -> i64
-    requires left { unsigned_abs left ≤ 134217728 }
-    requires right { unsigned_abs right ≤ 67108864 }
-    ensures { result ≡ left -ℤ right }
-{
-    left - right
 }
 
 /// Adds the entries of the rests.
@@ -169,17 +115,6 @@ fn push_row(
     push_zeros(entries, layout.total - (place + slack_count(line)))
 }
 
-/// The right side of an equation: what is added, without what is left where all columns are 0.
-fn right_of(line: &Line<'_>, spots: &[Spot]) -> i64
-    requires constant { Narrow constant_part (side_tree line.now.side) }
-    requires cards { length spots.now * card_weight (side_tree line.now.side) ≤ 67108864 }
-    requires added { unsigned_abs line.now.added ≤ 67108864 }
-    ensures { result ≡ line.now.added -ℤ read_number (placed_part spots.now) (side_tree line.now.side) }
-{
-    let first = minus(line.added, constant(&line.side));
-    minus(first, moved(&line.side, spots))
-}
-
 /// Adds the row of an atom whose slacks have the columns from a place on, if it has one, and its right side. How many
 /// slacks there are.
 fn push_atom(
@@ -200,12 +135,12 @@ fn push_atom(
         return Ok(0);
     };
     push_row(entries, layout, &line, place)?;
-    right.push(right_of(&line, layout.spots))?;
+    right.push(right_of(&line.side, line.added, layout.spots))?;
     Ok(slack_count(&line))
 }
 
 /// The entries of all rows, and their right sides.
-#[derive(Debug, Drop)]
+#[derive(Drop)]
 pub(crate) struct Rows {
     pub(crate) entries: Vec<i64>,
     pub(crate) right: Vec<i64>,

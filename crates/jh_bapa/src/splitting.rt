@@ -1,10 +1,10 @@
-#![tactic(auto, using(jh_query::proofs::Steps::tree_steps))]
+#![tactic(auto, unfolding(jh_query::specs::Bare::set_tree, jh_query::specs::Bare::num_tree, jh_query::specs::Bare::cond_tree))]
 
 ghost use Rattle.std.specs.Prelude.{◌≡◌, ◌<◌, IfNone, IfOk, IfSome, None, false, length, slice_index_or, true};
 ghost use Rattle.jh_query.specs.Bare.{cond_tree, query_tree};
 ghost use Rattle.jh_query.specs.Named.{IsWellFormed};
 ghost use Rattle.jh_query.specs.Sizing.{sizing_of};
-ghost use Rattle.jh_bapa.specs.Cases.{case_at, case_count, conds_of, is_hopeless, truth_case};
+ghost use Rattle.jh_bapa.specs.Cases.{conds_of, is_hopeless};
 ghost use Rattle.jh_judge.specs.declared.casing.Atom.{Atom};
 ghost use Rattle.jh_bapa.specs.Searching.{IsCasing, IsPlacement, NoneLeft, Refutes, is_open, with_case};
 ghost use Rattle.jh_bapa.specs.Standing.{opens_at};
@@ -14,69 +14,11 @@ use crate::flagging::{are_flags_vain, open_flags};
 use crate::hoping::is_hopeless;
 use crate::judging::open_query;
 use crate::solving::solve_case;
+use jh_branching::{case_at, case_count};
 use jh_judge::{Atom, Case, judge_query};
 use jh_name::NoMemory;
-use jh_query::{Cond, Query, Sizes, Spot};
+use jh_query::{Query, Sizes, Spot};
 use std::alloc::Global;
-
-/// The number of cases of an atom.
-fn case_count(cond: &Cond) -> u64
-    ensures { result ≡ case_count (cond_tree cond.now) }
-{
-    match cond {
-        Cond::EqualNum(_, _) => 3,
-        Cond::Divides(factor, _) => factor.unsigned_abs(),
-        Cond::True
-        | Cond::False
-        | Cond::Flag(_)
-        | Cond::SameElement(_, _)
-        | Cond::In(_, _)
-        | Cond::EqualSet(_, _)
-        | Cond::Within(_, _)
-        | Cond::LessNum(_, _)
-        | Cond::Not(_)
-        | Cond::And(_, _)
-        | Cond::Or(_, _)
-        | Cond::Implies(_, _)
-        | Cond::Iff(_, _) => 2,
-    }
-}
-
-/// The case with a number, where it isn't a remainder.
-fn truth_case(number: u64) -> Case
-    ensures { result ≡ truth_case number }
-{
-    if number == 0 {
-        Case::True
-    } else if number == 1 {
-        Case::False
-    } else {
-        Case::Greater
-    }
-}
-
-/// A case of an atom by its number.
-fn case_at(cond: &Cond, number: u64) -> Case
-    ensures { result ≡ case_at (cond_tree cond.now) number }
-{
-    match cond {
-        Cond::Divides(_, _) => Case::Remainder(number),
-        Cond::True
-        | Cond::False
-        | Cond::Flag(_)
-        | Cond::SameElement(_, _)
-        | Cond::In(_, _)
-        | Cond::EqualSet(_, _)
-        | Cond::Within(_, _)
-        | Cond::EqualNum(_, _)
-        | Cond::LessNum(_, _)
-        | Cond::Not(_)
-        | Cond::And(_, _)
-        | Cond::Or(_, _)
-        | Cond::Implies(_, _)
-        | Cond::Iff(_, _) => truth_case(number),
-    }
-}
 
 /// The atom at a place.
 fn atom_at<'a>(atoms: &[Atom<'a>], place: usize) -> Atom<'a>

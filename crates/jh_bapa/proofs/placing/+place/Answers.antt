@@ -27,8 +27,8 @@ place_new-loop-region-preserved t c =
     record {
       atoms = none-of c.in_ok-found.found _ c.in_ok-found.ensures.atoms gone ∙ c.loop-region.invariant.atoms;
       spots = none-of c.in_ok-found.found _ c.in_ok-found.ensures.spots gone ∙ c.loop-region.invariant.spots;
-      tried = new-more (query_tree c.args.query.now) c.args.spots.now.items c.loop-region.spots.items c.args.atoms.now.items c.loop-region.atoms.items c.len-class.result c.loop-region.region c.loop-region.invariant.spots c.loop-region.invariant.atoms
-          (c.len-class.ensures ∙ search rules) c.loop-region.invariant.tried (none-of c.in_ok-found.found _ c.in_ok-found.ensures.none gone);
+      tried = new-more (query_tree c.args.query.now) c.args.spots.now.items c.loop-region.spots.items _ c.args.atoms.now.items c.loop-region.atoms.items c.new_spot-spot.result c.loop-region.region c.loop-region.invariant.spots c.loop-region.invariant.atoms
+          c.deref.ensures.value c.new_spot-spot.ensures c.loop-region.invariant.tried (none-of c.in_ok-found.found _ c.in_ok-found.ensures.none gone);
     }
 
 pub place_new-returns-clause-none : goal.place_new-returns-clause-none

@@ -1,11 +1,11 @@
-#![tactic(auto, using(jh_query::proofs::Steps::tree_steps, jh_query::proofs::Fitting::some_fitted))]
+#![tactic(auto, using(jh_query::proofs::Fitting::some_fitted), unfolding(jh_query::specs::Bare::set_tree, jh_query::specs::Bare::num_tree, jh_query::specs::Bare::cond_tree))]
 
 ghost use Rattle.std.specs.Prelude.{◌≡◌, ◌+ℤ◌, ◌-ℤ◌, ◌*ℤ◌, neg_ℤ, pos};
 ghost use Rattle.std.specs.Ordering.{int_eq};
 ghost use Rattle.jh_query.specs.Bare.{num_tree};
 ghost use Rattle.jh_query.specs.Fitting.{both_fitted, fitted_of};
 ghost use Rattle.jh_query.specs.Sides.{side_tree};
-ghost use Rattle.jh_bapa.specs.Counted.{checked_moved};
+ghost use Rattle.jh_branching.specs.Branches.{checked_moved};
 
 use jh_query::{Num, Side, Spot, classes_inside};
 

@@ -19,7 +19,7 @@ use Rattle.jh_query.specs.Linear.{constant_part, placed_part}
 use Rattle.jh_query.proofs.Products.{neg-times, times-add}
 use Rattle.jh_query.proofs.Fitting.{checked-is}
 use Rattle.jh_query.proofs.Bounds.{moved-bound}
-use Rattle.jh_bapa.specs.Counted.{Narrow, checked_moved, moved, or_nought}
+use Rattle.jh_branching.specs.Branches.{Narrow, checked_moved, moved, or_nought}
 
 some_of : (m : Reading) (a : NumTree) (x : Option ℤ) → checked_number m a ≡ x → is_some x ≡ true → or_nought x ≡ read_number m a
 some_of m a None e h = cc

@@ -1,7 +1,7 @@
 use Rattle.jh_query.specs.Sides.{side_tree}
 use Rattle.jh_query.specs.Linear.{constant_part, number_factor, rest_factor}
-use Rattle.jh_bapa.proofs.Rowing.{narrow-back, narrow-small}
-use Rattle.jh_bapa.proofs.rows.rest_factor.Goals as goal
+use Rattle.jh_branching.proofs.Rowing.{narrow-back, narrow-small}
+use Rattle.jh_branching.proofs.sides.rest_factor.Goals as goal
 
 pub narrowed-requires : goal.narrowed-requires
 narrowed-requires c = narrow-small (rest_factor c.args.region) (side_tree c.args.side.now) c.part_of_side.result c.part_of_side.ensures c.requires

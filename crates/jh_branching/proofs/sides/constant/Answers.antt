@@ -1,7 +1,7 @@
 use Rattle.jh_query.specs.Sides.{side_tree}
 use Rattle.jh_query.specs.Linear.{constant_part, number_factor, rest_factor}
-use Rattle.jh_bapa.proofs.Rowing.{narrow-back, narrow-small}
-use Rattle.jh_bapa.proofs.rows.constant.Goals as goal
+use Rattle.jh_branching.proofs.Rowing.{narrow-back, narrow-small}
+use Rattle.jh_branching.proofs.sides.constant.Goals as goal
 
 pub narrowed-requires : goal.narrowed-requires
 narrowed-requires c = narrow-small constant_part (side_tree c.args.side.now) c.part_of_side.result c.part_of_side.ensures c.requires

@@ -1,6 +1,6 @@
 use Rattle.jh_query.specs.Sides.{side_tree}
-use Rattle.jh_bapa.proofs.Rowing.{moved-back, moved-back-small, moved-small}
-use Rattle.jh_bapa.proofs.rows.moved.Goals as goal
+use Rattle.jh_branching.proofs.Rowing.{moved-back, moved-back-small, moved-small}
+use Rattle.jh_branching.proofs.sides.moved.Goals as goal
 
 pub narrowed-requires : goal.narrowed-requires
 narrowed-requires c = moved-small c.args.spots.now (side_tree c.args.side.now) c.moved_side.result c.moved_side.ensures c.requires
