@@ -1,25 +1,21 @@
 -- How long the longest token at the front is, as the code finds it. The contracts of public calls don't cite these.
-use Rattle.std.specs.Prelude.{ℕ, ◌+◌, ◌&&◌, ◌==◌, nat_lt, List, [], ◌∷◌, length, drop, slice_index, if◌then◌else◌, max}
+use Rattle.std.specs.Prelude.{ℕ, nat_lt, List, [], ◌∷◌, length, if◌then◌else◌, max}
 use Rattle.std.specs.List.{prefix_len}
 use Rattle.std.specs.Char.{is_ascii_digit}
-use Rattle.jh_lex.specs.Characters.{starts_word, continues_word}
+use Rattle.jh_front.specs.Lengths as front
+unfoldable pub use Rattle.jh_front.specs.Lengths.{word_length}
 use Rattle.jh_lex.specs.Lexemes.{has_qualified}
 use Rattle.jh_lex.specs.Symbols.{text_of, signs, begins_with}
 use Rattle.jh_lex.specs.declared.mode.Mode.{Mode}
 use Rattle.jh_lex.specs.declared.symbol.Symbol.{Symbol}
 
--- how many characters the word at the front has
-unfoldable pub word_length : List ℕ → ℕ
-word_length [] = 0
-word_length (c ∷ cs) = if starts_word c then 1 + prefix_len continues_word cs else 0
-
--- the same of the right half of a qualified word, whose left half has n characters, or 0
+-- how many characters the right half of a qualified word has, whose left half has n characters, or 0
 abbrev pub right_length : Mode → ℕ → List ℕ → ℕ
-right_length m n cs = if has_qualified m && (slice_index cs n == 46) then word_length (drop (n + 1) cs) else 0
+right_length m n cs = front.right_length (has_qualified m) n cs
 
 -- the same of a qualified word, or of a word of n characters where there is none
 abbrev pub qualified_length : Mode → ℕ → List ℕ → ℕ
-qualified_length m n cs = if nat_lt 0 (right_length m n cs) then n + 1 + right_length m n cs else n
+qualified_length m n cs = front.qualified_length (has_qualified m) n cs
 
 -- the same of a symbol, or 0
 abbrev pub symbol_length : Symbol → List ℕ → ℕ

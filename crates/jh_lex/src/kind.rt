@@ -2,10 +2,10 @@ ghost use Rattle.std.specs.Prelude.{◌≡◌, ◌<◌, length, IfOk};
 ghost use Rattle.jh_lex.specs.Lexemes.{name_of, small_value, number_kind, word_kind, kind_of};
 ghost use Rattle.jh_lex.specs.Symbols.{text_of, is_text, find_text};
 
-use crate::character::starts_word;
 use crate::lexeme::begins_with;
 use crate::tables::{reserved, signs};
 use crate::{Mode, Symbol, TokenKind};
+use jh_front::starts_word;
 use jh_name::{Name, NoMemory};
 use std::alloc::Global;
 

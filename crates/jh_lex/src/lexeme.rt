@@ -1,39 +1,13 @@
-ghost use Rattle.std.specs.Prelude.{◌≡◌, ℕ, ◌+◌, ◌<◌, ◌≤◌, length, take, ◌&&◌, ◌==◌};
+ghost use Rattle.std.specs.Prelude.{◌≡◌, ℕ, ◌<◌, length, take};
 ghost use Rattle.std.specs.List.{prefix_len};
 ghost use Rattle.std.specs.Char.{is_ascii_digit};
-ghost use Rattle.jh_lex.specs.Characters.{continues_word};
 ghost use Rattle.jh_lex.specs.Lexemes.{IsLexeme, IsLongest, has_qualified};
-ghost use Rattle.jh_lex.specs.Lengths.{word_length, right_length, qualified_length, symbol_length, sign_length, lexeme_length};
+ghost use Rattle.jh_lex.specs.Lengths.{symbol_length, sign_length, lexeme_length};
 ghost use Rattle.jh_lex.specs.Symbols.{begins_with};
 
-use crate::character::{continues_word, starts_word};
 use crate::tables::signs;
 use crate::{Mode, Symbol};
-
-/// How many characters at the front continue a word.
-fn front_len(text: &[char]) -> usize
-    ensures value { result ≡ prefix_len continues_word text.now }
-    ensures within { result ≤ length text.now }
-{
-    for (i, c) in text.iter().enumerate() {
-        if !continues_word(*c) {
-            return i;
-        }
-    }
-    text.len()
-}
-
-/// How many characters the word at the front has: 0 where there is none.
-#[tactic(auto, using(crate::proofs::Counts::word_rules))]
-fn word_len(text: &[char]) -> usize
-    ensures value { result ≡ word_length text.now }
-    ensures within { result ≤ length text.now }
-{
-    if text.is_empty() || !starts_word(text[0]) {
-        return 0;
-    }
-    1 + front_len(&text[1..])
-}
+use jh_front::{qualified_len, word_len};
 
 /// How many digits stand at the front.
 fn number_len(text: &[char]) -> usize
@@ -56,31 +30,6 @@ fn has_qualified(mode: Mode) -> bool
         Mode::Specification => true,
         Mode::Formula => true,
     }
-}
-
-/// How many characters the word has that is the right half of a qualified word, whose left half has
-/// `n` characters: 0 where no qualified word is at the front.
-fn right_len(mode: Mode, n: usize, text: &[char]) -> usize
-    requires { n ≤ length text.now }
-    ensures value { result ≡ right_length mode n text.now }
-    ensures within { 0 < result → n + 1 + result ≤ length text.now }
-{
-    if has_qualified(mode) && n < text.len() && text[n] == '.' {
-        word_len(&text[n + 1..])
-    } else {
-        0
-    }
-}
-
-/// How many characters the qualified word or the word at the front has, where the word at the front
-/// has `n`.
-fn qualified_len(mode: Mode, n: usize, text: &[char]) -> usize
-    requires { n ≤ length text.now }
-    ensures value { result ≡ qualified_length mode n text.now }
-    ensures within { result ≤ length text.now }
-{
-    let right = right_len(mode, n, text);
-    if right > 0 { n + 1 + right } else { n }
 }
 
 /// Whether the text begins with the characters of `front`.
@@ -136,7 +85,7 @@ fn longest_len(mode: Mode, text: &[char]) -> usize
 {
     let word = word_len(text);
     if word > 0 {
-        return qualified_len(mode, word, text);
+        return qualified_len(has_qualified(mode), word, text);
     }
     let number = number_len(text);
     if number > 0 {

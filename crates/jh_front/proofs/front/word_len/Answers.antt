@@ -2,9 +2,9 @@ use Rattle.std.proofs.Common.{◌≡◌, ◌+◌, ◌<◌, length, true, cond, g
 use Rattle.std.specs.List.{prefix_len}
 use Rattle.std.proofs.lemmas.Grind.{common_steps}
 use Rattle.std.proofs.lemmas.List.{take_rest}
-use Rattle.jh_lex.specs.Characters.{starts_word, continues_word}
-use Rattle.jh_lex.proofs.Counts.{word_length-some}
-use Rattle.jh_lex.proofs.lexeme.word_len.Goals as goal
+use Rattle.jh_front.specs.Characters.{starts_word, continues_word}
+use Rattle.jh_front.proofs.Counts.{word_length-some}
+use Rattle.jh_front.proofs.front.word_len.Goals as goal
 
 pub returns-clause-value : goal.returns-clause-value
 returns-clause-value c =

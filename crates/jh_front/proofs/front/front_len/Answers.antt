@@ -1,8 +1,8 @@
 use Rattle.std.proofs.Common.{◌≡◌, false, get_or, sym, arith}
 use Rattle.std.proofs.lemmas.Grind.{common_steps}
 use Rattle.std.proofs.lemmas.List.Sums.{prefix_len_is}
-use Rattle.jh_lex.specs.Characters.{continues_word}
-use Rattle.jh_lex.proofs.lexeme.front_len.Goals as goal
+use Rattle.jh_front.specs.Characters.{continues_word}
+use Rattle.jh_front.proofs.front.front_len.Goals as goal
 
 pub returns-then-not-continues_word-clause-value : goal.returns-then-not-continues_word-clause-value
 returns-then-not-continues_word-clause-value c =
