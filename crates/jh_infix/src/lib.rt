@@ -1,0 +1,6 @@
+//! The operators that stand between the operands of a formula, and how loosely each binds.
+#![tactic(auto)]
+
+mod infix;
+
+pub use infix::operator;
