@@ -7,7 +7,7 @@ mod error;
 mod modifying;
 mod standing;
 
-pub use building::{boxed, boxed_three, boxed_two};
+pub use building::{boxed, boxed_two};
 pub use error::ReadError;
 pub use modifying::{allowed, has, modifiers};
 pub use standing::{

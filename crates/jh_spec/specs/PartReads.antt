@@ -7,7 +7,7 @@ use Rattle.jh_ast.specs.declared.spec.Labelled.{Labelled}
 use Rattle.jh_ast.specs.declared.stmt.Stmt.{Stmt}
 use Rattle.jh_ast.specs.declared.word.Word.{Word}
 use Rattle.jh_lex.specs.declared.token.Token.{Token}
-use Rattle.jh_ast.specs.Bare.{spec_part, labelled_part, stmt_tree, var_part, def_part}
+use Rattle.jh_ast.specs.Bare.{form_tree, spec_part, labelled_part, stmt_tree, var_part, def_part}
 use Rattle.jh_ast.specs.Forms.{SpecPart, LabelledPart}
 use Rattle.jh_ast.specs.Stmts.{StmtTree}
 use Rattle.jh_peek.specs.declared.error.ReadError.{ReadError}
@@ -15,6 +15,8 @@ use Rattle.jh_peek.specs.Answers.{Gives}
 use Rattle.jh_peek.specs.Lists.{Found}
 use Rattle.jh_spec.specs.declared.part.SpecItem.{SpecItem}
 use Rattle.jh_spec.specs.declared.part.SpecItem.TheVariants as item
+use Rattle.jh_spec.specs.declared.held.Numbered.{Numbered}
+use Rattle.jh_spec.specs.declared.held.Said.{Said}
 use Rattle.jh_spec.specs.declared.clauses.Listed.{Listed}
 use Rattle.jh_spec.specs.declared.clauses.Listed.TheVariants as listed
 use Rattle.jh_spec.specs.PartReading.{modifies_item_at, word_reader}
@@ -33,9 +35,16 @@ abbrev pub listed_at : List Token → Listed → ℕ → Option (Word × ℕ)
 listed_at ts listed.Modified i = modifies_item_at ts i
 listed_at ts listed.Facts i = word_reader ts i
 
+-- formulas while they are in boxes
+abbrev pub numbered_part : Numbered → SpecPart
+numbered_part n = record { place = n.place; number = n.number; form = form_tree n.form.value }
+
+abbrev pub said_part : Said → LabelledPart
+said_part s = record { label = s.name; spec = numbered_part s.form; from = s.from }
+
 -- a thing and the place after it
-abbrev pub GivesSpec : Option (SpecPart × ℕ) → Result (Spec × ℕ) ReadError → Type 0
-GivesSpec wanted result = Gives (λ r. (spec_part r.0, r.1)) wanted result
+abbrev pub GivesSpec : Option (SpecPart × ℕ) → Result (Numbered × ℕ) ReadError → Type 0
+GivesSpec wanted result = Gives (λ r. (numbered_part r.0, r.1)) wanted result
 
 abbrev pub GivesLabel : Option (Option Word × ℕ) → Result (Option Word × ℕ) ReadError → Type 0
 GivesLabel wanted result = Gives (λ r. (r.0, r.1)) wanted result
@@ -43,8 +52,8 @@ GivesLabel wanted result = Gives (λ r. (r.0, r.1)) wanted result
 abbrev pub GivesWord : Option (Word × ℕ) → Result (Word × ℕ) ReadError → Type 0
 GivesWord wanted result = Gives (λ r. (r.0, r.1)) wanted result
 
-abbrev pub GivesLabelled : Option (LabelledPart × ℕ) → Result (Labelled × ℕ) ReadError → Type 0
-GivesLabelled wanted result = Gives (λ r. (labelled_part r.0, r.1)) wanted result
+abbrev pub GivesLabelled : Option (LabelledPart × ℕ) → Result (Said × ℕ) ReadError → Type 0
+GivesLabelled wanted result = Gives (λ r. (said_part r.0, r.1)) wanted result
 
 -- a thing, the place after it and the number after its formulas
 abbrev pub GivesItem : Option (Found ItemTree) → Result (SpecItem × ℕ × ℕ) ReadError → Type 0
@@ -57,8 +66,8 @@ abbrev pub GivesStatement : Option (Found StmtTree) → Result (Stmt × ℕ × �
 GivesStatement wanted result = Gives (λ r. (stmt_tree r.0, r.1, r.2)) wanted result
 
 -- a clause, which may be absent
-abbrev pub GivesClause : Option (Found (Option SpecPart)) → Result (Option Spec × ℕ × ℕ) ReadError → Type 0
-GivesClause wanted result = Gives (λ r. (option_map spec_part r.0, r.1, r.2)) wanted result
+abbrev pub GivesClause : Option (Found (Option SpecPart)) → Result (Option Numbered × ℕ × ℕ) ReadError → Type 0
+GivesClause wanted result = Gives (λ r. (option_map numbered_part r.0, r.1, r.2)) wanted result
 
 -- lists, the place of the token that closes the specification and the number after their formulas
 abbrev pub GivesItems : Option (Found (List ItemTree)) → Result (Vec SpecItem Global × ℕ × ℕ) ReadError → Type 0
@@ -73,8 +82,8 @@ GivesStatements wanted result = Gives (λ r. (map stmt_tree r.0.items, r.1, r.2)
 abbrev pub GivesContract : Option (Found (Option SpecPart × List Word × Option SpecPart)) → Result ((Option Spec × Vec Word Global × Option Spec) × ℕ × ℕ) ReadError → Type 0
 GivesContract wanted result = Gives (λ r. ((option_map spec_part r.0.0, r.0.1.items, option_map spec_part r.0.2), r.1, r.2)) wanted result
 
-abbrev pub GivesPromise : Option (Found (List Word × Option SpecPart)) → Result ((Vec Word Global × Option Spec) × ℕ × ℕ) ReadError → Type 0
-GivesPromise wanted result = Gives (λ r. ((r.0.0.items, option_map spec_part r.0.1), r.1, r.2)) wanted result
+abbrev pub GivesPromise : Option (Found (List Word × Option SpecPart)) → Result ((Vec Word Global × Option Numbered) × ℕ × ℕ) ReadError → Type 0
+GivesPromise wanted result = Gives (λ r. ((r.0.0.items, option_map numbered_part r.0.1), r.1, r.2)) wanted result
 
 -- the part without memory
 abbrev pub part_tree : Whole → PartTree

@@ -10,7 +10,6 @@ ghost use Rattle.jh_spec.specs.PartReads.{GivesPart};
 ghost use Rattle.jh_spec.specs.Parsed.{IsStart};
 ghost use Rattle.jh_spec.specs.Answered.{ParsedForm, ParsedPart};
 ghost use Rattle.jh_spec.specs.Reading as read;
-ghost use Rattle.jh_spec.specs.Reads.{GivesForm};
 
 use crate::clauses::quoted_formula;
 use crate::lists::{claimed_part, contract_part, items_part, loop_part, statements_part};
@@ -130,7 +129,7 @@ fn shallow_formula(
     ensures { ParsedForm tokens.now at result }
 {
     match quoted_formula(alloc, tokens, at) {
-        Ok((tree, next)) => Ok((tree, next)),
+        Ok((tree, next)) => Ok((Box::into_inner(tree), next)),
         Err(ReadError::Refused(near)) => Err(ParseError::Syntax(start_near(tokens, near))),
         Err(ReadError::Memory) => Err(ParseError::Memory),
     }

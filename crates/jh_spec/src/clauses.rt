@@ -4,12 +4,13 @@ ghost use Rattle.jh_peek.specs.Answers.{Gives, IsWithin};
 ghost use Rattle.jh_spec.specs.Reading as read;
 ghost use Rattle.jh_spec.specs.PartReading as part;
 ghost use Rattle.jh_spec.specs.Parts.{numbered};
-ghost use Rattle.jh_spec.specs.PartReads.{GivesSpec, GivesLabel, GivesClause, GivesWord, listed_at};
-ghost use Rattle.jh_spec.specs.Reads.{GivesForm};
-ghost use Rattle.jh_ast.specs.Bare.{form_tree, spec_part};
+ghost use Rattle.jh_spec.specs.PartReads.{GivesSpec, GivesLabel, GivesClause, GivesWord, listed_at, numbered_part};
+ghost use Rattle.jh_spec.specs.Reads.{GivesBoxed};
+ghost use Rattle.jh_ast.specs.Bare.{form_tree};
 
 use crate::formulas::open_operand;
-use jh_ast::{Spec, SpecTree, Word};
+use crate::held::Numbered;
+use jh_ast::{SpecTree, Word};
 use jh_lex::{Symbol, Token};
 use jh_name::NoMemory;
 use jh_peek::{
@@ -23,9 +24,9 @@ pub(crate) fn quoted_formula(
     alloc: Global,
     tokens: &[Token],
     at: usize,
-) -> Result<(SpecTree, usize), ReadError>
+) -> Result<(Box<SpecTree>, usize), ReadError>
     requires { at ≤ length tokens.now }
-    ensures value { GivesForm (read.formula_at tokens.now at) result }
+    ensures value { GivesBoxed (read.formula_at tokens.now at) result }
     ensures within { IfOk result (λ read. (at < read.1) × (read.1 < length tokens.now)) }
 {
     let (tree, next) = open_operand(alloc, tokens, tokens.len(), 3, at)?;
@@ -46,13 +47,13 @@ pub(crate) fn next_number(number: u32) -> Result<u32, NoMemory>
 }
 
 /// A formula of the file at the place of a token.
-fn numbered_spec(tokens: &[Token], at: usize, number: u32, body: SpecTree) -> Spec
-    ensures { spec_part result ≡ numbered tokens.now at number (form_tree body) }
+pub(crate) fn numbered(tokens: &[Token], at: usize, number: u32, form: Box<SpecTree>) -> Numbered
+    ensures { numbered_part result ≡ numbered tokens.now at number (form_tree form.value) }
 {
-    Spec {
+    Numbered {
         place: place(tokens, at),
         number,
-        body,
+        form,
     }
 }
 
@@ -63,7 +64,7 @@ pub(crate) fn quoted(
     tokens: &[Token],
     number: u32,
     at: usize,
-) -> Result<(Spec, usize), ReadError>
+) -> Result<(Numbered, usize), ReadError>
     requires { at ≤ length tokens.now }
     ensures value { GivesSpec (part.quoted_at tokens.now number at) result }
     ensures within { IfOk result (λ read. IsWithin (length tokens.now) at read.1) }
@@ -71,8 +72,8 @@ pub(crate) fn quoted(
     if !is_quote_open(tokens, at) {
         return Err(ReadError::Refused(at));
     }
-    let (body, next) = quoted_formula(alloc, tokens, at + 1)?;
-    Ok((numbered_spec(tokens, at, number, body), next + 1))
+    let (form, next) = quoted_formula(alloc, tokens, at + 1)?;
+    Ok((numbered(tokens, at, number, form), next + 1))
 }
 
 /// A label, where a word and a colon stand.
@@ -114,7 +115,7 @@ pub(crate) fn clause(
     symbol: Symbol,
     number: u32,
     at: usize,
-) -> Result<(Option<Spec>, usize, u32), ReadError>
+) -> Result<(Option<Numbered>, usize, u32), ReadError>
     requires { at ≤ length tokens.now }
     ensures value { GivesClause (part.clause_at tokens.now symbol number at) result }
     ensures within { IfOk result (λ read. (at ≤ read.1) × (read.1 ≤ length tokens.now)) }
@@ -122,9 +123,9 @@ pub(crate) fn clause(
     if !is_symbol(tokens, at, symbol) {
         return Ok((None, at, number));
     }
-    let (spec, next) = quoted(alloc, tokens, number, at + 1)?;
-    let number = next_number(number)?;
-    Ok((Some(spec), next, number))
+    let after = next_number(number)?;
+    let (form, next) = quoted(alloc, tokens, number, at + 1)?;
+    Ok((Some(form), next, after))
 }
 
 /// What `modifies` names at a place: a name, in quotes or without.
@@ -146,7 +147,7 @@ fn modifies_item(alloc: Global, tokens: &[Token], at: usize) -> Result<(Word, us
 }
 
 /// A list of words: which words it lists.
-#[derive(Clone, Copy, Debug, PartialEq, Eq)]
+#[derive(Clone, Copy, PartialEq, Eq)]
 pub(crate) enum Listed {
     /// What a method modifies.
     Modified,

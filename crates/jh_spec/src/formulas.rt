@@ -1,62 +1,85 @@
 //! Formulas: what is read at a place of the tokens, in the order of the grammar from what stands inside to what binds
 //! loosest. `room` is a number of levels that is more than enough; the nesting of a source is what bounds the recursion.
-ghost use Rattle.std.specs.Prelude.{◌≡◌, ◌+◌, ◌≤◌, ◌<◌, ◌++◌, length, IfOk, IsTrue, Some};
+ghost use Rattle.std.specs.Prelude.{◌≡◌, ◌+◌, ◌≤◌, ◌<◌, ◌++◌, ◌∷◌, [], length, IfOk, IsTrue, Some};
 ghost use Rattle.jh_peek.specs.Answers.{Gives, IsWithin};
 ghost use Rattle.jh_peek.specs.Choices.{and_then};
 ghost use Rattle.jh_peek.specs.Standing.{place_at};
 ghost use Rattle.jh_spec.specs.Reading as read;
-ghost use Rattle.jh_spec.specs.Reads.{GivesForm, GivesForms, GivesWords, before};
+ghost use Rattle.jh_spec.specs.Reads.{GivesBoxed, GivesForms, GivesWords, before, bound_by, signed_by};
 ghost use Rattle.jh_spec.specs.Formulas.{binary_of};
 ghost use Rattle.jh_ast.specs.Bare.{form_body_tree, form_tree, form_trees};
 ghost use Rattle.jh_ast.specs.Forms as form;
 
-use crate::operators::{closes, constant, operator};
+use crate::operators::{closes, constant};
 use jh_ast::{SpecBody, SpecOp, SpecTree, Word};
+use jh_infix::operator;
 use jh_lex::{Symbol, Token};
 use jh_name::{NoMemory, Row};
 use jh_peek::{
-    ReadError, behind, boxed, boxed_three, boxed_two, is_name, is_number, is_plain_word, is_symbol,
-    is_word, name, number, place, word,
+    ReadError, behind, boxed, is_name, is_number, is_plain_word, is_symbol, is_word, name, number,
+    place, word,
 };
 use std::alloc::Global;
 
-#[tactic(auto, using(jh_ast::proofs::FormSteps::form_steps))]
-fn at_place(tokens: &[Token], at: usize, body: SpecBody) -> SpecTree
-    ensures { form_tree result ≡ form_body_tree (place_at tokens.now at) body }
-{
-    SpecTree {
-        place: place(tokens, at),
-        body,
-    }
+/// A quantifier.
+#[derive(Clone, Copy)]
+pub(crate) enum Binder {
+    /// `ALL`
+    All,
+    /// `EX`
+    Ex,
 }
 
+/// What stands before an operand.
+#[derive(Clone, Copy)]
+pub(crate) enum Sign {
+    /// `-`
+    Minus,
+    /// `old`
+    Old,
+    /// `card`
+    Card,
+}
+
+/// A formula at the place of a token. Formulas are handed on in boxes, since they are wide.
+#[tactic(auto, using(jh_ast::proofs::FormSteps::form_steps))]
+pub(crate) fn at_place(
+    alloc: Global,
+    tokens: &[Token],
+    at: usize,
+    body: SpecBody,
+) -> Result<Box<SpecTree>, NoMemory>
+    ensures { IfOk result (λ made. form_tree made.value ≡ form_body_tree (place_at tokens.now at) body) }
+{
+    let place = place(tokens, at);
+    let made = boxed(alloc, SpecTree { place, body })?;
+    Ok(made)
+}
+
+/// Two operands with an operator between them.
 #[tactic(auto, using(jh_ast::proofs::FormSteps::form_steps, jh_ast::proofs::Moves::place_steps))]
 fn binary(
     alloc: Global,
     operator: SpecOp,
-    left: SpecTree,
-    right: SpecTree,
-) -> Result<SpecTree, NoMemory>
-    ensures { IfOk result (λ made. form_tree made ≡ binary_of operator (form_tree left) (form_tree right)) }
+    left: Box<SpecTree>,
+    right: Box<SpecTree>,
+) -> Result<Box<SpecTree>, NoMemory>
+    ensures { IfOk result (λ made. form_tree made.value ≡ binary_of operator (form_tree left.value) (form_tree right.value)) }
 {
     let place = left.place;
-    let (left, right) = boxed_two(alloc, left, right)?;
-    Ok(SpecTree {
-        place,
-        body: SpecBody::Binary(operator, left, right),
-    })
+    let body = SpecBody::Binary(operator, left, right);
+    let made = boxed(alloc, SpecTree { place, body })?;
+    Ok(made)
 }
 
 #[tactic(auto, using(jh_ast::proofs::FormSteps::form_steps, jh_ast::proofs::Moves::place_steps))]
-fn member(alloc: Global, left: SpecTree, word: Word) -> Result<SpecTree, NoMemory>
-    ensures { IfOk result (λ made. form_tree made ≡ form.member (form.place_of (form_tree left)) (form_tree left) word) }
+fn member(alloc: Global, left: Box<SpecTree>, word: Word) -> Result<Box<SpecTree>, NoMemory>
+    ensures { IfOk result (λ made. form_tree made.value ≡ form.member (form.place_of (form_tree left.value)) (form_tree left.value) word) }
 {
     let place = left.place;
-    let left = boxed(alloc, left)?;
-    Ok(SpecTree {
-        place,
-        body: SpecBody::Member(left, word),
-    })
+    let body = SpecBody::Member(left, word);
+    let made = boxed(alloc, SpecTree { place, body })?;
+    Ok(made)
 }
 
 /// Names with commas between them, after those that are there.
@@ -144,11 +167,11 @@ fn dots(
     alloc: Global,
     tokens: &[Token],
     room: usize,
-    left: SpecTree,
+    left: Box<SpecTree>,
     at: usize,
-) -> Result<(SpecTree, usize), ReadError>
+) -> Result<(Box<SpecTree>, usize), ReadError>
     requires { at ≤ length tokens.now }
-    ensures value { GivesForm (read.dots_at tokens.now room (form_tree left) at) result }
+    ensures value { GivesBoxed (read.dots_at tokens.now room (form_tree left.value) at) result }
     ensures within { IfOk result (λ read. (at ≤ read.1) × (read.1 ≤ length tokens.now)) }
 {
     if room == 0 {
@@ -164,29 +187,34 @@ fn dots(
 
 /// A name, a number or a constant.
 #[tactic(auto, using(jh_ast::proofs::FormSteps::form_steps), unfolding(crate::specs::Reading::simple_at, jh_peek::specs::Choices::and_then, jh_peek::specs::Choices::choose, jh_peek::specs::Choices::given))]
-fn simple(alloc: Global, tokens: &[Token], at: usize) -> Result<(SpecTree, usize), ReadError>
+fn simple(alloc: Global, tokens: &[Token], at: usize) -> Result<(Box<SpecTree>, usize), ReadError>
     requires { at ≤ length tokens.now }
-    ensures value { GivesForm (read.simple_at tokens.now at) result }
+    ensures value { GivesBoxed (read.simple_at tokens.now at) result }
     ensures within { IfOk result (λ read. IsWithin (length tokens.now) at read.1) }
 {
     if is_name(tokens, at) {
         let word = name(alloc, tokens, at)?;
-        return Ok((at_place(tokens, at, SpecBody::Name(word)), at + 1));
+        let made = at_place(alloc, tokens, at, SpecBody::Name(word))?;
+        return Ok((made, at + 1));
     }
     if let Some(number) = number(tokens, at) {
-        return Ok((at_place(tokens, at, SpecBody::Number(number)), at + 1));
+        let made = at_place(alloc, tokens, at, SpecBody::Number(number))?;
+        return Ok((made, at + 1));
     }
     match constant(tokens, at) {
-        Some(body) => Ok((at_place(tokens, at, body), at + 1)),
+        Some(body) => {
+            let made = at_place(alloc, tokens, at, body)?;
+            Ok((made, at + 1))
+        }
         None => Err(ReadError::Refused(at)),
     }
 }
 
 /// `tree` and its fields.
 #[tactic(auto, using(jh_ast::proofs::FormSteps::form_steps), unfolding(crate::specs::Reading::forest_of, jh_peek::specs::Choices::and_then, jh_peek::specs::Choices::choose, jh_peek::specs::Choices::given))]
-fn forest(alloc: Global, tokens: &[Token], at: usize) -> Result<(SpecTree, usize), ReadError>
+fn forest(alloc: Global, tokens: &[Token], at: usize) -> Result<(Box<SpecTree>, usize), ReadError>
     requires { at < length tokens.now }
-    ensures value { GivesForm (read.forest_of tokens.now at) result }
+    ensures value { GivesBoxed (read.forest_of tokens.now at) result }
     ensures within { IfOk result (λ read. IsWithin (length tokens.now) at read.1) }
 {
     let _opening = behind(tokens, at + 1, Symbol::LeftBracket)?;
@@ -194,7 +222,8 @@ fn forest(alloc: Global, tokens: &[Token], at: usize) -> Result<(SpecTree, usize
     let next = names(alloc, tokens, tokens.len() + 1, &mut made, at + 2)?;
     let next = behind(tokens, next, Symbol::RightBracket)?;
     let fields = Row::of(made);
-    Ok((at_place(tokens, at, SpecBody::Tree(fields)), next))
+    let made = at_place(alloc, tokens, at, SpecBody::Tree(fields))?;
+    Ok((made, next))
 }
 
 /// `( % x y .` after a place.
@@ -212,13 +241,48 @@ fn pair(alloc: Global, tokens: &[Token], at: usize) -> Result<(Word, Word), Read
     Ok((first, second))
 }
 
-#[tactic(auto, using(jh_ast::proofs::FormSteps::form_steps))]
-fn moved(tokens: &[Token], at: usize, inner: SpecTree) -> SpecTree
-    ensures { form_tree result ≡ form.moved (place_at tokens.now at) (form_tree inner) }
+/// What stands in brackets, at the place of the bracket.
+fn moved(tokens: &[Token], at: usize, inner: Box<SpecTree>) -> Box<SpecTree>
+    ensures { form_tree result.value ≡ form.moved (place_at tokens.now at) (form_tree inner.value) }
 {
-    SpecTree {
-        place: place(tokens, at),
-        body: inner.body,
+    let mut inner = inner;
+    inner.place = place(tokens, at);
+    inner
+}
+
+/// A quantifier at the place of a token.
+#[tactic(auto, using(jh_ast::proofs::FormSteps::form_steps))]
+fn bound_tree(
+    alloc: Global,
+    tokens: &[Token],
+    at: usize,
+    binder: Binder,
+    names: Row<Word>,
+    body: Box<SpecTree>,
+) -> Result<Box<SpecTree>, NoMemory>
+    ensures { IfOk result (λ made. form_tree made.value ≡ bound_by binder (place_at tokens.now at) names (form_tree body.value)) }
+{
+    match binder {
+        Binder::All => at_place(alloc, tokens, at, SpecBody::All(names, body)),
+        Binder::Ex => at_place(alloc, tokens, at, SpecBody::Ex(names, body)),
+    }
+}
+
+/// An operand with a sign or a word before it, at the place of a token.
+#[tactic(auto, using(jh_ast::proofs::FormSteps::form_steps))]
+fn signed_tree(
+    alloc: Global,
+    tokens: &[Token],
+    at: usize,
+    sign: Sign,
+    inner: Box<SpecTree>,
+) -> Result<Box<SpecTree>, NoMemory>
+    ensures { IfOk result (λ made. form_tree made.value ≡ signed_by sign (place_at tokens.now at) (form_tree inner.value)) }
+{
+    match sign {
+        Sign::Minus => at_place(alloc, tokens, at, SpecBody::Minus(inner)),
+        Sign::Old => at_place(alloc, tokens, at, SpecBody::Old(inner)),
+        Sign::Card => at_place(alloc, tokens, at, SpecBody::Card(inner)),
     }
 }
 
@@ -247,10 +311,10 @@ fn operand(
     room: usize,
     level: u8,
     at: usize,
-) -> Result<(SpecTree, usize), ReadError>
+) -> Result<(Box<SpecTree>, usize), ReadError>
     requires at_place { at ≤ length tokens.now }
     requires level { level ≤ 3 }
-    ensures value { GivesForm ((read.inside tokens.now room).operand level at) result }
+    ensures value { GivesBoxed ((read.inside tokens.now room).operand level at) result }
     ensures within { IfOk result (λ read. IsWithin (length tokens.now) at read.1) }
 {
     if room == 0 {
@@ -268,32 +332,33 @@ pub(crate) fn open_operand(
     room: usize,
     level: u8,
     at: usize,
-) -> Result<(SpecTree, usize), ReadError>
+) -> Result<(Box<SpecTree>, usize), ReadError>
     requires at_place { at ≤ length tokens.now }
     requires level { level ≤ 3 }
-    ensures value { GivesForm (read.operand_of tokens.now (read.inside tokens.now room) level at) result }
+    ensures value { GivesBoxed (read.operand_of tokens.now (read.inside tokens.now room) level at) result }
     ensures within { IfOk result (λ read. IsWithin (length tokens.now) at read.1) }
 {
     if is_symbol(tokens, at, Symbol::All) {
-        return all(alloc, tokens, room, at);
+        return quantified(alloc, tokens, room, Binder::All, at);
     }
     if is_symbol(tokens, at, Symbol::Ex) {
-        return ex(alloc, tokens, room, at);
+        return quantified(alloc, tokens, room, Binder::Ex, at);
     }
     right(alloc, tokens, room, level, at)
 }
 
-/// A quantifier.
+/// A quantifier, the names that it binds and what it says of them.
 #[cycle(reading)]
 #[tactic(auto, using(jh_ast::proofs::FormSteps::form_steps, crate::proofs::Turns::turn_steps, crate::proofs::Levels::level_steps), unfolding(crate::specs::Reading::quantified_of, jh_peek::specs::Choices::and_then, jh_peek::specs::Choices::choose, jh_peek::specs::Choices::given))]
-fn all(
+fn quantified(
     alloc: Global,
     tokens: &[Token],
     room: usize,
+    binder: Binder,
     at: usize,
-) -> Result<(SpecTree, usize), ReadError>
+) -> Result<(Box<SpecTree>, usize), ReadError>
     requires at_place { at < length tokens.now }
-    ensures value { GivesForm (read.quantified_of tokens.now (read.inside tokens.now room) form.all at) result }
+    ensures value { GivesBoxed (read.quantified_of tokens.now (read.inside tokens.now room) (bound_by binder) at) result }
     ensures within { IfOk result (λ read. IsWithin (length tokens.now) at read.1) }
 {
     let (names, next) = bound(alloc, tokens, at + 1)?;
@@ -302,33 +367,8 @@ fn all(
     if !closes(tokens, next) {
         return Err(ReadError::Refused(next));
     }
-    let body = boxed(alloc, body)?;
-    let names = Row::of(names);
-    Ok((at_place(tokens, at, SpecBody::All(names, body)), next))
-}
-
-/// A quantifier.
-#[cycle(reading)]
-#[tactic(auto, using(jh_ast::proofs::FormSteps::form_steps, crate::proofs::Turns::turn_steps, crate::proofs::Levels::level_steps), unfolding(crate::specs::Reading::quantified_of, jh_peek::specs::Choices::and_then, jh_peek::specs::Choices::choose, jh_peek::specs::Choices::given))]
-fn ex(
-    alloc: Global,
-    tokens: &[Token],
-    room: usize,
-    at: usize,
-) -> Result<(SpecTree, usize), ReadError>
-    requires at_place { at < length tokens.now }
-    ensures value { GivesForm (read.quantified_of tokens.now (read.inside tokens.now room) form.ex at) result }
-    ensures within { IfOk result (λ read. IsWithin (length tokens.now) at read.1) }
-{
-    let (names, next) = bound(alloc, tokens, at + 1)?;
-    let next = typed(tokens, next)?;
-    let (body, next) = operand(alloc, tokens, room, 3, next)?;
-    if !closes(tokens, next) {
-        return Err(ReadError::Refused(next));
-    }
-    let body = boxed(alloc, body)?;
-    let names = Row::of(names);
-    Ok((at_place(tokens, at, SpecBody::Ex(names, body)), next))
+    let made = bound_tree(alloc, tokens, at, binder, Row::of(names), body)?;
+    Ok((made, next))
 }
 
 /// A negation or a comparison; at each level operators that group to the right.
@@ -340,10 +380,10 @@ fn right(
     room: usize,
     level: u8,
     at: usize,
-) -> Result<(SpecTree, usize), ReadError>
+) -> Result<(Box<SpecTree>, usize), ReadError>
     requires at_place { at ≤ length tokens.now }
     requires level { level ≤ 3 }
-    ensures value { GivesForm (read.right_of tokens.now (read.inside tokens.now room) level at) result }
+    ensures value { GivesBoxed (read.right_of tokens.now (read.inside tokens.now room) level at) result }
     ensures within { IfOk result (λ read. IsWithin (length tokens.now) at read.1) }
 {
     if level == 0 {
@@ -368,17 +408,17 @@ fn negation(
     tokens: &[Token],
     room: usize,
     at: usize,
-) -> Result<(SpecTree, usize), ReadError>
+) -> Result<(Box<SpecTree>, usize), ReadError>
     requires at_place { at ≤ length tokens.now }
-    ensures value { GivesForm (read.right_of tokens.now (read.inside tokens.now room) 0 at) result }
+    ensures value { GivesBoxed (read.right_of tokens.now (read.inside tokens.now room) 0 at) result }
     ensures within { IfOk result (λ read. IsWithin (length tokens.now) at read.1) }
 {
     if !is_symbol(tokens, at, Symbol::Tilde) {
         return compared(alloc, tokens, room, at);
     }
     let (inner, next) = operand(alloc, tokens, room, 0, at + 1)?;
-    let inner = boxed(alloc, inner)?;
-    Ok((at_place(tokens, at, SpecBody::Not(inner)), next))
+    let made = at_place(alloc, tokens, at, SpecBody::Not(inner))?;
+    Ok((made, next))
 }
 
 /// A comparison or what stands alone.
@@ -389,9 +429,9 @@ fn compared(
     tokens: &[Token],
     room: usize,
     at: usize,
-) -> Result<(SpecTree, usize), ReadError>
+) -> Result<(Box<SpecTree>, usize), ReadError>
     requires at_place { at ≤ length tokens.now }
-    ensures value { GivesForm (read.compared_of tokens.now (read.inside tokens.now room) at) result }
+    ensures value { GivesBoxed (read.compared_of tokens.now (read.inside tokens.now room) at) result }
     ensures within { IfOk result (λ read. IsWithin (length tokens.now) at read.1) }
 {
     if is_dvd(tokens, at) {
@@ -416,17 +456,17 @@ fn divides(
     tokens: &[Token],
     room: usize,
     at: usize,
-) -> Result<(SpecTree, usize), ReadError>
+) -> Result<(Box<SpecTree>, usize), ReadError>
     requires at_place { at + 2 ≤ length tokens.now }
-    ensures value { GivesForm (read.divides_of tokens.now (read.inside tokens.now room) at) result }
+    ensures value { GivesBoxed (read.divides_of tokens.now (read.inside tokens.now room) at) result }
     ensures within { IfOk result (λ read. IsWithin (length tokens.now) at read.1) }
 {
     match number(tokens, at) {
         None => Err(ReadError::Refused(at)),
         Some(number) => {
             let (inner, next) = left(alloc, tokens, room, 2, at + 2)?;
-            let inner = boxed(alloc, inner)?;
-            Ok((at_place(tokens, at, SpecBody::Dvd(number, inner)), next))
+            let made = at_place(alloc, tokens, at, SpecBody::Dvd(number, inner))?;
+            Ok((made, next))
         }
     }
 }
@@ -440,10 +480,10 @@ fn left(
     room: usize,
     level: u8,
     at: usize,
-) -> Result<(SpecTree, usize), ReadError>
+) -> Result<(Box<SpecTree>, usize), ReadError>
     requires at_place { at ≤ length tokens.now }
     requires level { level ≤ 3 }
-    ensures value { GivesForm (read.left_of tokens.now (read.inside tokens.now room) level at) result }
+    ensures value { GivesBoxed (read.left_of tokens.now (read.inside tokens.now room) level at) result }
     ensures within { IfOk result (λ read. IsWithin (length tokens.now) at read.1) }
 {
     if level == 0 {
@@ -461,12 +501,12 @@ fn chain(
     tokens: &[Token],
     room: usize,
     level: u8,
-    first: SpecTree,
+    first: Box<SpecTree>,
     at: usize,
-) -> Result<(SpecTree, usize), ReadError>
+) -> Result<(Box<SpecTree>, usize), ReadError>
     requires at_place { at ≤ length tokens.now }
     requires level { level ≤ 3 }
-    ensures value { GivesForm (read.chain_of tokens.now (read.inside tokens.now room) level (form_tree first) at) result }
+    ensures value { GivesBoxed (read.chain_of tokens.now (read.inside tokens.now room) level (form_tree first.value) at) result }
     ensures within { IfOk result (λ read. (at ≤ read.1) × (read.1 ≤ length tokens.now)) }
 {
     match operator(tokens, 2 + level, at) {
@@ -490,19 +530,19 @@ fn prefix(
     tokens: &[Token],
     room: usize,
     at: usize,
-) -> Result<(SpecTree, usize), ReadError>
+) -> Result<(Box<SpecTree>, usize), ReadError>
     requires at_place { at ≤ length tokens.now }
-    ensures value { GivesForm (read.prefix_of tokens.now (read.inside tokens.now room) at) result }
+    ensures value { GivesBoxed (read.prefix_of tokens.now (read.inside tokens.now room) at) result }
     ensures within { IfOk result (λ read. IsWithin (length tokens.now) at read.1) }
 {
     if is_symbol(tokens, at, Symbol::Minus) {
-        return minus(alloc, tokens, room, at);
+        return signed(alloc, tokens, room, Sign::Minus, at);
     }
     if is_symbol(tokens, at, Symbol::Old) {
-        return old(alloc, tokens, room, at);
+        return signed(alloc, tokens, room, Sign::Old, at);
     }
     if is_symbol(tokens, at, Symbol::Card) {
-        return card(alloc, tokens, room, at);
+        return signed(alloc, tokens, room, Sign::Card, at);
     }
     if is_symbol(tokens, at, Symbol::Tree) {
         return forest(alloc, tokens, at);
@@ -513,67 +553,26 @@ fn prefix(
     postfix(alloc, tokens, room, at)
 }
 
-/// A negated operand.
+/// A sign or a word, and the operand behind it.
 #[cycle(reading)]
 #[tactic(auto, using(jh_ast::proofs::FormSteps::form_steps, crate::proofs::Turns::turn_steps, crate::proofs::Levels::level_steps), unfolding(crate::specs::Reading::signed_of, jh_peek::specs::Choices::and_then, jh_peek::specs::Choices::choose, jh_peek::specs::Choices::given))]
-fn minus(
+fn signed(
     alloc: Global,
     tokens: &[Token],
     room: usize,
+    sign: Sign,
     at: usize,
-) -> Result<(SpecTree, usize), ReadError>
+) -> Result<(Box<SpecTree>, usize), ReadError>
     requires at_place { at < length tokens.now }
-    ensures value { GivesForm (read.signed_of tokens.now (read.inside tokens.now room) form.minus at) result }
+    ensures value { GivesBoxed (read.signed_of tokens.now (read.inside tokens.now room) (signed_by sign) at) result }
     ensures within { IfOk result (λ read. IsWithin (length tokens.now) at read.1) }
 {
     if room == 0 {
         return Err(ReadError::Refused(at));
     }
     let (inner, next) = prefix(alloc, tokens, room - 1, at + 1)?;
-    let inner = boxed(alloc, inner)?;
-    Ok((at_place(tokens, at, SpecBody::Minus(inner)), next))
-}
-
-/// `old` and its operand.
-#[cycle(reading)]
-#[tactic(auto, using(jh_ast::proofs::FormSteps::form_steps, crate::proofs::Turns::turn_steps, crate::proofs::Levels::level_steps), unfolding(crate::specs::Reading::signed_of, jh_peek::specs::Choices::and_then, jh_peek::specs::Choices::choose, jh_peek::specs::Choices::given))]
-fn old(
-    alloc: Global,
-    tokens: &[Token],
-    room: usize,
-    at: usize,
-) -> Result<(SpecTree, usize), ReadError>
-    requires at_place { at < length tokens.now }
-    ensures value { GivesForm (read.signed_of tokens.now (read.inside tokens.now room) form.old at) result }
-    ensures within { IfOk result (λ read. IsWithin (length tokens.now) at read.1) }
-{
-    if room == 0 {
-        return Err(ReadError::Refused(at));
-    }
-    let (inner, next) = prefix(alloc, tokens, room - 1, at + 1)?;
-    let inner = boxed(alloc, inner)?;
-    Ok((at_place(tokens, at, SpecBody::Old(inner)), next))
-}
-
-/// `card` and its operand.
-#[cycle(reading)]
-#[tactic(auto, using(jh_ast::proofs::FormSteps::form_steps, crate::proofs::Turns::turn_steps, crate::proofs::Levels::level_steps), unfolding(crate::specs::Reading::signed_of, jh_peek::specs::Choices::and_then, jh_peek::specs::Choices::choose, jh_peek::specs::Choices::given))]
-fn card(
-    alloc: Global,
-    tokens: &[Token],
-    room: usize,
-    at: usize,
-) -> Result<(SpecTree, usize), ReadError>
-    requires at_place { at < length tokens.now }
-    ensures value { GivesForm (read.signed_of tokens.now (read.inside tokens.now room) form.card at) result }
-    ensures within { IfOk result (λ read. IsWithin (length tokens.now) at read.1) }
-{
-    if room == 0 {
-        return Err(ReadError::Refused(at));
-    }
-    let (inner, next) = prefix(alloc, tokens, room - 1, at + 1)?;
-    let inner = boxed(alloc, inner)?;
-    Ok((at_place(tokens, at, SpecBody::Card(inner)), next))
+    let made = signed_tree(alloc, tokens, at, sign, inner)?;
+    Ok((made, next))
 }
 
 /// A path: the two names, the step, and the two ends.
@@ -584,9 +583,9 @@ fn rtrancl(
     tokens: &[Token],
     room: usize,
     at: usize,
-) -> Result<(SpecTree, usize), ReadError>
+) -> Result<(Box<SpecTree>, usize), ReadError>
     requires at_place { at < length tokens.now }
-    ensures value { GivesForm (read.rtrancl_of tokens.now (read.inside tokens.now room) at) result }
+    ensures value { GivesBoxed (read.rtrancl_of tokens.now (read.inside tokens.now room) at) result }
     ensures within { IfOk result (λ read. IsWithin (length tokens.now) at read.1) }
 {
     let (first, second) = pair(alloc, tokens, at)?;
@@ -594,11 +593,9 @@ fn rtrancl(
     let next = behind(tokens, next, Symbol::RightParenthesis)?;
     let (from, next) = postfix(alloc, tokens, room, next)?;
     let (to, next) = postfix(alloc, tokens, room, next)?;
-    let (body, from, to) = boxed_three(alloc, body, from, to)?;
-    Ok((
-        at_place(tokens, at, SpecBody::Rtrancl(first, second, body, from, to)),
-        next,
-    ))
+    let path = SpecBody::Rtrancl(first, second, body, from, to);
+    let made = at_place(alloc, tokens, at, path)?;
+    Ok((made, next))
 }
 
 /// An operand and reads of fields after it.
@@ -609,9 +606,9 @@ pub(crate) fn postfix(
     tokens: &[Token],
     room: usize,
     at: usize,
-) -> Result<(SpecTree, usize), ReadError>
+) -> Result<(Box<SpecTree>, usize), ReadError>
     requires at_place { at ≤ length tokens.now }
-    ensures value { GivesForm (read.postfix_of tokens.now (read.inside tokens.now room) at) result }
+    ensures value { GivesBoxed (read.postfix_of tokens.now (read.inside tokens.now room) at) result }
     ensures within { IfOk result (λ read. IsWithin (length tokens.now) at read.1) }
 {
     let (first, next) = atom(alloc, tokens, room, at)?;
@@ -626,9 +623,9 @@ fn atom(
     tokens: &[Token],
     room: usize,
     at: usize,
-) -> Result<(SpecTree, usize), ReadError>
+) -> Result<(Box<SpecTree>, usize), ReadError>
     requires at_place { at ≤ length tokens.now }
-    ensures value { GivesForm (read.atom_of tokens.now (read.inside tokens.now room) at) result }
+    ensures value { GivesBoxed (read.atom_of tokens.now (read.inside tokens.now room) at) result }
     ensures within { IfOk result (λ read. IsWithin (length tokens.now) at read.1) }
 {
     if is_symbol(tokens, at, Symbol::LeftParenthesis) {
@@ -648,9 +645,9 @@ fn bracket(
     tokens: &[Token],
     room: usize,
     at: usize,
-) -> Result<(SpecTree, usize), ReadError>
+) -> Result<(Box<SpecTree>, usize), ReadError>
     requires at_place { at < length tokens.now }
-    ensures value { GivesForm (read.bracket_of tokens.now (read.inside tokens.now room) at) result }
+    ensures value { GivesBoxed (read.bracket_of tokens.now (read.inside tokens.now room) at) result }
     ensures within { IfOk result (λ read. IsWithin (length tokens.now) at read.1) }
 {
     let (inner, next) = operand(alloc, tokens, room, 3, at + 1)?;
@@ -666,14 +663,15 @@ fn set(
     tokens: &[Token],
     room: usize,
     at: usize,
-) -> Result<(SpecTree, usize), ReadError>
+) -> Result<(Box<SpecTree>, usize), ReadError>
     requires at_place { at < length tokens.now }
-    ensures value { GivesForm (read.set_of tokens.now (read.inside tokens.now room) at) result }
+    ensures value { GivesBoxed (read.set_of tokens.now (read.inside tokens.now room) at) result }
     ensures within { IfOk result (λ read. IsWithin (length tokens.now) at read.1) }
 {
     if is_symbol(tokens, at + 1, Symbol::RightBrace) {
         let members = Row::of(Vec::new(alloc));
-        return Ok((at_place(tokens, at, SpecBody::Braces(members)), at + 2));
+        let made = at_place(alloc, tokens, at, SpecBody::Braces(members))?;
+        return Ok((made, at + 2));
     }
     if is_compr(tokens, at) {
         return compr(alloc, tokens, room, at);
@@ -689,16 +687,16 @@ fn compr(
     tokens: &[Token],
     room: usize,
     at: usize,
-) -> Result<(SpecTree, usize), ReadError>
+) -> Result<(Box<SpecTree>, usize), ReadError>
     requires at_place { at + 3 ≤ length tokens.now }
-    ensures value { GivesForm (read.compr_of tokens.now (read.inside tokens.now room) at) result }
+    ensures value { GivesBoxed (read.compr_of tokens.now (read.inside tokens.now room) at) result }
     ensures within { IfOk result (λ read. IsWithin (length tokens.now) at read.1) }
 {
     let name = word(alloc, tokens, at + 1)?;
     let (inner, next) = operand(alloc, tokens, room, 3, at + 3)?;
     let next = behind(tokens, next, Symbol::RightBrace)?;
-    let inner = boxed(alloc, inner)?;
-    Ok((at_place(tokens, at, SpecBody::Compr(name, inner)), next))
+    let made = at_place(alloc, tokens, at, SpecBody::Compr(name, inner))?;
+    Ok((made, next))
 }
 
 /// A set of listed members.
@@ -709,16 +707,25 @@ fn braces(
     tokens: &[Token],
     room: usize,
     at: usize,
-) -> Result<(SpecTree, usize), ReadError>
+) -> Result<(Box<SpecTree>, usize), ReadError>
     requires at_place { at < length tokens.now }
-    ensures value { GivesForm (read.braces_of tokens.now (read.inside tokens.now room) at) result }
+    ensures value { GivesBoxed (read.braces_of tokens.now (read.inside tokens.now room) at) result }
     ensures within { IfOk result (λ read. IsWithin (length tokens.now) at read.1) }
 {
     let mut made = Vec::new(alloc);
     let next = members(alloc, tokens, room, &mut made, at + 1)?;
     let next = behind(tokens, next, Symbol::RightBrace)?;
     let members = Row::of(made);
-    Ok((at_place(tokens, at, SpecBody::Braces(members)), next))
+    let made = at_place(alloc, tokens, at, SpecBody::Braces(members))?;
+    Ok((made, next))
+}
+
+/// Adds a member to those that are there.
+fn add_member(made: &mut Vec<SpecTree>, member: Box<SpecTree>) -> Result<(), NoMemory>
+    ensures { IfOk result (λ _. made.new.items ≡ made.old.items ++ member.value ∷ []) }
+{
+    made.push(Box::into_inner(member))?;
+    Ok(())
 }
 
 /// Members with commas between them, after those that are there.
@@ -739,7 +746,7 @@ fn members(
         return Err(ReadError::Refused(at));
     }
     let (member, next) = operand(alloc, tokens, room - 1, 3, at)?;
-    made.push(member)?;
+    add_member(made, member)?;
     if is_symbol(tokens, next, Symbol::Comma) {
         return members(alloc, tokens, room - 1, made, next + 1);
     }

@@ -5,6 +5,7 @@ mod answering;
 mod clauses;
 mod error;
 mod formulas;
+mod held;
 mod lists;
 mod operators;
 mod part;

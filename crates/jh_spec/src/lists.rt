@@ -7,6 +7,7 @@ ghost use Rattle.jh_spec.specs.PartReads.{GivesClause, GivesContract, GivesItems
 
 use crate::SpecItem;
 use crate::clauses::{Listed, clause, words_after};
+use crate::held::{Numbered, spec_of};
 use crate::parts::{item, loop_item, statement};
 use jh_ast::{Labelled, Spec, Stmt, Word};
 use jh_lex::{Symbol, Token};
@@ -108,7 +109,7 @@ fn ensured(
     tokens: &[Token],
     number: u32,
     at: usize,
-) -> Result<(Option<Spec>, usize, u32), ReadError>
+) -> Result<(Option<Numbered>, usize, u32), ReadError>
     requires { at ≤ length tokens.now }
     ensures value { GivesClause (part.ensured_at tokens.now number at) result }
     ensures within { IfOk result (λ read. (at ≤ read.1) × (read.1 < length tokens.now)) }
@@ -127,7 +128,7 @@ fn promised(
     tokens: &[Token],
     number: u32,
     at: usize,
-) -> Result<((Vec<Word>, Option<Spec>), usize, u32), ReadError>
+) -> Result<((Vec<Word>, Option<Numbered>), usize, u32), ReadError>
     requires { at ≤ length tokens.now }
     ensures value { GivesPromise (part.promised_at tokens.now number at) result }
     ensures within { IfOk result (λ read. (at ≤ read.1) × (read.1 < length tokens.now)) }
@@ -151,7 +152,7 @@ pub fn contract_part(
 {
     let (pre, next, number) = clause(alloc, tokens, Symbol::Requires, number, from)?;
     let ((modifies, post), next, number) = promised(alloc, tokens, number, next)?;
-    Ok(((pre, modifies, post), next, number))
+    Ok(((spec_of(pre), modifies, spec_of(post)), next, number))
 }
 
 /// The class that `claimedby` names in a specification whose contents begin at a place, and the place of the token that

@@ -8,16 +8,17 @@ ghost use Rattle.jh_spec.specs.PartReads.{
   GivesStatement,
   GivesSpec,
   GivesLabelled,
+  numbered_part,
 };
-ghost use Rattle.jh_ast.specs.Bare.{spec_part};
 ghost use Rattle.jh_ast.specs.Stmts as stmt;
 
 use crate::SpecItem;
 use crate::clauses::{
-    Listed, clause, label, next_number, quoted, quoted_formula, semicolon, words_after,
+    Listed, clause, label, next_number, numbered, quoted, quoted_formula, semicolon, words_after,
 };
-use crate::formulas::postfix;
-use jh_ast::{Labelled, Spec, SpecBody, SpecTree, SpecVar, Stmt, StmtBody, VarDef, Word};
+use crate::formulas::{at_place, postfix};
+use crate::held::{Numbered, Said, spec_of};
+use jh_ast::{Labelled, SpecBody, SpecVar, Stmt, StmtBody, VarDef, Word};
 use jh_lex::{Symbol, Token};
 use jh_name::{Kind, Row};
 use jh_peek::{
@@ -117,7 +118,7 @@ fn variable(
             kind,
             fixed,
             is_ghost,
-            init,
+            init: spec_of(init),
         }),
         next,
         number,
@@ -131,9 +132,9 @@ fn defined(
     tokens: &[Token],
     number: u32,
     at: usize,
-) -> Result<((Word, Spec), usize), ReadError>
+) -> Result<((Word, Numbered), usize), ReadError>
     requires { at ≤ length tokens.now }
-    ensures value { Gives (λ read. ((read.0.0, spec_part read.0.1), read.1)) (part.defined_at tokens.now number at) result }
+    ensures value { Gives (λ read. ((read.0.0, numbered_part read.0.1), read.1)) (part.defined_at tokens.now number at) result }
     ensures within { IfOk result (λ read. IsWithin (length tokens.now) at read.1) }
 {
     if !is_quote_open(tokens, at) {
@@ -142,12 +143,8 @@ fn defined(
     let name = word(alloc, tokens, at + 1)?;
     let _equals = behind(tokens, at + 2, Symbol::EqualEqual)?;
     let (body, next) = quoted_formula(alloc, tokens, at + 3)?;
-    let spec = Spec {
-        place: place(tokens, at),
-        number,
-        body,
-    };
-    Ok(((name, spec), next + 1))
+    let form = numbered(tokens, at, number, body);
+    Ok(((name, form), next + 1))
 }
 
 /// A definition of a variable.
@@ -162,10 +159,11 @@ fn definition(
     ensures value { GivesItem (part.definition_at tokens.now number at) result }
     ensures within { IfOk result (λ read. IsWithin (length tokens.now) at read.1) }
 {
-    let ((name, body), next) = defined(alloc, tokens, number, at + 1)?;
+    let after = next_number(number)?;
+    let ((name, form), next) = defined(alloc, tokens, number, at + 1)?;
     let next = behind(tokens, next, Symbol::Semicolon)?;
-    let number = next_number(number)?;
-    Ok((SpecItem::Def(VarDef { name, body }), next, number))
+    let body = form.spec();
+    Ok((SpecItem::Def(VarDef { name, body }), next, after))
 }
 
 /// A formula with a label before it, where one stands, and no facts named.
@@ -175,15 +173,15 @@ fn labelled(
     tokens: &[Token],
     number: u32,
     at: usize,
-) -> Result<(Labelled, usize), ReadError>
+) -> Result<(Said, usize), ReadError>
     requires { at ≤ length tokens.now }
     ensures value { GivesLabelled (part.labelled_at tokens.now number at) result }
     ensures within { IfOk result (λ read. IsWithin (length tokens.now) at read.1) }
 {
     let (name, next) = label(alloc, tokens, at)?;
-    let (body, next) = quoted(alloc, tokens, number, next)?;
+    let (form, next) = quoted(alloc, tokens, number, next)?;
     let from = Row::of(Vec::new(alloc));
-    Ok((Labelled { name, body, from }, next))
+    Ok((Said { name, form, from }, next))
 }
 
 /// An invariant of a class, whose word `invariant` stands at a place.
@@ -198,10 +196,10 @@ fn invariant(
     ensures value { GivesItem (part.invariant_at tokens.now number at) result }
     ensures within { IfOk result (λ read. IsWithin (length tokens.now) at read.1) }
 {
-    let (labelled, next) = labelled(alloc, tokens, number, at + 1)?;
+    let after = next_number(number)?;
+    let (said, next) = labelled(alloc, tokens, number, at + 1)?;
     let next = behind(tokens, next, Symbol::Semicolon)?;
-    let number = next_number(number)?;
-    Ok((SpecItem::Invariant(labelled), next, number))
+    Ok((SpecItem::Invariant(said.labelled()), next, after))
 }
 
 /// Whether an invariant begins at a place with a word that says who may see it.
@@ -251,9 +249,9 @@ pub(crate) fn loop_item(
     ensures within { IfOk result (λ read. IsWithin (length tokens.now) at read.1) }
 {
     let next = behind(tokens, at, Symbol::Inv)?;
-    let (labelled, next) = labelled(alloc, tokens, number, next)?;
-    let number = next_number(number)?;
-    Ok((labelled, semicolon(tokens, next), number))
+    let after = next_number(number)?;
+    let (said, next) = labelled(alloc, tokens, number, next)?;
+    Ok((said.labelled(), semicolon(tokens, next), after))
 }
 
 /// What is spoken after `assert` or `note`.
@@ -263,16 +261,16 @@ fn spoken(
     tokens: &[Token],
     number: u32,
     at: usize,
-) -> Result<(Labelled, usize), ReadError>
+) -> Result<(Said, usize), ReadError>
     requires { at ≤ length tokens.now }
     ensures value { GivesLabelled (part.spoken_at tokens.now number at) result }
     ensures within { IfOk result (λ read. IsWithin (length tokens.now) at read.1) }
 {
     let (name, next) = label(alloc, tokens, at)?;
-    let (body, next) = quoted(alloc, tokens, number, next)?;
+    let (form, next) = quoted(alloc, tokens, number, next)?;
     let (from, next) = words_after(alloc, tokens, Symbol::From, Listed::Facts, next)?;
     let from = Row::of(from);
-    Ok((Labelled { name, body, from }, next))
+    Ok((Said { name, form, from }, next))
 }
 
 /// The name of a ghost variable, as a formula of the file.
@@ -282,25 +280,14 @@ fn named(
     tokens: &[Token],
     number: u32,
     at: usize,
-) -> Result<(Spec, usize), ReadError>
+) -> Result<(Numbered, usize), ReadError>
     requires { at ≤ length tokens.now }
     ensures value { GivesSpec (part.named_at tokens.now number at) result }
     ensures within { IfOk result (λ read. IsWithin (length tokens.now) at read.1) }
 {
     let name = name(alloc, tokens, at)?;
-    let place = place(tokens, at);
-    let body = SpecTree {
-        place,
-        body: SpecBody::Name(name),
-    };
-    Ok((
-        Spec {
-            place,
-            number,
-            body,
-        },
-        at + 1,
-    ))
+    let body = at_place(alloc, tokens, at, SpecBody::Name(name))?;
+    Ok((numbered(tokens, at, number, body), at + 1))
 }
 
 /// What a ghost assignment assigns to: a name, or a read in quotes.
@@ -310,7 +297,7 @@ fn target(
     tokens: &[Token],
     number: u32,
     at: usize,
-) -> Result<(Spec, usize), ReadError>
+) -> Result<(Numbered, usize), ReadError>
     requires { at ≤ length tokens.now }
     ensures value { GivesSpec (part.target_at tokens.now number at) result }
     ensures within { IfOk result (λ read. IsWithin (length tokens.now) at read.1) }
@@ -322,14 +309,7 @@ fn target(
     if !is_quote_close(tokens, next) {
         return Err(ReadError::Refused(next));
     }
-    Ok((
-        Spec {
-            place: place(tokens, at),
-            number,
-            body,
-        },
-        next + 1,
-    ))
+    Ok((numbered(tokens, at, number, body), next + 1))
 }
 
 /// A ghost assignment.
@@ -345,11 +325,11 @@ fn ghost_assignment(
     ensures within { IfOk result (λ read. IsWithin (length tokens.now) at read.1) }
 {
     let second = next_number(number)?;
+    let after = next_number(second)?;
     let (variable, next) = target(alloc, tokens, number, at)?;
     let next = behind(tokens, next, Symbol::ColonEqual)?;
     let (value, next) = quoted(alloc, tokens, second, next)?;
-    let after = next_number(second)?;
-    let body = StmtBody::Ghost(variable, value);
+    let body = StmtBody::Ghost(variable.spec(), value.spec());
     Ok((
         Stmt {
             place: place(tokens, at),
@@ -372,16 +352,16 @@ fn assert_statement(
     ensures value { GivesStatement (part.said_at tokens.now stmt.assert number at) result }
     ensures within { IfOk result (λ read. IsWithin (length tokens.now) at read.1) }
 {
-    let (labelled, next) = spoken(alloc, tokens, number, at + 1)?;
-    let number = next_number(number)?;
-    let body = StmtBody::Assert(labelled);
+    let after = next_number(number)?;
+    let (said, next) = spoken(alloc, tokens, number, at + 1)?;
+    let body = StmtBody::Assert(said.labelled());
     Ok((
         Stmt {
             place: place(tokens, at),
             body,
         },
         semicolon(tokens, next),
-        number,
+        after,
     ))
 }
 
@@ -397,16 +377,16 @@ fn note_statement(
     ensures value { GivesStatement (part.said_at tokens.now stmt.note number at) result }
     ensures within { IfOk result (λ read. IsWithin (length tokens.now) at read.1) }
 {
-    let (labelled, next) = spoken(alloc, tokens, number, at + 1)?;
-    let number = next_number(number)?;
-    let body = StmtBody::Note(labelled);
+    let after = next_number(number)?;
+    let (said, next) = spoken(alloc, tokens, number, at + 1)?;
+    let body = StmtBody::Note(said.labelled());
     Ok((
         Stmt {
             place: place(tokens, at),
             body,
         },
         semicolon(tokens, next),
-        number,
+        after,
     ))
 }
 

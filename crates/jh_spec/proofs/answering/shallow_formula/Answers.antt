@@ -1,5 +1,8 @@
-use Rattle.std.proofs.Common.{ℕ, sym, ◌∙◌}
+use Rattle.std.proofs.Common.{ℕ, ap, sym, ◌∙◌}
+use Rattle.std.specs.Prelude.{Some}
 use Rattle.std.proofs.lemmas.Option.{none-some}
+use Rattle.std.specs.declared.alloc.Global.{Global}
+use Rattle.std.specs.declared.boxed.Box.{Box}
 use Rattle.jh_ast.specs.declared.spec.SpecTree.{SpecTree}
 use Rattle.jh_ast.specs.Bare.{form_tree}
 use Rattle.jh_spec.specs.Reading.{formula_at}
@@ -10,7 +13,7 @@ use Rattle.jh_spec.proofs.Sound.{formula-sound}
 use Rattle.jh_spec.proofs.answering.shallow_formula.Goals as goal
 
 pub returns-in-Ok : goal.returns-in-Ok
-returns-in-Ok c = (c.requires.shallow, of_found (formula-sound c.args.tokens.now c.args.at) (form_tree c.in-Ok.tree, c.in-Ok.next) c.in-Ok.ensures.value)
+returns-in-Ok c = (c.requires.shallow, of_found (formula-sound c.args.tokens.now c.args.at) (form_tree c.into_inner.result, c.in-Ok.next) (c.in-Ok.ensures.value ∙ ap (λ (t : SpecTree). Some (form_tree t, c.in-Ok.next)) (sym c.into_inner.ensures)))
 
 pub returns-in-Err-Refused : goal.returns-in-Err-Refused
-returns-in-Err-Refused c = (c.requires.shallow, λ t s. none-some t (sym (refused-none {X = SpecTree × ℕ} (λ r. (form_tree r.0, r.1)) (formula_at c.args.tokens.now c.args.at) c.in-Err-Refused.field-0 c.in-Err-Refused.near c.in-Err-Refused.field-0-is c.in-Err-Refused.ensures.value) ∙ formula-complete c.args.tokens.now c.args.at t.1 t.0 s), c.start_near.ensures)
+returns-in-Err-Refused c = (c.requires.shallow, λ t s. none-some t (sym (refused-none {X = Box SpecTree Global × ℕ} (λ r. (form_tree r.0.value, r.1)) (formula_at c.args.tokens.now c.args.at) c.in-Err-Refused.field-0 c.in-Err-Refused.near c.in-Err-Refused.field-0-is c.in-Err-Refused.ensures.value) ∙ formula-complete c.args.tokens.now c.args.at t.1 t.0 s), c.start_near.ensures)

@@ -4,8 +4,8 @@ use Rattle.jh_spec.proofs.formulas.+reading.Goals as goal
 
 pub members-returns-then-is_symbol-clause-value : goal.members-returns-then-is_symbol-clause-value
 members-returns-then-is_symbol-clause-value t c =
-    rw (members-next c.args.tokens.now c.args.room c.args.at c.in_ok-member.next c.in_ok-member.member c.args.made.now.items c.push.new.self.items (omega arith) c.in_ok-member.ensures.value (sym c.is_symbol.ensures.value ∙ c.if-is_symbol.true) c.in_ok-push.ensures.items) c.members.ensures.value
+    rw (members-next c.args.tokens.now c.args.room c.args.at c.in_ok-member.next c.in_ok-member.member.value c.args.made.now.items c.add_member.new.made.items (omega arith) c.in_ok-member.ensures.value (sym c.is_symbol.ensures.value ∙ c.if-is_symbol.true) c.in_ok-add_member.ensures) c.members.ensures.value
 
 pub members-returns-clause-value : goal.members-returns-clause-value
 members-returns-clause-value t c =
-    members-last c.args.tokens.now c.args.room c.args.at c.in_ok-member.next c.in_ok-member.member c.args.made.now.items c.push.new.self.items (omega arith) c.in_ok-member.ensures.value (sym c.is_symbol.ensures.value ∙ c.if-is_symbol.false) c.in_ok-push.ensures.items
+    members-last c.args.tokens.now c.args.room c.args.at c.in_ok-member.next c.in_ok-member.member.value c.args.made.now.items c.add_member.new.made.items (omega arith) c.in_ok-member.ensures.value (sym c.is_symbol.ensures.value ∙ c.if-is_symbol.false) c.in_ok-add_member.ensures

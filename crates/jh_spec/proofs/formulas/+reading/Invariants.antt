@@ -7,12 +7,6 @@ decreases-operand l = 2048 * l.room + 0
 abbrev pub decreases-open_operand : goal.decreases-open_operand
 decreases-open_operand l = 2048 * l.room + 1300
 
-abbrev pub decreases-all : goal.decreases-all
-decreases-all l = 2048 * l.room + 100
-
-abbrev pub decreases-ex : goal.decreases-ex
-decreases-ex l = 2048 * l.room + 100
-
 abbrev pub decreases-right : goal.decreases-right
 decreases-right l = 2048 * l.room + 1000 + l.level + 1
 
@@ -33,15 +27,6 @@ decreases-chain l = 2048 * l.room + 301 + 2 * l.level
 
 abbrev pub decreases-prefix : goal.decreases-prefix
 decreases-prefix l = 2048 * l.room + 200
-
-abbrev pub decreases-minus : goal.decreases-minus
-decreases-minus l = 2048 * l.room + 160
-
-abbrev pub decreases-old : goal.decreases-old
-decreases-old l = 2048 * l.room + 160
-
-abbrev pub decreases-card : goal.decreases-card
-decreases-card l = 2048 * l.room + 160
 
 abbrev pub decreases-rtrancl : goal.decreases-rtrancl
 decreases-rtrancl l = 2048 * l.room + 150
@@ -66,3 +51,9 @@ decreases-braces l = 2048 * l.room + 50
 
 abbrev pub decreases-members : goal.decreases-members
 decreases-members l = 2048 * l.room + 20
+
+abbrev pub decreases-quantified : goal.decreases-quantified
+decreases-quantified l = 2048 * l.room + 100
+
+abbrev pub decreases-signed : goal.decreases-signed
+decreases-signed l = 2048 * l.room + 160
