@@ -1,10 +1,13 @@
 -- What the readers of statements answer, seen as trees.
 use Rattle.std.specs.Prelude.{ℕ, Option, option_map, Result, List, ◌++◌, Some, map}
 use Rattle.std.specs.declared.alloc.Global.{Global}
+use Rattle.std.specs.declared.boxed.Box.{Box}
 use Rattle.std.specs.declared.vec.Vec.{Vec}
+use Rattle.jh_ast.specs.declared.expr.Expr.{Expr}
 use Rattle.jh_ast.specs.declared.stmt.Rhs.{Rhs}
 use Rattle.jh_ast.specs.declared.stmt.Stmt.{Stmt}
-use Rattle.jh_ast.specs.Bare.{rhs_tree, stmt_tree, stmt_trees}
+use Rattle.jh_ast.specs.Bare.{expr_tree, rhs_tree, stmt_tree, stmt_trees}
+use Rattle.jh_ast.specs.Exprs.{ExprTree}
 use Rattle.jh_ast.specs.Stmts.{StmtTree, StmtTrees, RhsTree}
 use Rattle.jh_peek.specs.declared.error.ReadError.{ReadError}
 use Rattle.jh_peek.specs.Answers.{Gives}
@@ -14,6 +17,10 @@ use Rattle.jh_peek.specs.Lists.{Found}
 -- the answer is what is assigned, where something is, and the place after it
 abbrev pub GivesInitial : Option (Option RhsTree × ℕ) → Result (Option Rhs × ℕ) ReadError → Type 0
 GivesInitial wanted result = Gives (λ r. (option_map rhs_tree r.0, r.1)) wanted result
+
+-- the answer is a condition in a box, and the place after it
+abbrev pub GivesCondition : Option (ExprTree × ℕ) → Result (Box Expr Global × ℕ) ReadError → Type 0
+GivesCondition wanted result = Gives (λ r. (expr_tree r.0.value, r.1)) wanted result
 
 -- the answer is a statement, the place after it and the number after its formulas
 abbrev pub GivesStatement : Option (Found StmtTree) → Result (Stmt × ℕ × ℕ) ReadError → Type 0

@@ -1,6 +1,7 @@
 //! The parser of statements.
 #![tactic(auto)]
 
+mod branches;
 mod simple;
 mod statements;
 

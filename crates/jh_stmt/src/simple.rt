@@ -2,16 +2,15 @@
 ghost use Rattle.std.specs.Prelude.{◌≡◌, ◌+◌, ◌≤◌, ◌<◌, length, IfOk, IsTrue};
 ghost use Rattle.jh_peek.specs.Answers.{Gives, IsWithin};
 ghost use Rattle.jh_ast.specs.Bare.{expr_tree, stmt_body_tree, stmt_tree};
-ghost use Rattle.jh_code.specs.Reads.{GivesExpr};
 ghost use Rattle.jh_peek.specs.Standing.{place_at};
 ghost use Rattle.jh_spec.specs.PartReads.{GivesLoop};
 ghost use Rattle.jh_stmt.specs.Reading as read;
-ghost use Rattle.jh_stmt.specs.Reads.{GivesInitial, GivesStatement};
+ghost use Rattle.jh_stmt.specs.Reads.{GivesCondition, GivesInitial, GivesStatement};
 
 use jh_ast::{Expr, JType, Labelled, Param, Rhs, Stmt, StmtBody, Word};
 use jh_code::{call_after, expression, reads, rhs, target_of};
 use jh_lex::{Symbol, Token};
-use jh_peek::{ReadError, behind, is_plain_word, is_spec_open, is_symbol, place, word};
+use jh_peek::{ReadError, behind, boxed, is_plain_word, is_spec_open, is_symbol, place, word};
 use jh_spec::loop_part;
 use std::alloc::Global;
 
@@ -56,19 +55,20 @@ fn initial(alloc: Global, tokens: &[Token], at: usize) -> Result<(Option<Rhs>, u
     Ok((Some(value), next))
 }
 
-/// A condition in its brackets.
+/// A condition in its brackets. It comes in a box, as all wide values do while something may fail.
 #[tactic(auto, unfolding(crate::specs::Reading::condition_at, jh_peek::specs::Choices::and_then, jh_peek::specs::Choices::choose, jh_peek::specs::Choices::given))]
 pub(crate) fn condition(
     alloc: Global,
     tokens: &[Token],
     at: usize,
-) -> Result<(Expr, usize), ReadError>
+) -> Result<(Box<Expr>, usize), ReadError>
     requires { at ≤ length tokens.now }
-    ensures value { GivesExpr (read.condition_at tokens.now at) result }
+    ensures value { GivesCondition (read.condition_at tokens.now at) result }
     ensures within { IfOk result (λ read. IsWithin (length tokens.now) at read.1) }
 {
     let next = behind(tokens, at, Symbol::LeftParenthesis)?;
     let (condition, next) = expression(alloc, tokens, next)?;
+    let condition = boxed(alloc, condition)?;
     let next = behind(tokens, next, Symbol::RightParenthesis)?;
     Ok((condition, next))
 }
@@ -118,12 +118,10 @@ pub(crate) fn local(
 {
     let (param, next) = declared(alloc, tokens, at)?;
     let (value, next) = initial(alloc, tokens, next)?;
+    let value = boxed(alloc, value)?;
     let next = behind(tokens, next, Symbol::Semicolon)?;
-    Ok((
-        at_place(tokens, at, StmtBody::Local(param, value)),
-        next,
-        number,
-    ))
+    let body = StmtBody::Local(param, Box::into_inner(value));
+    Ok((at_place(tokens, at, body), next, number))
 }
 
 /// Whether a local is declared at a place.
@@ -152,8 +150,10 @@ fn call_statement(
     ensures within { IfOk result (λ read. IsWithin (length tokens.now) next read.1) }
 {
     let (call, next) = call_after(alloc, tokens, at, operand, last, next)?;
+    let call = boxed(alloc, call)?;
     let next = behind(tokens, next, Symbol::Semicolon)?;
-    Ok((at_place(tokens, at, StmtBody::Call(call)), next, number))
+    let body = StmtBody::Call(Box::into_inner(call));
+    Ok((at_place(tokens, at, body), next, number))
 }
 
 /// An assignment whose beginning is read.
@@ -172,14 +172,13 @@ fn assignment(
     ensures within { IfOk result (λ read. IsWithin (length tokens.now) next read.1) }
 {
     let target = target_of(alloc, tokens, at, operand, last)?;
+    let target = boxed(alloc, target)?;
     let next = behind(tokens, next, Symbol::Equal)?;
     let (value, next) = rhs(alloc, tokens, next)?;
+    let value = boxed(alloc, value)?;
     let next = behind(tokens, next, Symbol::Semicolon)?;
-    Ok((
-        at_place(tokens, at, StmtBody::Assign(target, value)),
-        next,
-        number,
-    ))
+    let body = StmtBody::Assign(Box::into_inner(target), Box::into_inner(value));
+    Ok((at_place(tokens, at, body), next, number))
 }
 
 /// A call or an assignment.
@@ -217,10 +216,8 @@ pub(crate) fn returned(
         return Ok((at_place(tokens, at, StmtBody::Return(None)), at + 2, number));
     }
     let (value, next) = expression(alloc, tokens, at + 1)?;
+    let value = boxed(alloc, value)?;
     let next = behind(tokens, next, Symbol::Semicolon)?;
-    Ok((
-        at_place(tokens, at, StmtBody::Return(Some(value))),
-        next,
-        number,
-    ))
+    let body = StmtBody::Return(Some(Box::into_inner(value)));
+    Ok((at_place(tokens, at, body), next, number))
 }

@@ -5,11 +5,12 @@ ghost use Rattle.jh_ast.specs.Bare.{expr_tree, stmt_tree};
 ghost use Rattle.jh_stmt.specs.Reading as read;
 ghost use Rattle.jh_stmt.specs.Reads.{GivesBody, GivesPiece, GivesStatement};
 
+use crate::branches::{one_way, two_ways};
 use crate::simple::{at_place, condition, invariants, is_local, local, returned, simple};
 use jh_ast::{Expr, Stmt, StmtBody};
 use jh_lex::{Symbol, Token};
 use jh_name::Row;
-use jh_peek::{ReadError, behind, boxed, boxed_two, is_spec_open, is_symbol};
+use jh_peek::{ReadError, behind, boxed, is_spec_open, is_symbol};
 use jh_spec::statements_part;
 use std::alloc::Global;
 
@@ -90,6 +91,7 @@ fn branch(
 {
     let (condition, next) = condition(alloc, tokens, at + 1)?;
     let (then, next, number) = part(alloc, tokens, room, number, next)?;
+    let then = boxed(alloc, then)?;
     otherwise(alloc, tokens, room, at, condition, then, number, next)
 }
 
@@ -101,30 +103,22 @@ fn otherwise(
     tokens: &[Token],
     room: usize,
     at: usize,
-    condition: Expr,
-    then: Stmt,
+    condition: Box<Expr>,
+    then: Box<Stmt>,
     number: u32,
     next: usize,
 ) -> Result<(Stmt, usize, u32), ReadError>
     requires at_place { next ≤ length tokens.now }
-    ensures value { GivesStatement (read.else_of tokens.now (read.inside tokens.now room) at (expr_tree condition) (stmt_tree then) number next) result }
+    ensures value { GivesStatement (read.else_of tokens.now (read.inside tokens.now room) at (expr_tree condition.value) (stmt_tree then.value) number next) result }
     ensures within { IfOk result (λ read. (next ≤ read.1) × (read.1 ≤ length tokens.now)) }
 {
     if !is_symbol(tokens, next, Symbol::Else) {
-        let then = boxed(alloc, then)?;
-        return Ok((
-            at_place(tokens, at, StmtBody::If(condition, then, None)),
-            next,
-            number,
-        ));
+        let made = one_way(tokens, at, condition, then);
+        return Ok((made, next, number));
     }
     let (other, next, number) = part(alloc, tokens, room, number, next + 1)?;
-    let (then, other) = boxed_two(alloc, then, other)?;
-    Ok((
-        at_place(tokens, at, StmtBody::If(condition, then, Some(other))),
-        next,
-        number,
-    ))
+    let made = two_ways(alloc, tokens, at, condition, then, other)?;
+    Ok((made, next, number))
 }
 
 /// A loop.
@@ -145,12 +139,8 @@ fn repeated(
     let (condition, next) = condition(alloc, tokens, next)?;
     let (body, next, number) = part(alloc, tokens, room, number, next)?;
     let body = boxed(alloc, body)?;
-    let laws = Row::of(laws);
-    Ok((
-        at_place(tokens, at, StmtBody::While(laws, condition, body)),
-        next,
-        number,
-    ))
+    let body = StmtBody::While(Row::of(laws), Box::into_inner(condition), body);
+    Ok((at_place(tokens, at, body), next, number))
 }
 
 /// The body of a branch or of a loop.

@@ -2,10 +2,9 @@ use Rattle.std.proofs.Common.{length, map, ℕ, ap, sym, ◌∙◌, arith, Vec, 
 use Rattle.std.proofs.lemmas.Result.{err_from_is_err_and}
 use Rattle.jh_ast.specs.declared.stmt.Stmt.{Stmt}
 use Rattle.jh_ast.specs.Bare.{expr_tree, stmt_tree, stmt_trees}
-use Rattle.jh_peek.specs.Standing.{place_at}
 use Rattle.jh_peek.proofs.Lists.{error-passes}
 use Rattle.jh_stmt.specs.Reading as read
-use Rattle.jh_stmt.proofs.Rests.{with_rest, several-next, several-all, several-none, several-short, several-begin, else-without, else-none, else-with, branch-without, branch-with}
+use Rattle.jh_stmt.proofs.Rests.{with_rest, several-next, several-all, several-none, several-short, several-begin, else-without, else-none, else-with}
 use Rattle.jh_stmt.proofs.statements.+reading.Goals as goal
 
 -- nothing is made yet
@@ -42,18 +41,16 @@ several-returns-clause-value t c = several-all c.args.tokens.now (read.inside c.
 -- a branch without a second part
 pub otherwise-returns-then-not-is_symbol-clause-value : goal.otherwise-returns-then-not-is_symbol-clause-value
 otherwise-returns-then-not-is_symbol-clause-value t c =
-    else-without c.args.tokens.now (read.inside c.args.tokens.now c.args.room) c.args.at (expr_tree c.args.condition) (stmt_tree c.args.then) c.args.number c.args.next (stmt_tree c.at_place.result) (sym c.is_symbol.ensures.value ∙ c.if-not-is_symbol.true)
-    (branch-without (place_at c.args.tokens.now c.args.at) c.args.condition c.in_ok-then.then c.args.then c.at_place.result c.at_place.ensures c.in_ok-then.ensures)
+    else-without c.args.tokens.now (read.inside c.args.tokens.now c.args.room) c.args.at (expr_tree c.args.condition.value) (stmt_tree c.args.then.value) c.args.number c.args.next (stmt_tree c.one_way-made.result) (sym c.is_symbol.ensures.value ∙ c.if-not-is_symbol.true) c.one_way-made.ensures
 
 -- no second part stands there
 pub otherwise-returns-in_err-other-clause-value : goal.otherwise-returns-in_err-other-clause-value
 otherwise-returns-in_err-other-clause-value t c =
-    let p = err_from_is_err_and c.from_residual-in_err-other.result c.from_residual-in_err-other.ensures.1 in
+    let p = err_from_is_err_and c.from_residual.result c.from_residual.ensures.1 in
     rw (p.1, p.2) (error-passes {X = Stmt × ℕ × ℕ} {U = Stmt × ℕ × ℕ} (λ r. (stmt_tree r.0, r.1, r.2)) (λ r. (stmt_tree r.0, r.1, r.2)) c.in_err-other.field-0.0 c.in_err-other.ensures.value (λ e.
-    else-none c.args.tokens.now (read.inside c.args.tokens.now c.args.room) c.args.at (expr_tree c.args.condition) (stmt_tree c.args.then) c.args.number c.args.next (sym c.is_symbol.ensures.value ∙ c.if-not-is_symbol.false) e))
+    else-none c.args.tokens.now (read.inside c.args.tokens.now c.args.room) c.args.at (expr_tree c.args.condition.value) (stmt_tree c.args.then.value) c.args.number c.args.next (sym c.is_symbol.ensures.value ∙ c.if-not-is_symbol.false) e))
 
 -- a branch with a second part
 pub otherwise-returns-clause-value : goal.otherwise-returns-clause-value
 otherwise-returns-clause-value t c =
-    else-with c.args.tokens.now (read.inside c.args.tokens.now c.args.room) c.args.at (expr_tree c.args.condition) (stmt_tree c.args.then) c.args.number c.args.next (stmt_tree c.at_place-2.result) (stmt_tree c.in_ok-other.other) c.in_ok-other.next c.in_ok-other.number (sym c.is_symbol.ensures.value ∙ c.if-not-is_symbol.false) c.in_ok-other.ensures.value
-    (branch-with (place_at c.args.tokens.now c.args.at) c.args.condition c.in_ok-then-2.then c.in_ok-then-2.other c.args.then c.in_ok-other.other c.at_place-2.result c.at_place-2.ensures c.in_ok-then-2.ensures.first c.in_ok-then-2.ensures.second)
+    else-with c.args.tokens.now (read.inside c.args.tokens.now c.args.room) c.args.at (expr_tree c.args.condition.value) (stmt_tree c.args.then.value) c.args.number c.args.next (stmt_tree c.in_ok-made.made) (stmt_tree c.in_ok-other.other) c.in_ok-other.next c.in_ok-other.number (sym c.is_symbol.ensures.value ∙ c.if-not-is_symbol.false) c.in_ok-other.ensures.value c.in_ok-made.ensures
