@@ -1,0 +1,6 @@
+//! The least of several faults.
+#![tactic(auto)]
+
+mod three;
+
+pub use three::least_of_three;
