@@ -1,3 +1,4 @@
 pub mod Leasts
 pub mod Scopings
 mod Wholes
+mod Others

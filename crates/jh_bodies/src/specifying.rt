@@ -146,23 +146,7 @@ fn is_ghost_target(lookups: &Lookups, at: &ScopeTable, form: &SpecTree) -> bool
         SpecBody::Member(_, word) => {
             is_ghost_state(state_named(lookups, at.class, word.text.text()))
         }
-        SpecBody::Null => false,
-        SpecBody::True => false,
-        SpecBody::False => false,
-        SpecBody::Univ => false,
-        SpecBody::Number(_) => false,
-        SpecBody::Not(_) => false,
-        SpecBody::Minus(_) => false,
-        SpecBody::Old(_) => false,
-        SpecBody::Card(_) => false,
-        SpecBody::Binary(_, _, _) => false,
-        SpecBody::Dvd(_, _) => false,
-        SpecBody::All(_, _) => false,
-        SpecBody::Ex(_, _) => false,
-        SpecBody::Tree(_) => false,
-        SpecBody::Rtrancl(_, _, _, _, _) => false,
-        SpecBody::Braces(_) => false,
-        SpecBody::Compr(_, _) => false,
+        _ => false,
     }
 }
 

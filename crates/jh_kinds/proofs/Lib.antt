@@ -2,3 +2,4 @@ mod Steps
 mod Halving
 mod Gathering
 mod Repeats
+mod Others

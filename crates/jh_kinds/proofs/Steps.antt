@@ -10,7 +10,7 @@ use Rattle.jh_ast.specs.Forms as f
 use Rattle.jh_rules.specs.declared.found.Found.{Found}
 use Rattle.jh_rules.specs.Faults.{right, wrong, needs_none, broken, both, ◌>>=◌}
 use Rattle.jh_rules.specs.Found.{Finds}
-use Rattle.jh_rules.specs.Formulas.{Where, form_kind, form_kinds, first_place, equations}
+use Rattle.jh_rules.specs.Formulas.{Where, binary_kind, form_kind, form_kinds, first_place, equations, in_old, under}
 use Rattle.jh_rules.specs.Names.{Declared}
 use Rattle.jh_rules.specs.Words.{text_of}
 use Rattle.jh_rules.specs.Kinds.{is_obj}
@@ -21,8 +21,12 @@ use Rattle.jh_ast.specs.declared.spec.SpecTree.{SpecTree}
 use Rattle.jh_ast.specs.declared.spec.SpecOp.{SpecOp}
 use Rattle.jh_ast.specs.declared.spec.SpecOp.TheVariants as op
 use Rattle.jh_kinds.proofs.Gathering.{seen-asked}
-use Rattle.jh_rules.specs.Rules.{is_number_literal, rule_29_dvd}
-use Rattle.jh_kinds.specs.Parts.{is_plain_number, is_zero, fields_kind, path_fields, path, seen, braces, is_or, Gathered, either_fields}
+use Rattle.jh_rules.specs.Rules.{is_number_literal, rule_27_field, rule_29_dvd, rule_31_old}
+use Rattle.jh_kinds.specs.Parts.{is_plain_number, is_zero, fields_kind, path_fields, path, read, one, complement, behind, multiple, seen, braces, is_or, Gathered, either_fields}
+use Rattle.jh_kinds.specs.declared.operators.Wanted.TheVariants as wanted
+use Rattle.jh_name.specs.declared.place.Kind.TheVariants as k
+use Rattle.std.specs.declared.alloc.Global.{Global}
+use Rattle.std.specs.declared.boxed.Box.{Box}
 
 pub place-form : (p : Place) (a : SpecBody) → f.place_of (form_body_tree p a) ≡ p
 unfolding form_body_tree
@@ -85,6 +89,48 @@ kind-path l at q x y a b c = refl
 pub kind-braces : (l : Declared) (at : Where) (q : Place) (items : List SpecTree) → form_kind l (f.braces q (form_trees items)) at ≡ (seen (list_all is_obj) (form_kinds l (form_trees items) at) >>= braces q (form_trees items))
 unfolding form_kind
 kind-braces l at q items = sym (seen-asked (list_all is_obj) (form_kinds l (form_trees items) at).faults (form_kinds l (form_trees items) at).known (braces q (form_trees items)))
+
+-- the arms of formulas with formulas inside
+module _ (l : Declared) (at : Where) (q : Place) where
+  pub kind-member : (a : Box SpecTree Global) (w : Word) → form_kind l (form_body_tree q (y.Member a w)) at ≡ read (form_tree a.value) (form_kind l (form_tree a.value) at) (rule_27_field l at.class w)
+  unfolding form_kind form_body_tree
+  kind-member a w = refl
+
+  pub kind-not : (a : Box SpecTree Global) → form_kind l (form_body_tree q (y.Not a)) at ≡ one wanted.Truth (form_tree a.value) (form_kind l (form_tree a.value) at) k.Bool
+  unfolding form_kind form_body_tree
+  kind-not a = refl
+
+  pub kind-minus : (a : Box SpecTree Global) → form_kind l (form_body_tree q (y.Minus a)) at ≡ complement (form_tree a.value) (form_kind l (form_tree a.value) at)
+  unfolding form_kind form_body_tree
+  kind-minus a = refl
+
+  pub kind-old : (a : Box SpecTree Global) → form_kind l (form_body_tree q (y.Old a)) at ≡ behind (rule_31_old at.old q) (form_kind l (form_tree a.value) (in_old at))
+  unfolding form_kind form_body_tree
+  kind-old a = refl
+
+  pub kind-card : (a : Box SpecTree Global) → form_kind l (form_body_tree q (y.Card a)) at ≡ one wanted.Set (form_tree a.value) (form_kind l (form_tree a.value) at) k.Int
+  unfolding form_kind form_body_tree
+  kind-card a = refl
+
+  pub kind-binary : (o : SpecOp) (a b : Box SpecTree Global) → form_kind l (form_body_tree q (y.Binary o a b)) at ≡ binary_kind l q o (form_tree a.value) (form_kind l (form_tree a.value) at) (form_tree b.value) (form_kind l (form_tree b.value) at)
+  unfolding form_kind form_body_tree
+  kind-binary o a b = refl
+
+  pub kind-dvd : (z : ℤ) (a : Box SpecTree Global) → form_kind l (form_body_tree q (y.Dvd z a)) at ≡ multiple q z (form_kind l (form_tree a.value) at)
+  unfolding form_kind form_body_tree
+  kind-dvd z a = refl
+
+  pub kind-all : (ws : List Word) (a : Box SpecTree Global) → form_kind l (form_body_tree q (y.All ws a)) at ≡ one wanted.Truth (form_tree a.value) (form_kind l (form_tree a.value) (under at ws)) k.Bool
+  unfolding form_kind form_body_tree
+  kind-all ws a = refl
+
+  pub kind-ex : (ws : List Word) (a : Box SpecTree Global) → form_kind l (form_body_tree q (y.Ex ws a)) at ≡ one wanted.Truth (form_tree a.value) (form_kind l (form_tree a.value) (under at ws)) k.Bool
+  unfolding form_kind form_body_tree
+  kind-ex ws a = refl
+
+  pub kind-compr : (w : Word) (a : Box SpecTree Global) → form_kind l (form_body_tree q (y.Compr w a)) at ≡ one wanted.Truth (form_tree a.value) (form_kind l (form_tree a.value) (under at (w ∷ []))) k.Set
+  unfolding form_kind form_body_tree
+  kind-compr w a = refl
 
 or-case : (x y : List ℕ) (q : Place) (o : SpecOp) (a b : FormTree) → is_or o ≡ true → equations x y (f.binary q o a b) ≡ either_fields (equations x y a) (equations x y b)
 unfolding equations

@@ -24,7 +24,7 @@ use jh_rules::{
 };
 
 /// Which kinds are wanted of an operand.
-#[derive(Clone, Copy, Debug)]
+#[derive(Clone, Copy)]
 pub enum Wanted {
     Obj,
     Number,
@@ -160,24 +160,7 @@ fn is_plain_number(form: &SpecTree) -> bool
 {
     match &form.body {
         SpecBody::Number(_) => true,
-        SpecBody::Null => false,
-        SpecBody::True => false,
-        SpecBody::False => false,
-        SpecBody::Univ => false,
-        SpecBody::Name(_) => false,
-        SpecBody::Member(_, _) => false,
-        SpecBody::Not(_) => false,
-        SpecBody::Minus(_) => false,
-        SpecBody::Old(_) => false,
-        SpecBody::Card(_) => false,
-        SpecBody::Binary(_, _, _) => false,
-        SpecBody::Dvd(_, _) => false,
-        SpecBody::All(_, _) => false,
-        SpecBody::Ex(_, _) => false,
-        SpecBody::Tree(_) => false,
-        SpecBody::Rtrancl(_, _, _, _, _) => false,
-        SpecBody::Braces(_) => false,
-        SpecBody::Compr(_, _) => false,
+        _ => false,
     }
 }
 
@@ -188,23 +171,7 @@ fn is_number_literal(form: &SpecTree) -> bool
     match &form.body {
         SpecBody::Number(_) => true,
         SpecBody::Minus(inner) => is_plain_number(inner),
-        SpecBody::Null => false,
-        SpecBody::True => false,
-        SpecBody::False => false,
-        SpecBody::Univ => false,
-        SpecBody::Name(_) => false,
-        SpecBody::Member(_, _) => false,
-        SpecBody::Not(_) => false,
-        SpecBody::Old(_) => false,
-        SpecBody::Card(_) => false,
-        SpecBody::Binary(_, _, _) => false,
-        SpecBody::Dvd(_, _) => false,
-        SpecBody::All(_, _) => false,
-        SpecBody::Ex(_, _) => false,
-        SpecBody::Tree(_) => false,
-        SpecBody::Rtrancl(_, _, _, _, _) => false,
-        SpecBody::Braces(_) => false,
-        SpecBody::Compr(_, _) => false,
+        _ => false,
     }
 }
 

@@ -32,24 +32,7 @@ fn is_name(text: &str, form: &SpecTree) -> bool
 {
     match &form.body {
         SpecBody::Name(word) => word.text.text() == text,
-        SpecBody::Null => false,
-        SpecBody::True => false,
-        SpecBody::False => false,
-        SpecBody::Univ => false,
-        SpecBody::Number(_) => false,
-        SpecBody::Member(_, _) => false,
-        SpecBody::Not(_) => false,
-        SpecBody::Minus(_) => false,
-        SpecBody::Old(_) => false,
-        SpecBody::Card(_) => false,
-        SpecBody::Binary(_, _, _) => false,
-        SpecBody::Dvd(_, _) => false,
-        SpecBody::All(_, _) => false,
-        SpecBody::Ex(_, _) => false,
-        SpecBody::Tree(_) => false,
-        SpecBody::Rtrancl(_, _, _, _, _) => false,
-        SpecBody::Braces(_) => false,
-        SpecBody::Compr(_, _) => false,
+        _ => false,
     }
 }
 
@@ -59,24 +42,7 @@ fn read_word<'a>(text: &str, form: &'a SpecTree) -> Option<&'a Word>
 {
     match &form.body {
         SpecBody::Member(of, word) => { if is_name(text, of) { Some(word) } else { None } }
-        SpecBody::Null => None,
-        SpecBody::True => None,
-        SpecBody::False => None,
-        SpecBody::Univ => None,
-        SpecBody::Number(_) => None,
-        SpecBody::Name(_) => None,
-        SpecBody::Not(_) => None,
-        SpecBody::Minus(_) => None,
-        SpecBody::Old(_) => None,
-        SpecBody::Card(_) => None,
-        SpecBody::Binary(_, _, _) => None,
-        SpecBody::Dvd(_, _) => None,
-        SpecBody::All(_, _) => None,
-        SpecBody::Ex(_, _) => None,
-        SpecBody::Tree(_) => None,
-        SpecBody::Rtrancl(_, _, _, _, _) => None,
-        SpecBody::Braces(_) => None,
-        SpecBody::Compr(_, _) => None,
+        _ => None,
     }
 }
 

@@ -3,3 +3,4 @@ mod Values
 mod Leasts
 mod Joining
 mod Minima
+mod Others

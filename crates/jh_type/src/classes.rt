@@ -19,21 +19,11 @@ use crate::words::{class_firsts, def_firsts, label_firsts, member_firsts};
 use jh_ast::{Class, Labelled, Program};
 use jh_bodies::outermost;
 use jh_exprs::{Firsts, Lookups};
+use jh_least::least_of_three;
 use jh_name::NoMemory;
 use jh_rules::{Fault, lesser};
 use jh_tables::lookups_of;
 use std::alloc::Global;
-
-/// The least of three faults, where there are any.
-fn least_of_three(
-    first: Option<Fault>,
-    second: Option<Fault>,
-    third: Option<Fault>,
-) -> Option<Fault>
-    ensures { result ≡ lesser (lesser first second) third }
-{
-    lesser(lesser(first, second), third)
-}
 
 /// The least fault of the names of the members of a class.
 fn member_names(alloc: Global, class: &Class) -> Result<Option<Fault>, NoMemory>

@@ -32,15 +32,7 @@ fn is_zero_expr(expr: &Expr) -> bool
 {
     match &expr.body {
         ExprBody::Number(number) => is_zero(number),
-        ExprBody::Null => false,
-        ExprBody::True => false,
-        ExprBody::False => false,
-        ExprBody::This => false,
-        ExprBody::Name(_) => false,
-        ExprBody::Member(_, _) => false,
-        ExprBody::Not(_) => false,
-        ExprBody::Minus(_) => false,
-        ExprBody::Binary(_, _, _) => false,
+        _ => false,
     }
 }
 
@@ -50,15 +42,7 @@ fn is_false_expr(expr: &Expr) -> bool
 {
     match &expr.body {
         ExprBody::False => true,
-        ExprBody::Null => false,
-        ExprBody::True => false,
-        ExprBody::Number(_) => false,
-        ExprBody::This => false,
-        ExprBody::Name(_) => false,
-        ExprBody::Member(_, _) => false,
-        ExprBody::Not(_) => false,
-        ExprBody::Minus(_) => false,
-        ExprBody::Binary(_, _, _) => false,
+        _ => false,
     }
 }
 
@@ -68,15 +52,7 @@ fn is_null_expr(expr: &Expr) -> bool
 {
     match &expr.body {
         ExprBody::Null => true,
-        ExprBody::True => false,
-        ExprBody::False => false,
-        ExprBody::Number(_) => false,
-        ExprBody::This => false,
-        ExprBody::Name(_) => false,
-        ExprBody::Member(_, _) => false,
-        ExprBody::Not(_) => false,
-        ExprBody::Minus(_) => false,
-        ExprBody::Binary(_, _, _) => false,
+        _ => false,
     }
 }
 
@@ -86,24 +62,7 @@ fn is_null_form(form: &SpecTree) -> bool
 {
     match &form.body {
         SpecBody::Null => true,
-        SpecBody::True => false,
-        SpecBody::False => false,
-        SpecBody::Univ => false,
-        SpecBody::Number(_) => false,
-        SpecBody::Name(_) => false,
-        SpecBody::Member(_, _) => false,
-        SpecBody::Not(_) => false,
-        SpecBody::Minus(_) => false,
-        SpecBody::Old(_) => false,
-        SpecBody::Card(_) => false,
-        SpecBody::Binary(_, _, _) => false,
-        SpecBody::Dvd(_, _) => false,
-        SpecBody::All(_, _) => false,
-        SpecBody::Ex(_, _) => false,
-        SpecBody::Tree(_) => false,
-        SpecBody::Rtrancl(_, _, _, _, _) => false,
-        SpecBody::Braces(_) => false,
-        SpecBody::Compr(_, _) => false,
+        _ => false,
     }
 }
 
@@ -113,24 +72,7 @@ fn is_zero_form(form: &SpecTree) -> bool
 {
     match &form.body {
         SpecBody::Number(number) => is_zero(number),
-        SpecBody::Null => false,
-        SpecBody::True => false,
-        SpecBody::False => false,
-        SpecBody::Univ => false,
-        SpecBody::Name(_) => false,
-        SpecBody::Member(_, _) => false,
-        SpecBody::Not(_) => false,
-        SpecBody::Minus(_) => false,
-        SpecBody::Old(_) => false,
-        SpecBody::Card(_) => false,
-        SpecBody::Binary(_, _, _) => false,
-        SpecBody::Dvd(_, _) => false,
-        SpecBody::All(_, _) => false,
-        SpecBody::Ex(_, _) => false,
-        SpecBody::Tree(_) => false,
-        SpecBody::Rtrancl(_, _, _, _, _) => false,
-        SpecBody::Braces(_) => false,
-        SpecBody::Compr(_, _) => false,
+        _ => false,
     }
 }
 
@@ -140,24 +82,7 @@ fn is_false_form(form: &SpecTree) -> bool
 {
     match &form.body {
         SpecBody::False => true,
-        SpecBody::Null => false,
-        SpecBody::True => false,
-        SpecBody::Univ => false,
-        SpecBody::Number(_) => false,
-        SpecBody::Name(_) => false,
-        SpecBody::Member(_, _) => false,
-        SpecBody::Not(_) => false,
-        SpecBody::Minus(_) => false,
-        SpecBody::Old(_) => false,
-        SpecBody::Card(_) => false,
-        SpecBody::Binary(_, _, _) => false,
-        SpecBody::Dvd(_, _) => false,
-        SpecBody::All(_, _) => false,
-        SpecBody::Ex(_, _) => false,
-        SpecBody::Tree(_) => false,
-        SpecBody::Rtrancl(_, _, _, _, _) => false,
-        SpecBody::Braces(_) => false,
-        SpecBody::Compr(_, _) => false,
+        _ => false,
     }
 }
 

@@ -1,15 +1,18 @@
-use Rattle.std.proofs.Common.{◌≡◌, subst, sym, ap, ◌∙◌, ◌≡◌}
+use Rattle.std.proofs.Common.{◌≡◌, ◌∷◌, [], subst, sym, ap, ◌∙◌}
 use Rattle.std.specs.List.{list_all}
 use Rattle.jh_ast.specs.Bare.{form_body_tree, form_tree, form_trees}
 use Rattle.jh_rules.specs.Found.{Finds, asked_of}
 use Rattle.jh_rules.specs.Words.{text_of}
 use Rattle.jh_rules.specs.Kinds.{is_obj}
-use Rattle.jh_rules.specs.Formulas.{form_kind, form_kinds}
+use Rattle.jh_rules.specs.Formulas.{binary_kind, form_kind, form_kinds, under}
+use Rattle.jh_rules.specs.Rules.{rule_27_field}
+use Rattle.jh_name.specs.declared.place.Kind.TheVariants as k
+use Rattle.jh_kinds.specs.declared.operators.Wanted.TheVariants as wanted
 use Rattle.jh_exprs.specs.Lookings.{declared_by, scope_by}
 use Rattle.jh_kinds.specs.Parts as parts
 use Rattle.jh_kinds.specs.Standing.{where_by}
 use Rattle.jh_kinds.proofs.Gathering.{gathers-start, gathers-next, gathers-end}
-use Rattle.jh_kinds.proofs.Steps.{kinds-none, kinds-more, kind-tree, kind-path, kind-braces}
+use Rattle.jh_kinds.proofs.Steps.{kinds-none, kinds-more, kind-member, kind-not, kind-minus, kind-card, kind-binary, kind-dvd, kind-all, kind-ex, kind-compr, kind-tree, kind-path, kind-braces}
 use Rattle.jh_ast.proofs.FormSteps.{tree-Tree, tree-Rtrancl, tree-Braces}
 use Rattle.jh_kinds.proofs.formulas.+form_kind.Goals as goal
 
@@ -48,3 +51,57 @@ objects-loop-form-preserved t c = gathers-next is_obj (λ a. form_kind (declared
 
 pub objects-returns : goal.objects-returns
 objects-returns t c = gathers-end is_obj (λ a. form_kind (declared_by c.args.lookups.now) (form_tree a) (where_by c.args.spot (scope_by c.args.at.now) c.args.bound.now)) (λ fs. form_kinds (declared_by c.args.lookups.now) (form_trees fs) (where_by c.args.spot (scope_by c.args.at.now) c.args.bound.now)) (kinds-none (declared_by c.args.lookups.now) (where_by c.args.spot (scope_by c.args.at.now) c.args.bound.now)) (kinds-more (declared_by c.args.lookups.now) (where_by c.args.spot (scope_by c.args.at.now) c.args.bound.now)) c.args.items.now c.loop-form.form-index c.loop-form.found c.loop-form-test.false c.loop-form.invariant
+
+pub form_kind-returns-in_ok-object-in-Member : goal.form_kind-returns-in_ok-object-in-Member
+form_kind-returns-in_ok-object-in-Member t c = subst (Finds c.read.result)
+    ((λ i. parts.read (form_tree (c.deref-in-Member.ensures i)) (form_kind (declared_by c.args.lookups.now) (form_tree (c.deref.ensures i)) (where_by c.args.spot (scope_by c.args.at.now) c.args.bound.now)) (rule_27_field (declared_by c.args.lookups.now) c.args.at.now.class c.in-Member.word))
+    ∙ sym (ap (λ b. form_kind (declared_by c.args.lookups.now) (form_body_tree c.args.form.now.place b) (where_by c.args.spot (scope_by c.args.at.now) c.args.bound.now)) c.in-Member.is ∙ kind-member (declared_by c.args.lookups.now) (where_by c.args.spot (scope_by c.args.at.now) c.args.bound.now) c.args.form.now.place c.in-Member.of c.in-Member.word))
+    (c.read.ensures (form_kind (declared_by c.args.lookups.now) (form_tree c.deref.result.now) (where_by c.args.spot (scope_by c.args.at.now) c.args.bound.now)) (rule_27_field (declared_by c.args.lookups.now) c.args.at.now.class c.in-Member.word) c.in_ok-object-in-Member.ensures c.field_named.ensures)
+
+pub form_kind-returns-in_ok-found-in-Not : goal.form_kind-returns-in_ok-found-in-Not
+form_kind-returns-in_ok-found-in-Not t c = subst (Finds c.one.result)
+    ((λ i. parts.one wanted.Truth (form_tree (c.deref-in-Not-2.ensures i)) (form_kind (declared_by c.args.lookups.now) (form_tree (c.deref-in-Not.ensures i)) (where_by c.args.spot (scope_by c.args.at.now) c.args.bound.now)) k.Bool)
+    ∙ sym (ap (λ b. form_kind (declared_by c.args.lookups.now) (form_body_tree c.args.form.now.place b) (where_by c.args.spot (scope_by c.args.at.now) c.args.bound.now)) c.in-Not.is ∙ kind-not (declared_by c.args.lookups.now) (where_by c.args.spot (scope_by c.args.at.now) c.args.bound.now) c.args.form.now.place c.in-Not.inner))
+    (c.one.ensures (form_kind (declared_by c.args.lookups.now) (form_tree c.deref-in-Not.result.now) (where_by c.args.spot (scope_by c.args.at.now) c.args.bound.now)) c.in_ok-found-in-Not.ensures)
+
+pub form_kind-returns-in_ok-found-in-Minus : goal.form_kind-returns-in_ok-found-in-Minus
+form_kind-returns-in_ok-found-in-Minus t c = subst (Finds c.complement.result)
+    ((λ i. parts.complement (form_tree (c.deref-in-Minus-2.ensures i)) (form_kind (declared_by c.args.lookups.now) (form_tree (c.deref-in-Minus.ensures i)) (where_by c.args.spot (scope_by c.args.at.now) c.args.bound.now)))
+    ∙ sym (ap (λ b. form_kind (declared_by c.args.lookups.now) (form_body_tree c.args.form.now.place b) (where_by c.args.spot (scope_by c.args.at.now) c.args.bound.now)) c.in-Minus.is ∙ kind-minus (declared_by c.args.lookups.now) (where_by c.args.spot (scope_by c.args.at.now) c.args.bound.now) c.args.form.now.place c.in-Minus.inner))
+    (c.complement.ensures (form_kind (declared_by c.args.lookups.now) (form_tree c.deref-in-Minus.result.now) (where_by c.args.spot (scope_by c.args.at.now) c.args.bound.now)) c.in_ok-found-in-Minus.ensures)
+
+pub form_kind-returns-in_ok-found-in-Card : goal.form_kind-returns-in_ok-found-in-Card
+form_kind-returns-in_ok-found-in-Card t c = subst (Finds c.one-in-Card.result)
+    ((λ i. parts.one wanted.Set (form_tree (c.deref-in-Card-2.ensures i)) (form_kind (declared_by c.args.lookups.now) (form_tree (c.deref-in-Card.ensures i)) (where_by c.args.spot (scope_by c.args.at.now) c.args.bound.now)) k.Int)
+    ∙ sym (ap (λ b. form_kind (declared_by c.args.lookups.now) (form_body_tree c.args.form.now.place b) (where_by c.args.spot (scope_by c.args.at.now) c.args.bound.now)) c.in-Card.is ∙ kind-card (declared_by c.args.lookups.now) (where_by c.args.spot (scope_by c.args.at.now) c.args.bound.now) c.args.form.now.place c.in-Card.inner))
+    (c.one-in-Card.ensures (form_kind (declared_by c.args.lookups.now) (form_tree c.deref-in-Card.result.now) (where_by c.args.spot (scope_by c.args.at.now) c.args.bound.now)) c.in_ok-found-in-Card.ensures)
+
+pub form_kind-returns-in_ok-second-in-Binary : goal.form_kind-returns-in_ok-second-in-Binary
+form_kind-returns-in_ok-second-in-Binary t c = subst (Finds c.binary_kind.result)
+    ((λ i. binary_kind (declared_by c.args.lookups.now) c.args.form.now.place c.in-Binary.op (form_tree (c.deref-in-Binary-3.ensures i)) (form_kind (declared_by c.args.lookups.now) (form_tree (c.deref-in-Binary.ensures i)) (where_by c.args.spot (scope_by c.args.at.now) c.args.bound.now)) (form_tree (c.deref-in-Binary-4.ensures i)) (form_kind (declared_by c.args.lookups.now) (form_tree (c.deref-in-Binary-2.ensures i)) (where_by c.args.spot (scope_by c.args.at.now) c.args.bound.now)))
+    ∙ sym (ap (λ b. form_kind (declared_by c.args.lookups.now) (form_body_tree c.args.form.now.place b) (where_by c.args.spot (scope_by c.args.at.now) c.args.bound.now)) c.in-Binary.is ∙ kind-binary (declared_by c.args.lookups.now) (where_by c.args.spot (scope_by c.args.at.now) c.args.bound.now) c.args.form.now.place c.in-Binary.op c.in-Binary.left c.in-Binary.right))
+    (c.binary_kind.ensures (form_kind (declared_by c.args.lookups.now) (form_tree c.deref-in-Binary.result.now) (where_by c.args.spot (scope_by c.args.at.now) c.args.bound.now)) (form_kind (declared_by c.args.lookups.now) (form_tree c.deref-in-Binary-2.result.now) (where_by c.args.spot (scope_by c.args.at.now) c.args.bound.now)) c.in_ok-first-in-Binary.ensures c.in_ok-second-in-Binary.ensures)
+
+pub form_kind-returns-in_ok-found-in-Dvd : goal.form_kind-returns-in_ok-found-in-Dvd
+form_kind-returns-in_ok-found-in-Dvd t c = subst (Finds c.multiple.result)
+    ((λ i. parts.multiple c.args.form.now.place c.in-Dvd.number (form_kind (declared_by c.args.lookups.now) (form_tree (c.deref-in-Dvd.ensures i)) (where_by c.args.spot (scope_by c.args.at.now) c.args.bound.now)))
+    ∙ sym (ap (λ b. form_kind (declared_by c.args.lookups.now) (form_body_tree c.args.form.now.place b) (where_by c.args.spot (scope_by c.args.at.now) c.args.bound.now)) c.in-Dvd.is ∙ kind-dvd (declared_by c.args.lookups.now) (where_by c.args.spot (scope_by c.args.at.now) c.args.bound.now) c.args.form.now.place c.in-Dvd.number c.in-Dvd.inner))
+    (c.multiple.ensures (form_kind (declared_by c.args.lookups.now) (form_tree c.deref-in-Dvd.result.now) (where_by c.args.spot (scope_by c.args.at.now) c.args.bound.now)) c.in_ok-found-in-Dvd.ensures)
+
+pub form_kind-returns-in_ok-found-in-All : goal.form_kind-returns-in_ok-found-in-All
+form_kind-returns-in_ok-found-in-All t c = subst (Finds c.one-in-All.result)
+    ((λ i. parts.one wanted.Truth (form_tree (c.deref-in-All-2.ensures i)) (form_kind (declared_by c.args.lookups.now) (form_tree (c.deref-in-All.ensures i)) (under (where_by c.args.spot (scope_by c.args.at.now) c.args.bound.now) (c.items.ensures i))) k.Bool)
+    ∙ sym (ap (λ b. form_kind (declared_by c.args.lookups.now) (form_body_tree c.args.form.now.place b) (where_by c.args.spot (scope_by c.args.at.now) c.args.bound.now)) c.in-All.is ∙ kind-all (declared_by c.args.lookups.now) (where_by c.args.spot (scope_by c.args.at.now) c.args.bound.now) c.args.form.now.place c.in-All.words c.in-All.inner))
+    (c.one-in-All.ensures (form_kind (declared_by c.args.lookups.now) (form_tree c.deref-in-All.result.now) (under (where_by c.args.spot (scope_by c.args.at.now) c.args.bound.now) c.items.result.now)) c.in_ok-found-in-All.ensures)
+
+pub form_kind-returns-in_ok-found-in-Ex : goal.form_kind-returns-in_ok-found-in-Ex
+form_kind-returns-in_ok-found-in-Ex t c = subst (Finds c.one-in-Ex.result)
+    ((λ i. parts.one wanted.Truth (form_tree (c.deref-in-Ex-2.ensures i)) (form_kind (declared_by c.args.lookups.now) (form_tree (c.deref-in-Ex.ensures i)) (under (where_by c.args.spot (scope_by c.args.at.now) c.args.bound.now) (c.items-in-Ex.ensures i))) k.Bool)
+    ∙ sym (ap (λ b. form_kind (declared_by c.args.lookups.now) (form_body_tree c.args.form.now.place b) (where_by c.args.spot (scope_by c.args.at.now) c.args.bound.now)) c.in-Ex.is ∙ kind-ex (declared_by c.args.lookups.now) (where_by c.args.spot (scope_by c.args.at.now) c.args.bound.now) c.args.form.now.place c.in-Ex.words c.in-Ex.inner))
+    (c.one-in-Ex.ensures (form_kind (declared_by c.args.lookups.now) (form_tree c.deref-in-Ex.result.now) (under (where_by c.args.spot (scope_by c.args.at.now) c.args.bound.now) c.items-in-Ex.result.now)) c.in_ok-found-in-Ex.ensures)
+
+pub form_kind-returns-in_ok-found-in-Compr : goal.form_kind-returns-in_ok-found-in-Compr
+form_kind-returns-in_ok-found-in-Compr t c = subst (Finds c.one-in-Compr.result)
+    ((λ i. parts.one wanted.Truth (form_tree (c.deref-in-Compr-2.ensures i)) (form_kind (declared_by c.args.lookups.now) (form_tree (c.deref-in-Compr.ensures i)) (under (where_by c.args.spot (scope_by c.args.at.now) c.args.bound.now) (c.in-Compr.word ∷ []))) k.Set)
+    ∙ sym (ap (λ b. form_kind (declared_by c.args.lookups.now) (form_body_tree c.args.form.now.place b) (where_by c.args.spot (scope_by c.args.at.now) c.args.bound.now)) c.in-Compr.is ∙ kind-compr (declared_by c.args.lookups.now) (where_by c.args.spot (scope_by c.args.at.now) c.args.bound.now) c.args.form.now.place c.in-Compr.word c.in-Compr.inner))
+    (c.one-in-Compr.ensures (form_kind (declared_by c.args.lookups.now) (form_tree c.deref-in-Compr.result.now) (under (where_by c.args.spot (scope_by c.args.at.now) c.args.bound.now) (c.in-Compr.word ∷ []))) c.in_ok-found-in-Compr.ensures)
