@@ -1,10 +1,8 @@
 #!/usr/bin/env python3
-"""Writes the functions of jh_reach that make a formula step by step, each a chain of calls that answer nodes, and the
+"""Writes the functions of jh_ways and jh_reach that make a formula step by step, each a chain of calls that answer nodes, and the
 answers that prove them. A row of a table is a function: its words, its name, its parameters, its steps and the tree at
 its answer. Run at the top of the repository; then `rt fmt` in the crate."""
 import os, re
-
-ROOT = 'crates/jh_reach'
 
 # The shapes that are used: how their node is proved to fit and which tree it is, by the trees of the parts.
 SHAPES = {
@@ -25,13 +23,27 @@ SHAPES = {
 
 # A parameter is a name with a kind. `fields` comes behind the list that it is of.
 # (words, name, parameters, steps, tree); a step is (variable, call, arguments), the last has no variable.
+WAYS = [
+    ("The node of that an object isn't null.", 'not_null', 'object:object',
+     'null=Null(); same=EqObject(object, null); Negation(same)', 'differ {object} t.null', 'truth'),
+    ("The node of that y is reached from x by a way that doesn't go on from an object.", 'stops_at', 'list:list at:object from:object to:object',
+     'on=Reach(list, from, to); before=Reach(list, from, at); after=Reach(list, to, at); stops=Implies(before, after); And(on, stops)',
+     'stops_at {list} {at} {from} {to}', 'truth'),
+    ('The node of that an edge is on a way from x to y.', 'goes_through', 'list:list field:field at:object from:object to:object',
+     'child=ReadObject(field, at); differs=not_null(child); before=Reach(list, from, at); after=Reach(list, child, to); both=And(before, after); And(differs, both)',
+     't.and (differ (child {field} {at}) t.null) (t.and (way {list} {from} {at}) (way {list} (child {field} {at}) {to}))', 'truth'),
+    ('The node of that y is reached from x by a way that leaves out an edge.', 'leaves_out', 'list:list field:field at:object from:object to:object',
+     'on=Reach(list, from, to); through=goes_through(list, field, at, from, to); around=Negation(through); And(on, around)',
+     'leaves_out {list} {field} {at} {from} {to}', 'truth'),
+    ('The node of that fields are a forest, and of what is said beside that.', 'in_forest', 'list:list beside:truth',
+     'trees=Tree(list); And(trees, beside)', 't.and (forest {list}) {beside}', 'truth'),
+]
+
 TERMS = [
     ('The node of the object to which a field leads from a bound variable.', 'child_of', 'field:field variable:number',
      'object=Bound(variable); ReadObject(field, object)', 'child {field} (t.bound {variable})', 'object'),
     ('The node of that two bound variables are one object.', 'one_object', 'left:number right:number',
      'first=Bound(left); second=Bound(right); EqObject(first, second)', 't.eq_object (t.bound {left}) (t.bound {right})', 'truth'),
-    ("The node of that an object isn't null.", 'not_null', 'object:object',
-     'null=Null(); same=EqObject(object, null); Negation(same)', 'differ {object} t.null', 'truth'),
     ('The node of that one bound variable reaches another.', 'way', 'list:list from:number to:number',
      'first=Bound(from); second=Bound(to); Reach(list, first, second)', 'way {list} (t.bound {from}) (t.bound {to})', 'truth'),
     ('The node of a formula said of two objects.', 'for_two', 'body:truth',
@@ -95,7 +107,7 @@ AXIOMS = [
      'premise=ways_meet(list); end=either_way(list, 2, 1); follows_for_three(premise, end)',
      't.all (t.all (t.all (t.implies (t.and (way {list} (t.bound 2) (t.bound 0)) (t.and (way {list} (t.bound 1) (t.bound 0)) (differ (t.bound 0) t.null))) (t.or (way {list} (t.bound 2) (t.bound 1)) (way {list} (t.bound 1) (t.bound 2))))))', 'truth'),
     ('The node of that the fields are a forest and lead from null to null.', 'ends_in_forest', 'list:along fields:fields',
-     'trees=Tree(list); null=each(list, fields, Part::EndsAtNull); And(trees, null)', 't.and (forest {list}) (end_at_null {list})', 'truth'),
+     'null=each(list, fields, Part::EndsAtNull); in_forest(list, null)', 't.and (forest {list}) (end_at_null {list})', 'truth'),
     ("The node of that in a forest, of two objects that reach one that isn't null, one reaches the other.", 'ways_up', 'list:along fields:fields',
      'premise=ends_in_forest(list, fields); end=ways_behind(list); Implies(premise, end)', 'ways_up {list}', 'truth'),
     ('The node of that what null reaches is null.', 'only_null', 'list:list',
@@ -113,15 +125,6 @@ AXIOMS = [
 ]
 
 UPDATES = [
-    ("The node of that y is reached from x by a way that doesn't go on from an object.", 'stops_at', 'list:list at:object from:object to:object',
-     'on=Reach(list, from, to); before=Reach(list, from, at); after=Reach(list, to, at); stops=Implies(before, after); And(on, stops)',
-     'stops_at {list} {at} {from} {to}', 'truth'),
-    ('The node of that an edge is on a way from x to y.', 'goes_through', 'list:list field:field at:object from:object to:object',
-     'child=ReadObject(field, at); differs=not_null(child); before=Reach(list, from, at); after=Reach(list, child, to); both=And(before, after); And(differs, both)',
-     't.and (differ (child {field} {at}) t.null) (t.and (way {list} {from} {at}) (way {list} (child {field} {at}) {to}))', 'truth'),
-    ('The node of that y is reached from x by a way that leaves out an edge.', 'leaves_out', 'list:list field:field at:object from:object to:object',
-     'on=Reach(list, from, to); through=goes_through(list, field, at, from, to); around=Negation(through); And(on, around)',
-     'leaves_out {list} {field} {at} {from} {to}', 'truth'),
     ('The node of what the ways along one field are, by those before an update.', 'ways_before', 'list:list at:object value:object from:object to:object',
      'kept=stops_at(list, at, from, to); before=Reach(list, from, at); after=stops_at(list, at, value, to); through=And(before, after); Or(kept, through)',
      't.or (stops_at {list} {at} {from} {to}) (t.and (way {list} {from} {at}) (stops_at {list} {at} {value} {to}))', 'truth'),
@@ -138,7 +141,7 @@ UPDATES = [
      'from=Bound(1); to=Bound(0); on=Reach(new, from, to); ways=ways_around(old, field, at, value, from, to); end=Iff(on, ways); premise=not_null(to); follows_for_two(premise, end)',
      't.all (t.all (t.implies (differ (t.bound 0) t.null) (t.iff (way {new} (t.bound 1) (t.bound 0)) (t.or (leaves_out {old} {field} {at} (t.bound 1) (t.bound 0)) (t.and (way {old} (t.bound 1) {at}) (t.and (differ {value} t.null) (leaves_out {old} {field} {at} {value} (t.bound 0))))))))', 'truth'),
     ("The node of that the old fields are a forest and lead from null to null, and the object that changed isn't null.", 'before_change', 'list:along fields:fields at:object',
-     'trees=Tree(list); null=each(list, fields, Part::EndsAtNull); differs=not_null(at); rest=And(null, differs); And(trees, rest)',
+     'null=each(list, fields, Part::EndsAtNull); differs=not_null(at); rest=And(null, differs); in_forest(list, rest)',
      't.and (forest {list}) (t.and (end_at_null {list}) (differ {at} t.null))', 'truth'),
 ]
 
@@ -169,22 +172,24 @@ GROUPS = [
 ]
 
 FILES = [
-    ('terms', TERMS, []),
-    ('fields', FIELDS, ['use crate::terms::{child_of, not_null, one_object};']),
-    ('nine', AXIOMS, ['use crate::lists::{each, parents, some};', 'use crate::parts::Part;',
-                        'use crate::terms::{follows_for_three, follows_for_two, for_two, not_null, one_object, way};']),
-    ('groups', GROUPS + WHOLE, ['use crate::nine::{first_step, last_step, no_way_back, null_reaches_null, one_parent, reach_children, reach_itself, ways_join};',
+    ('jh_ways', 'ways', WAYS, []),
+    ('jh_reach', 'terms', TERMS, []),
+    ('jh_reach', 'fields', FIELDS, ['use crate::terms::{child_of, one_object};', 'use jh_ways::not_null;']),
+    ('jh_reach', 'nine', AXIOMS, ['use crate::lists::{each, parents, some};', 'use crate::parts::Part;',
+                        'use crate::terms::{follows_for_three, follows_for_two, for_two, one_object, way};', 'use jh_ways::{in_forest, not_null};']),
+    ('jh_reach', 'groups', GROUPS + WHOLE, ['use crate::nine::{first_step, last_step, no_way_back, null_reaches_null, one_parent, reach_children, reach_itself, ways_join};',
                         'use crate::choices::{changed_ways, ways_compare};', 'use crate::updates::before_change;']),
-    ('updates', UPDATES, ['use crate::lists::each;', 'use crate::parts::Part;', 'use crate::terms::{follows_for_two, for_two, not_null};']),
+    ('jh_reach', 'updates', UPDATES, ['use crate::lists::each;', 'use crate::parts::Part;', 'use crate::terms::{follows_for_two, for_two};',
+                        'use jh_ways::{in_forest, leaves_out, not_null, stops_at};']),
 ]
 PUBLIC = {'child_of', 'one_object', 'not_null', 'way', 'for_two', 'follows_for_two', 'follows_for_three', 'ends_at_null', 'reaches_child',
           'child_reaches', 'leads_there', 'leads_not_back', 'has_one_parent', 'share_no_child', 'reach_itself', 'reach_children', 'first_step',
-          'last_step', 'ways_join', 'ways_on', 'ways_up', 'first_axioms', 'last_axioms', 'null_reaches_null', 'no_way_back', 'one_parent', 'told_by_one', 'told_by_several', 'before_change', 'update_axiom'}
-ALL = {row[1]: row for table in (TERMS, FIELDS, AXIOMS, UPDATES, WHOLE, GROUPS, OTHERS) for row in table}
+          'last_step', 'ways_join', 'ways_on', 'ways_up', 'first_axioms', 'last_axioms', 'null_reaches_null', 'no_way_back', 'one_parent', 'told_by_one', 'told_by_several', 'before_change', 'update_axiom', 'stops_at', 'leaves_out', 'in_forest'}
+ALL = {row[1]: row for table in (WAYS, TERMS, FIELDS, AXIOMS, UPDATES, WHOLE, GROUPS, OTHERS) for row in table}
 SORTED = {'field': ('HoldsField', 'FieldTree', 'of_field', 'holds-field', 'the_field'),
           'object': ('HoldsObject', 'TermTree', 'of_object', 'holds-object', 'the_object'),
           'truth': ('HoldsFormula', 'FormulaTree', 'of_truth', 'holds-formula', 'the_truth')}
-GHOSTS = {'list': 'fs', 'new': 'fs', 'old': 'gs', 'field': 'f', 'other': 'g', 'object': 'a', 'at': 'a', 'value': 'v', 'from': 'x', 'to': 'y', 'body': 'a', 'premise': 'a', 'end': 'b'}
+GHOSTS = {'list': 'fs', 'new': 'fs', 'old': 'gs', 'field': 'f', 'other': 'g', 'object': 'a', 'at': 'a', 'value': 'v', 'from': 'x', 'to': 'y', 'body': 'a', 'premise': 'a', 'end': 'b', 'beside': 'b'}
 AS = {'object': 'of_object', 'truth': 'of_truth'}
 
 
@@ -432,7 +437,7 @@ def part_name(arg):
     return 'p.' + arg[6:] if arg.startswith('Part::') else arg
 
 
-def answers(module, row):
+def answers(crate, module, row):
     out = []
     Chain(row, False).walk(out)
     chain = Chain(row, True)
@@ -445,13 +450,27 @@ def answers(module, row):
     else:
         out.append(('returns-clause-node', f'c = {binders}{chain.node()}'))
     out.append(('returns-clause-grows', f'c = {chain.all_grows()}'))
-    text = HEAD.format(module=module, name=row[1])
+    text = HEAD.format(theirs=THEIRS[crate], crate=crate, module=module, name=row[1])
     for goal, body in out:
         opened = 'unfolding part_tree\n' if 'Part::' in row[3] else ''
         opened = 'unfolding AreFormulas\n' if goal == 'returns-clause-nodes' else opened
         text += f'\npub {goal} : goal.{goal}\n{opened}{goal} {body}\n'
     return text
 
+
+# what the answers of a crate's functions cite of it
+THEIRS = {
+    'jh_ways': '''use Rattle.jh_ways.specs.Ways.{listed, child, differ, way, forest, stops_at, leaves_out, list_at}
+''',
+    'jh_reach': '''use Rattle.jh_reach.specs.declared.parts.Part.TheVariants as p
+use Rattle.jh_make.specs.Joined.{joined}
+use Rattle.jh_ways.specs.Ways.{listed, child, differ, way, forest, stops_at, leaves_out, list_at}
+use Rattle.jh_reach.specs.Axioms.{disjoined, end_at_null, child_reaches, leads_there, leads_not_back, has_one_parent, pairs_share_no_child, ends_at_null, reaches_child, share_no_child, changed_ways, ways_compare, reach_itself, reach_children, first_step, last_step, ways_join, null_reaches_null, no_way_back, one_parent}
+use Rattle.jh_reach.specs.Parts.{part_tree}
+use Rattle.jh_reach.specs.Standing.{AreFormulas, fields_in}
+use Rattle.jh_reach.proofs.Standings.{fields-grow, along-list, along-fields, along-grows}
+''',
+}
 
 HEAD = '''-- Written by tools/reach.py.
 use Rattle.std.proofs.Common.{{ap, ◌∙◌, Some, slice_get, map, ◌++◌}}
@@ -462,16 +481,21 @@ use Rattle.jh_table.specs.Nodes.{{nodes, tree_in}}
 use Rattle.jh_table.specs.declared.shapes.Shape.TheVariants as s
 use Rattle.jh_table.proofs.NodeSteps.{{fits-Bound, tree-Bound, fits-Null, tree-Null, fits-ReadObject, tree-ReadObject, fits-EqObject, tree-EqObject, fits-Negation, tree-Negation, fits-And, tree-And, fits-Or, tree-Or, fits-Implies, tree-Implies, fits-Iff, tree-Iff, fits-All, tree-All, fits-Ex, tree-Ex}}
 use Rattle.jh_table.proofs.Listed.{{extends-trans}}
-use Rattle.jh_reach.specs.declared.parts.Part.TheVariants as p
-use Rattle.jh_make.specs.Joined.{{joined}}
-use Rattle.jh_reach.specs.Axioms.{{listed, disjoined, child, differ, way, forest, end_at_null, child_reaches, leads_there, leads_not_back, has_one_parent, pairs_share_no_child, ends_at_null, reaches_child, share_no_child, stops_at, leaves_out, changed_ways, ways_compare, reach_itself, reach_children, first_step, last_step, ways_join, null_reaches_null, no_way_back, one_parent}}
-use Rattle.jh_reach.specs.Parts.{{part_tree}}
-use Rattle.jh_reach.specs.Standing.{{AreFormulas, list_at, fields_in}}
 use Rattle.jh_enter.proofs.Fields.{{fits-listed-Reach, tree-listed-Reach, fits-listed-Tree, tree-listed-Tree, made-as}}
-use Rattle.jh_reach.proofs.NodeSteps.{{list-there, list-of, list-grows, unlisted, holds-field, holds-object, holds-formula}}
-use Rattle.jh_reach.proofs.Standings.{{fields-grow, along-list, along-fields, along-grows}}
-use Rattle.jh_reach.proofs.{module}.{name}.Goals as goal
+use Rattle.jh_ways.proofs.NodeSteps.{{list-there, list-of, list-grows, unlisted, holds-field, holds-object, holds-formula}}
+{theirs}use Rattle.{crate}.proofs.{module}.{name}.Goals as goal
 '''
+
+# what the clauses of a crate's functions cite
+CLAUSES = {
+    'jh_ways': '''ghost use Rattle.jh_ways.specs.Ways.{listed, child, differ, way, forest, stops_at, leaves_out, HoldsField, HoldsObject, HoldsFormula, list_at};
+''',
+    'jh_reach': '''ghost use Rattle.jh_make.specs.Joined.{joined};
+ghost use Rattle.jh_ways.specs.Ways.{listed, child, differ, way, forest, stops_at, leaves_out, HoldsField, HoldsObject, HoldsFormula, list_at};
+ghost use Rattle.jh_reach.specs.Axioms.{disjoined, end_at_null, ends_at_null, reaches_child, child_reaches, leads_there, leads_not_back, has_one_parent, share_no_child, pairs_share_no_child, reach_itself, reach_children, first_step, last_step, ways_join, ways_on, ways_up, null_reaches_null, no_way_back, one_parent, changed_ways, first_of_list, last_of_list};
+ghost use Rattle.jh_reach.specs.Standing.{AreFields, AreFormulas, IsAlong};
+''',
+}
 
 SOURCE = '''// Written by tools/reach.py.
 #![tactic(auto)]
@@ -482,10 +506,7 @@ ghost use Rattle.jh_tree.specs.Tree as t;
 ghost use Rattle.jh_table.specs.Growth.{{Extends}};
 ghost use Rattle.jh_table.specs.Nodes.{{nodes}};
 ghost use Rattle.jh_enter.specs.Entered.{{IsList}};
-ghost use Rattle.jh_make.specs.Joined.{{joined}};
-ghost use Rattle.jh_reach.specs.Axioms.{{listed, disjoined, child, differ, way, forest, end_at_null, ends_at_null, reaches_child, child_reaches, leads_there, leads_not_back, has_one_parent, share_no_child, pairs_share_no_child, reach_itself, reach_children, first_step, last_step, ways_join, ways_on, ways_up, null_reaches_null, no_way_back, one_parent, stops_at, leaves_out, changed_ways, first_of_list, last_of_list}};
-ghost use Rattle.jh_reach.specs.Standing.{{AreFields, AreFormulas, HoldsField, HoldsObject, HoldsFormula, IsAlong, list_at}};
-
+{clauses}
 {uses}use jh_name::NoMemory;
 use jh_table::{{Shape, Table}};
 
@@ -493,15 +514,17 @@ use jh_table::{{Shape, Table}};
 
 
 def main():
-    for module, table, uses in FILES:
-        text = SOURCE.format(uses=''.join(u + '\n' for u in uses)) + '\n'.join(code(row) for row in table)
-        with open(f'{ROOT}/src/{module}.rt', 'w') as out:
+    for crate, module, table, uses in FILES:
+        root = f'crates/{crate}'
+        text = SOURCE.format(clauses=CLAUSES[crate], uses=''.join(u + '\n' for u in uses)) + '\n'.join(code(row) for row in table)
+        os.makedirs(f'{root}/src', exist_ok=True)
+        with open(f'{root}/src/{module}.rt', 'w') as out:
             out.write(text)
         for row in table:
-            folder = f'{ROOT}/proofs/{module}/{row[1]}'
+            folder = f'{root}/proofs/{module}/{row[1]}'
             os.makedirs(folder, exist_ok=True)
             with open(f'{folder}/Answers.antt', 'w') as out:
-                out.write(answers(module, row))
+                out.write(answers(crate, module, row))
 
 
 main()

@@ -10,7 +10,7 @@ use Rattle.jh_reach.specs.declared.backbones.Base.{Base}
 use Rattle.jh_reach.specs.Axioms.{BaseTree, BackboneTree, axioms_of_list, axioms_of_base, axioms_of, axiom_of_update}
 use Rattle.jh_reach.specs.Standing.{AreFields, AreFormulas, fields_in}
 use Rattle.jh_reach.specs.Based.{IsSorted, IsThere, IsSortedBase, IsBaseAt}
-use Rattle.jh_reach.proofs.NodeSteps.{holds-field, holds-object}
+use Rattle.jh_ways.proofs.NodeSteps.{holds-field, holds-object}
 use Rattle.jh_reach.proofs.Standings.{fields-are, fields-there, formulas-push, formulas-as}
 
 -- another member at a place

@@ -20,7 +20,7 @@ use Rattle.jh_reach.specs.Named.{named_fields, base_tree, backbone_tree}
 use Rattle.jh_reach.specs.declared.backbones.Base.{Base}
 use Rattle.jh_reach.specs.Based.{IsSortedBase, IsBaseAt}
 use Rattle.jh_reach.specs.Standing.{AreFields, AreFormulas}
-use Rattle.jh_reach.proofs.NodeSteps.{holds-field, holds-object}
+use Rattle.jh_ways.proofs.NodeSteps.{holds-field, holds-object}
 use Rattle.jh_reach.proofs.Standings.{fields-grow, formulas-grow, formulas-append, formulas-as, map-more}
 
 fields-append : (t : Listing) (ns ms : List ℕ) (fs gs : List FieldTree) → AreFields t ns fs → AreFields t ms gs → AreFields t (ns ++ ms) (fs ++ gs)

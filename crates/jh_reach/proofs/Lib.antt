@@ -1,3 +1,4 @@
+pub use Rattle.jh_ways.proofs.NodeSteps
 mod Paths
 mod Counts
 mod Shortening
@@ -8,7 +9,6 @@ mod Along
 mod Held
 mod Updated
 mod Sound
-pub mod NodeSteps
 pub mod Standings
 pub mod Basing
 mod Entering

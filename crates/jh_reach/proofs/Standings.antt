@@ -12,7 +12,7 @@ use Rattle.jh_reach.specs.Standing.{AreFields, AreFormulas, HoldsField, IsAlong,
 use Rattle.jh_enter.specs.Entered.{IsList}
 use Rattle.jh_tree.proofs.ClosedLemmas.{both-left, both-right}
 use Rattle.jh_table.proofs.Growing.{are_fields-stay}
-use Rattle.jh_reach.proofs.NodeSteps.{it-is-field, it-is-truth, field-there, truth-there, holds-field}
+use Rattle.jh_ways.proofs.NodeSteps.{it-is-field, it-is-truth, field-there, truth-there, holds-field}
 
 pub fields-grow : (t u : Listing) (ns : List ℕ) (fs : List FieldTree) → Extends t u → AreFields t ns fs → AreFields u ns fs
 unfolding AreFields

@@ -1,35 +1,16 @@
 -- The axioms of reachability along a list of fields: what holds of all paths, in formulas that take reaching as it stands.
 -- A bound variable is the number of binders between it and its own: under `ALL x y.`, x is 1 and y is 0.
 use Rattle.std.specs.Prelude.{ℕ, List, [], ◌∷◌, ◌++◌, map, Option, Some, None, slice_set}
-use Rattle.jh_tree.specs.Tree.{TermTree, FieldTree, FormulaTree, FieldTrees}
+use Rattle.jh_tree.specs.Tree.{TermTree, FieldTree, FormulaTree}
 use Rattle.jh_tree.specs.Tree as t
 use Rattle.jh_make.specs.Joined.{joined}
+pub use Rattle.jh_ways.specs.Ways.{listed, child, differ, way, forest, stops_at, leaves_out}
 
 -- the formulas joined by Or to the right; none give the formula that is false
 abbrev pub disjoined : List FormulaTree → FormulaTree
 disjoined [] = t.false_formula
 disjoined (a ∷ []) = a
 disjoined (a ∷ b ∷ rest) = t.or a (disjoined (b ∷ rest))
-
--- a list of fields as formulas hold it
-abbrev pub listed : List FieldTree → FieldTrees
-listed [] = t.none
-listed (f ∷ fs) = t.more f (listed fs)
-
--- the object to which a field leads from another
-abbrev pub child : FieldTree → TermTree → TermTree
-child f a = t.read_object f a
-
-abbrev pub differ : TermTree → TermTree → FormulaTree
-differ a b = t.negation (t.eq_object a b)
-
--- R a b: b is reached from a along the list
-abbrev pub way : List FieldTree → TermTree → TermTree → FormulaTree
-way fs a b = t.reach (listed fs) a b
-
--- the fields are the edges of a forest
-abbrev pub forest : List FieldTree → FormulaTree
-forest fs = t.tree (listed fs)
 
 -- f null = null
 abbrev pub ends_at_null : FieldTree → FormulaTree
@@ -140,14 +121,6 @@ pub record BaseTree : Type 0 where
 -- the list before the change
 abbrev pub before : List FieldTree → BaseTree → List FieldTree
 before fs u = slice_set fs u.place u.field
-
--- R x y & (R x a --> R y a): along one field, a way that doesn't go on from the object that changed
-abbrev pub stops_at : List FieldTree → TermTree → TermTree → TermTree → FormulaTree
-stops_at old a x y = t.and (way old x y) (t.implies (way old x a) (way old y a))
-
--- R x y & ~ (f a ~= null & R x a & R (f a) y): along several fields, a way without the edge that changed
-abbrev pub leaves_out : List FieldTree → FieldTree → TermTree → TermTree → TermTree → FormulaTree
-leaves_out old f a x y = t.and (way old x y) (t.negation (t.and (differ (child f a) t.null) (t.and (way old x a) (way old (child f a) y))))
 
 -- ALL x y. R' x y iff P x y | R x a & P v y, where R' is along the new list and P x y is `stops_at`
 abbrev pub changed_one : List FieldTree → List FieldTree → TermTree → TermTree → FormulaTree

@@ -3,16 +3,7 @@ use Rattle.std.specs.Prelude.{◌≡◌, ℕ, true, List, [], ◌∷◌, map, So
 use Rattle.jh_tree.specs.Tree.{FieldTree, FieldTrees, FormulaTree, ValueTree, of_object, of_field, of_truth}
 use Rattle.jh_table.specs.Entries.{Listing, the_field, the_object, the_truth, the_list, are_fields, fields_at}
 use Rattle.jh_table.specs.Nodes.{nodes}
-
--- a field, an object, a formula stands at a node
-abbrev pub HoldsField : Listing → ℕ → Type 0
-HoldsField t n = slice_get (nodes t) n ≡ Some (of_field (the_field (slice_get (nodes t) n)))
-
-abbrev pub HoldsObject : Listing → ℕ → Type 0
-HoldsObject t n = slice_get (nodes t) n ≡ Some (of_object (the_object (slice_get (nodes t) n)))
-
-abbrev pub HoldsFormula : Listing → ℕ → Type 0
-HoldsFormula t n = slice_get (nodes t) n ≡ Some (of_truth (the_truth (slice_get (nodes t) n)))
+pub use Rattle.jh_ways.specs.Ways.{HoldsField, HoldsObject, HoldsFormula, list_at}
 
 -- at these nodes stand these fields, one by one
 unfoldable pub AreFields : Listing → List ℕ → List FieldTree → Type 0
@@ -27,10 +18,6 @@ AreFormulas t [] [] = Unit {0}
 AreFormulas t [] (a ∷ rest) = ⊥
 AreFormulas t (n ∷ ns) [] = ⊥
 AreFormulas t (n ∷ ns) (a ∷ rest) = (slice_get (nodes t) n ≡ Some (of_truth a)) × AreFormulas t ns rest
-
--- the fields of the list of this number
-abbrev pub list_at : Listing → ℕ → FieldTrees
-list_at t number = fields_at (nodes t) (the_list (slice_get t.pools.lists number))
 
 -- the fields at these nodes
 abbrev pub fields_in : List ValueTree → List ℕ → List FieldTree

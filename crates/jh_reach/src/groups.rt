@@ -8,8 +8,9 @@ ghost use Rattle.jh_table.specs.Growth.{Extends};
 ghost use Rattle.jh_table.specs.Nodes.{nodes};
 ghost use Rattle.jh_enter.specs.Entered.{IsList};
 ghost use Rattle.jh_make.specs.Joined.{joined};
-ghost use Rattle.jh_reach.specs.Axioms.{listed, disjoined, child, differ, way, forest, end_at_null, ends_at_null, reaches_child, child_reaches, leads_there, leads_not_back, has_one_parent, share_no_child, pairs_share_no_child, reach_itself, reach_children, first_step, last_step, ways_join, ways_on, ways_up, null_reaches_null, no_way_back, one_parent, stops_at, leaves_out, changed_ways, first_of_list, last_of_list};
-ghost use Rattle.jh_reach.specs.Standing.{AreFields, AreFormulas, HoldsField, HoldsObject, HoldsFormula, IsAlong, list_at};
+ghost use Rattle.jh_ways.specs.Ways.{listed, child, differ, way, forest, stops_at, leaves_out, HoldsField, HoldsObject, HoldsFormula, list_at};
+ghost use Rattle.jh_reach.specs.Axioms.{disjoined, end_at_null, ends_at_null, reaches_child, child_reaches, leads_there, leads_not_back, has_one_parent, share_no_child, pairs_share_no_child, reach_itself, reach_children, first_step, last_step, ways_join, ways_on, ways_up, null_reaches_null, no_way_back, one_parent, changed_ways, first_of_list, last_of_list};
+ghost use Rattle.jh_reach.specs.Standing.{AreFields, AreFormulas, IsAlong};
 
 use crate::choices::{changed_ways, ways_compare};
 use crate::nine::{

@@ -8,14 +8,16 @@ ghost use Rattle.jh_table.specs.Growth.{Extends};
 ghost use Rattle.jh_table.specs.Nodes.{nodes};
 ghost use Rattle.jh_enter.specs.Entered.{IsList};
 ghost use Rattle.jh_make.specs.Joined.{joined};
-ghost use Rattle.jh_reach.specs.Axioms.{listed, disjoined, child, differ, way, forest, end_at_null, ends_at_null, reaches_child, child_reaches, leads_there, leads_not_back, has_one_parent, share_no_child, pairs_share_no_child, reach_itself, reach_children, first_step, last_step, ways_join, ways_on, ways_up, null_reaches_null, no_way_back, one_parent, stops_at, leaves_out, changed_ways, first_of_list, last_of_list};
-ghost use Rattle.jh_reach.specs.Standing.{AreFields, AreFormulas, HoldsField, HoldsObject, HoldsFormula, IsAlong, list_at};
+ghost use Rattle.jh_ways.specs.Ways.{listed, child, differ, way, forest, stops_at, leaves_out, HoldsField, HoldsObject, HoldsFormula, list_at};
+ghost use Rattle.jh_reach.specs.Axioms.{disjoined, end_at_null, ends_at_null, reaches_child, child_reaches, leads_there, leads_not_back, has_one_parent, share_no_child, pairs_share_no_child, reach_itself, reach_children, first_step, last_step, ways_join, ways_on, ways_up, null_reaches_null, no_way_back, one_parent, changed_ways, first_of_list, last_of_list};
+ghost use Rattle.jh_reach.specs.Standing.{AreFields, AreFormulas, IsAlong};
 
 use crate::lists::{each, parents, some};
 use crate::parts::Part;
-use crate::terms::{follows_for_three, follows_for_two, for_two, not_null, one_object, way};
+use crate::terms::{follows_for_three, follows_for_two, for_two, one_object, way};
 use jh_name::NoMemory;
 use jh_table::{Shape, Table};
+use jh_ways::{in_forest, not_null};
 
 /// The node of that each object reaches itself.
 pub fn reach_itself(table: &mut Table, list: usize) -> Result<usize, NoMemory>
@@ -161,9 +163,8 @@ fn ends_in_forest(table: &mut Table, list: usize, fields: &[usize]) -> Result<us
     ensures node { (fs : List FieldTree) → AreFields table.old fields.now fs → IfOk result (λ made. slice_get (nodes table.new) made ≡ Some (of_truth (t.and (forest fs) (end_at_null fs)))) }
     ensures grows { Extends table.old table.new }
 {
-    let trees = table.make(Shape::Tree(list))?;
     let null = each(table, list, fields, Part::EndsAtNull)?;
-    table.make(Shape::And(trees, null))
+    in_forest(table, list, null)
 }
 
 /// The node of that in a forest, of two objects that reach one that isn't null, one reaches the other.

@@ -108,12 +108,19 @@ fn boxed(table: &Table, items: &[usize]) -> Result<Vec<Formula>, NoMemory>
     Ok(made)
 }
 
+/// The axioms of all backbones, by way of a table.
+fn boxed_axioms(table: &mut Table, backbones: &[Backbone]) -> Result<Vec<Formula>, NoMemory>
+    ensures { IfOk result (λ made. map formula_tree made.items ≡ flat_map (λ b. axioms_of (backbone_tree b)) backbones.now) }
+{
+    let nodes = all_nodes(table, backbones)?;
+    boxed(table, nodes.as_slice())
+}
+
 /// The axioms of reachability along the list of each backbone, in their order, each backbone's after those of the one
 /// before.
 pub fn axioms(alloc: Global, backbones: &[Backbone]) -> Result<Vec<Formula>, NoMemory>
     ensures { IfOk result (λ made. map formula_tree made.items ≡ flat_map (λ b. axioms_of (backbone_tree b)) backbones.now) }
 {
     let mut table = Table::new(alloc)?;
-    let nodes = all_nodes(&mut table, backbones)?;
-    boxed(&table, nodes.as_slice())
+    boxed_axioms(&mut table, backbones)
 }

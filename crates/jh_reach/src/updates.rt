@@ -8,84 +8,16 @@ ghost use Rattle.jh_table.specs.Growth.{Extends};
 ghost use Rattle.jh_table.specs.Nodes.{nodes};
 ghost use Rattle.jh_enter.specs.Entered.{IsList};
 ghost use Rattle.jh_make.specs.Joined.{joined};
-ghost use Rattle.jh_reach.specs.Axioms.{listed, disjoined, child, differ, way, forest, end_at_null, ends_at_null, reaches_child, child_reaches, leads_there, leads_not_back, has_one_parent, share_no_child, pairs_share_no_child, reach_itself, reach_children, first_step, last_step, ways_join, ways_on, ways_up, null_reaches_null, no_way_back, one_parent, stops_at, leaves_out, changed_ways, first_of_list, last_of_list};
-ghost use Rattle.jh_reach.specs.Standing.{AreFields, AreFormulas, HoldsField, HoldsObject, HoldsFormula, IsAlong, list_at};
+ghost use Rattle.jh_ways.specs.Ways.{listed, child, differ, way, forest, stops_at, leaves_out, HoldsField, HoldsObject, HoldsFormula, list_at};
+ghost use Rattle.jh_reach.specs.Axioms.{disjoined, end_at_null, ends_at_null, reaches_child, child_reaches, leads_there, leads_not_back, has_one_parent, share_no_child, pairs_share_no_child, reach_itself, reach_children, first_step, last_step, ways_join, ways_on, ways_up, null_reaches_null, no_way_back, one_parent, changed_ways, first_of_list, last_of_list};
+ghost use Rattle.jh_reach.specs.Standing.{AreFields, AreFormulas, IsAlong};
 
 use crate::lists::each;
 use crate::parts::Part;
-use crate::terms::{follows_for_two, for_two, not_null};
+use crate::terms::{follows_for_two, for_two};
 use jh_name::NoMemory;
 use jh_table::{Shape, Table};
-
-/// The node of that y is reached from x by a way that doesn't go on from an object.
-fn stops_at(
-    table: &mut Table,
-    list: usize,
-    at: usize,
-    from: usize,
-    to: usize,
-) -> Result<usize, NoMemory>
-    requires list { IsList table.old list (list_at table.old list) }
-    requires at { HoldsObject table.old at }
-    requires from { HoldsObject table.old from }
-    requires to { HoldsObject table.old to }
-    ensures node { (fs : List FieldTree) (a : TermTree) (x : TermTree) (y : TermTree) → IsList table.old list (listed fs) → slice_get (nodes table.old) at ≡ Some (of_object a) → slice_get (nodes table.old) from ≡ Some (of_object x) → slice_get (nodes table.old) to ≡ Some (of_object y) → IfOk result (λ made. slice_get (nodes table.new) made ≡ Some (of_truth (stops_at fs a x y))) }
-    ensures grows { Extends table.old table.new }
-{
-    let on = table.make(Shape::Reach(list, from, to))?;
-    let before = table.make(Shape::Reach(list, from, at))?;
-    let after = table.make(Shape::Reach(list, to, at))?;
-    let stops = table.make(Shape::Implies(before, after))?;
-    table.make(Shape::And(on, stops))
-}
-
-/// The node of that an edge is on a way from x to y.
-fn goes_through(
-    table: &mut Table,
-    list: usize,
-    field: usize,
-    at: usize,
-    from: usize,
-    to: usize,
-) -> Result<usize, NoMemory>
-    requires list { IsList table.old list (list_at table.old list) }
-    requires field { HoldsField table.old field }
-    requires at { HoldsObject table.old at }
-    requires from { HoldsObject table.old from }
-    requires to { HoldsObject table.old to }
-    ensures node { (fs : List FieldTree) (f : FieldTree) (a : TermTree) (x : TermTree) (y : TermTree) → IsList table.old list (listed fs) → slice_get (nodes table.old) field ≡ Some (of_field f) → slice_get (nodes table.old) at ≡ Some (of_object a) → slice_get (nodes table.old) from ≡ Some (of_object x) → slice_get (nodes table.old) to ≡ Some (of_object y) → IfOk result (λ made. slice_get (nodes table.new) made ≡ Some (of_truth (t.and (differ (child f a) t.null) (t.and (way fs x a) (way fs (child f a) y))))) }
-    ensures grows { Extends table.old table.new }
-{
-    let child = table.make(Shape::ReadObject(field, at))?;
-    let differs = not_null(table, child)?;
-    let before = table.make(Shape::Reach(list, from, at))?;
-    let after = table.make(Shape::Reach(list, child, to))?;
-    let both = table.make(Shape::And(before, after))?;
-    table.make(Shape::And(differs, both))
-}
-
-/// The node of that y is reached from x by a way that leaves out an edge.
-fn leaves_out(
-    table: &mut Table,
-    list: usize,
-    field: usize,
-    at: usize,
-    from: usize,
-    to: usize,
-) -> Result<usize, NoMemory>
-    requires list { IsList table.old list (list_at table.old list) }
-    requires field { HoldsField table.old field }
-    requires at { HoldsObject table.old at }
-    requires from { HoldsObject table.old from }
-    requires to { HoldsObject table.old to }
-    ensures node { (fs : List FieldTree) (f : FieldTree) (a : TermTree) (x : TermTree) (y : TermTree) → IsList table.old list (listed fs) → slice_get (nodes table.old) field ≡ Some (of_field f) → slice_get (nodes table.old) at ≡ Some (of_object a) → slice_get (nodes table.old) from ≡ Some (of_object x) → slice_get (nodes table.old) to ≡ Some (of_object y) → IfOk result (λ made. slice_get (nodes table.new) made ≡ Some (of_truth (leaves_out fs f a x y))) }
-    ensures grows { Extends table.old table.new }
-{
-    let on = table.make(Shape::Reach(list, from, to))?;
-    let through = goes_through(table, list, field, at, from, to)?;
-    let around = table.make(Shape::Negation(through))?;
-    table.make(Shape::And(on, around))
-}
+use jh_ways::{in_forest, leaves_out, not_null, stops_at};
 
 /// The node of what the ways along one field are, by those before an update.
 fn ways_before(
@@ -222,9 +154,8 @@ pub fn before_change(
     ensures node { (fs : List FieldTree) (a : TermTree) → AreFields table.old fields.now fs → slice_get (nodes table.old) at ≡ Some (of_object a) → IfOk result (λ made. slice_get (nodes table.new) made ≡ Some (of_truth (t.and (forest fs) (t.and (end_at_null fs) (differ a t.null))))) }
     ensures grows { Extends table.old table.new }
 {
-    let trees = table.make(Shape::Tree(list))?;
     let null = each(table, list, fields, Part::EndsAtNull)?;
     let differs = not_null(table, at)?;
     let rest = table.make(Shape::And(null, differs))?;
-    table.make(Shape::And(trees, rest))
+    in_forest(table, list, rest)
 }

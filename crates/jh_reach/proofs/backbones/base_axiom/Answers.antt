@@ -4,7 +4,7 @@ use Rattle.jh_table.specs.Entries.{are_fields}
 use Rattle.jh_table.specs.Nodes.{nodes}
 use Rattle.jh_reach.specs.Axioms.{listed, before}
 use Rattle.jh_reach.specs.Standing.{AreFields, fields_in}
-use Rattle.jh_reach.proofs.NodeSteps.{list-there, list-grows}
+use Rattle.jh_ways.proofs.NodeSteps.{list-there, list-grows}
 use Rattle.jh_reach.proofs.Standings.{fields-grow, along-list, along-fields, along-grows}
 use Rattle.jh_reach.proofs.Basing.{set-fields, set-are, sorted-grows, there-grows}
 use Rattle.jh_reach.proofs.backbones.base_axiom.Goals as goal

@@ -8,6 +8,7 @@ use Rattle.jh_table.specs.declared.shapes.Shape.TheVariants as s
 use Rattle.jh_table.proofs.NodeSteps.{fits-Null, tree-Null, fits-ReadObject, tree-ReadObject, fits-EqObject, tree-EqObject}
 use Rattle.jh_table.proofs.Listed.{extends-trans}
 use Rattle.jh_enter.proofs.Fields.{made-as}
+use Rattle.jh_ways.specs.Ways.{child}
 use Rattle.jh_reach.proofs.fields.ends_at_null.Goals as goal
 
 pub make-requires : goal.make-requires

@@ -1,15 +1,15 @@
 -- Written by tools/reach.py.
 use Rattle.std.proofs.Common.{slice_get}
-use Rattle.jh_tree.specs.Tree.{of_object, of_field, of_truth}
+use Rattle.jh_tree.specs.Tree.{of_truth}
 use Rattle.jh_tree.specs.Tree as t
 use Rattle.jh_table.specs.Entries.{the_field}
 use Rattle.jh_table.specs.Nodes.{nodes, tree_in}
 use Rattle.jh_table.specs.declared.shapes.Shape.TheVariants as s
 use Rattle.jh_table.proofs.NodeSteps.{fits-Implies, tree-Implies}
 use Rattle.jh_table.proofs.Listed.{extends-trans}
-use Rattle.jh_reach.specs.Axioms.{child, differ}
 use Rattle.jh_enter.proofs.Fields.{made-as}
-use Rattle.jh_reach.proofs.NodeSteps.{holds-field}
+use Rattle.jh_ways.proofs.NodeSteps.{holds-field}
+use Rattle.jh_ways.specs.Ways.{child, differ}
 use Rattle.jh_reach.proofs.fields.has_one_parent.Goals as goal
 
 pub one_child-requires : goal.one_child-requires

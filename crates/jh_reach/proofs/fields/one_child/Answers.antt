@@ -7,9 +7,9 @@ use Rattle.jh_table.specs.Nodes.{nodes, tree_in}
 use Rattle.jh_table.specs.declared.shapes.Shape.TheVariants as s
 use Rattle.jh_table.proofs.NodeSteps.{fits-EqObject, tree-EqObject, fits-And, tree-And}
 use Rattle.jh_table.proofs.Listed.{extends-trans}
-use Rattle.jh_reach.specs.Axioms.{child, differ}
 use Rattle.jh_enter.proofs.Fields.{made-as}
-use Rattle.jh_reach.proofs.NodeSteps.{holds-field, holds-object}
+use Rattle.jh_ways.proofs.NodeSteps.{holds-field, holds-object}
+use Rattle.jh_ways.specs.Ways.{child, differ}
 use Rattle.jh_reach.proofs.fields.one_child.Goals as goal
 
 pub child_of-requires : goal.child_of-requires

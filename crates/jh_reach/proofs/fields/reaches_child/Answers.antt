@@ -7,10 +7,9 @@ use Rattle.jh_table.specs.Nodes.{nodes, tree_in}
 use Rattle.jh_table.specs.declared.shapes.Shape.TheVariants as s
 use Rattle.jh_table.proofs.NodeSteps.{fits-Bound, tree-Bound, fits-ReadObject, tree-ReadObject}
 use Rattle.jh_table.proofs.Listed.{extends-trans}
-use Rattle.jh_reach.specs.Axioms.{listed}
-use Rattle.jh_reach.specs.Standing.{list_at}
 use Rattle.jh_enter.proofs.Fields.{fits-listed-Reach, tree-listed-Reach, made-as}
-use Rattle.jh_reach.proofs.NodeSteps.{list-of, list-grows, unlisted}
+use Rattle.jh_ways.proofs.NodeSteps.{list-of, list-grows, unlisted}
+use Rattle.jh_ways.specs.Ways.{listed, child, list_at}
 use Rattle.jh_reach.proofs.fields.reaches_child.Goals as goal
 
 pub make-requires : goal.make-requires

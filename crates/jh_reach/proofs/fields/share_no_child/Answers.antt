@@ -7,9 +7,9 @@ use Rattle.jh_table.specs.Nodes.{nodes, tree_in}
 use Rattle.jh_table.specs.declared.shapes.Shape.TheVariants as s
 use Rattle.jh_table.proofs.NodeSteps.{fits-Null, tree-Null, fits-EqObject, tree-EqObject, fits-Implies, tree-Implies}
 use Rattle.jh_table.proofs.Listed.{extends-trans}
-use Rattle.jh_reach.specs.Axioms.{child}
 use Rattle.jh_enter.proofs.Fields.{made-as}
-use Rattle.jh_reach.proofs.NodeSteps.{holds-field}
+use Rattle.jh_ways.proofs.NodeSteps.{holds-field}
+use Rattle.jh_ways.specs.Ways.{child}
 use Rattle.jh_reach.proofs.fields.share_no_child.Goals as goal
 
 pub child_of-requires : goal.child_of-requires

@@ -2,9 +2,10 @@
 use Rattle.jh_tree.specs.Tree.{of_truth}
 use Rattle.jh_table.specs.Nodes.{nodes}
 use Rattle.jh_table.proofs.Listed.{extends-trans}
-use Rattle.jh_reach.specs.Axioms.{listed, reach_itself, reach_children, first_step, last_step}
+use Rattle.jh_ways.proofs.NodeSteps.{list-there, list-grows}
+use Rattle.jh_ways.specs.Ways.{listed}
+use Rattle.jh_reach.specs.Axioms.{reach_itself, reach_children, first_step, last_step, ways_join}
 use Rattle.jh_reach.specs.Standing.{AreFormulas, fields_in}
-use Rattle.jh_reach.proofs.NodeSteps.{list-there, list-grows}
 use Rattle.jh_reach.proofs.Standings.{fields-grow, along-list, along-fields, along-grows}
 use Rattle.jh_reach.proofs.groups.first_axioms.Goals as goal
 

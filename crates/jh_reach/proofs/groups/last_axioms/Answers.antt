@@ -1,7 +1,8 @@
 -- Written by tools/reach.py.
 use Rattle.jh_tree.specs.Tree.{of_truth}
+use Rattle.jh_table.specs.Nodes.{nodes}
 use Rattle.jh_table.proofs.Listed.{extends-trans}
-use Rattle.jh_reach.specs.Axioms.{ways_compare, null_reaches_null, no_way_back}
+use Rattle.jh_reach.specs.Axioms.{ways_compare, null_reaches_null, no_way_back, one_parent}
 use Rattle.jh_reach.specs.Standing.{AreFormulas}
 use Rattle.jh_reach.proofs.Standings.{fields-grow, along-grows}
 use Rattle.jh_reach.proofs.groups.last_axioms.Goals as goal

@@ -7,10 +7,11 @@ use Rattle.jh_table.specs.Nodes.{nodes, tree_in}
 use Rattle.jh_table.specs.declared.shapes.Shape.TheVariants as s
 use Rattle.jh_table.proofs.NodeSteps.{fits-Implies, tree-Implies}
 use Rattle.jh_table.proofs.Listed.{extends-trans}
-use Rattle.jh_reach.specs.Axioms.{listed, differ, forest, end_at_null, changed_ways}
-use Rattle.jh_reach.specs.Standing.{list_at, fields_in}
 use Rattle.jh_enter.proofs.Fields.{made-as}
-use Rattle.jh_reach.proofs.NodeSteps.{list-there, list-of, list-grows, unlisted, holds-field, holds-object}
+use Rattle.jh_ways.proofs.NodeSteps.{list-there, list-of, list-grows, unlisted, holds-field, holds-object}
+use Rattle.jh_ways.specs.Ways.{listed, differ, forest, list_at}
+use Rattle.jh_reach.specs.Axioms.{end_at_null, changed_ways}
+use Rattle.jh_reach.specs.Standing.{fields_in}
 use Rattle.jh_reach.proofs.Standings.{fields-grow, along-fields, along-grows}
 use Rattle.jh_reach.proofs.groups.update_axiom.Goals as goal
 

@@ -7,7 +7,7 @@ use Rattle.jh_table.specs.Nodes.{nodes}
 use Rattle.jh_table.proofs.Listed.{extends-refl, extends-trans}
 use Rattle.jh_make.specs.Joined.{truths_at}
 use Rattle.jh_reach.specs.Axioms.{disjoined}
-use Rattle.jh_reach.proofs.NodeSteps.{truth-there, the-truth}
+use Rattle.jh_ways.proofs.NodeSteps.{truth-there, the-truth}
 use Rattle.jh_enter.proofs.Fields.{made-as}
 use Rattle.jh_reach.proofs.Standings.{formulas-there, formula-of, formulas-length, no-formulas, disjoined-last, disjoined-step}
 use Rattle.jh_reach.proofs.lists.disjunction_of.Goals as goal

@@ -6,7 +6,7 @@ use Rattle.jh_table.proofs.Listed.{extends-refl, extends-trans}
 use Rattle.jh_reach.specs.Axioms.{listed}
 use Rattle.jh_reach.specs.Parts.{part_tree}
 use Rattle.jh_reach.specs.Standing.{fields_in}
-use Rattle.jh_reach.proofs.NodeSteps.{list-there, list-grows}
+use Rattle.jh_ways.proofs.NodeSteps.{list-there, list-grows}
 use Rattle.jh_reach.proofs.Standings.{field-of, formulas-none, item-holds, parts-step, parts-end, along-list, along-fields, along-grows}
 use Rattle.jh_reach.proofs.lists.parts_of.Goals as goal
 

@@ -1,16 +1,16 @@
 -- Written by tools/reach.py.
 use Rattle.std.proofs.Common.{map}
-use Rattle.jh_tree.specs.Tree.{of_object, of_field, of_truth}
+use Rattle.jh_tree.specs.Tree.{of_truth}
 use Rattle.jh_tree.specs.Tree as t
 use Rattle.jh_table.specs.Nodes.{nodes, tree_in}
 use Rattle.jh_table.specs.declared.shapes.Shape.TheVariants as s
 use Rattle.jh_table.proofs.NodeSteps.{fits-Or, tree-Or}
 use Rattle.jh_table.proofs.Listed.{extends-trans}
+use Rattle.jh_enter.proofs.Fields.{made-as}
 use Rattle.jh_reach.specs.declared.parts.Part.TheVariants as p
 use Rattle.jh_reach.specs.Axioms.{disjoined}
 use Rattle.jh_reach.specs.Parts.{part_tree}
 use Rattle.jh_reach.specs.Standing.{fields_in}
-use Rattle.jh_enter.proofs.Fields.{made-as}
 use Rattle.jh_reach.proofs.Standings.{fields-grow, along-fields, along-grows}
 use Rattle.jh_reach.proofs.nine.begins.Goals as goal
 

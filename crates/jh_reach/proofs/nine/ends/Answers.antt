@@ -1,14 +1,15 @@
 -- Written by tools/reach.py.
 use Rattle.std.proofs.Common.{map}
-use Rattle.jh_tree.specs.Tree.{of_object, of_field, of_truth}
+use Rattle.jh_tree.specs.Tree.{of_truth}
 use Rattle.jh_tree.specs.Tree as t
 use Rattle.jh_table.specs.Nodes.{nodes, tree_in}
 use Rattle.jh_table.specs.declared.shapes.Shape.TheVariants as s
 use Rattle.jh_table.proofs.NodeSteps.{fits-Or, tree-Or}
 use Rattle.jh_table.proofs.Listed.{extends-trans}
-use Rattle.jh_reach.specs.Axioms.{disjoined, way, leads_there}
-use Rattle.jh_reach.specs.Standing.{fields_in}
 use Rattle.jh_enter.proofs.Fields.{made-as}
+use Rattle.jh_ways.specs.Ways.{way}
+use Rattle.jh_reach.specs.Axioms.{disjoined, leads_there}
+use Rattle.jh_reach.specs.Standing.{fields_in}
 use Rattle.jh_reach.proofs.Standings.{fields-grow, along-fields, along-grows}
 use Rattle.jh_reach.proofs.nine.ends.Goals as goal
 

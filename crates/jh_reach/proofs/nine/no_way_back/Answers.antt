@@ -1,15 +1,16 @@
 -- Written by tools/reach.py.
 use Rattle.std.proofs.Common.{ap, ◌∙◌, Some, map}
-use Rattle.jh_tree.specs.Tree.{of_object, of_field, of_truth}
+use Rattle.jh_tree.specs.Tree.{of_truth}
 use Rattle.jh_tree.specs.Tree as t
 use Rattle.jh_table.specs.Nodes.{nodes, tree_in}
 use Rattle.jh_table.specs.declared.shapes.Shape.TheVariants as s
 use Rattle.jh_table.proofs.NodeSteps.{fits-Implies, tree-Implies}
 use Rattle.jh_table.proofs.Listed.{extends-trans}
-use Rattle.jh_make.specs.Joined.{joined}
-use Rattle.jh_reach.specs.Axioms.{listed, differ, leads_not_back}
-use Rattle.jh_reach.specs.Standing.{fields_in}
 use Rattle.jh_enter.proofs.Fields.{fits-listed-Tree, tree-listed-Tree, made-as}
+use Rattle.jh_make.specs.Joined.{joined}
+use Rattle.jh_ways.specs.Ways.{listed, differ}
+use Rattle.jh_reach.specs.Axioms.{leads_not_back}
+use Rattle.jh_reach.specs.Standing.{fields_in}
 use Rattle.jh_reach.proofs.Standings.{fields-grow, along-list, along-fields, along-grows}
 use Rattle.jh_reach.proofs.nine.no_way_back.Goals as goal
 

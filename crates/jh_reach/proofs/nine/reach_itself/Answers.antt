@@ -1,14 +1,13 @@
 -- Written by tools/reach.py.
-use Rattle.jh_tree.specs.Tree.{of_object, of_field, of_truth}
+use Rattle.jh_tree.specs.Tree.{of_truth}
 use Rattle.jh_tree.specs.Tree as t
 use Rattle.jh_table.specs.Nodes.{nodes, tree_in}
 use Rattle.jh_table.specs.declared.shapes.Shape.TheVariants as s
 use Rattle.jh_table.proofs.NodeSteps.{fits-All, tree-All}
 use Rattle.jh_table.proofs.Listed.{extends-trans}
-use Rattle.jh_reach.specs.Axioms.{listed, way}
-use Rattle.jh_reach.specs.Standing.{list_at}
 use Rattle.jh_enter.proofs.Fields.{made-as}
-use Rattle.jh_reach.proofs.NodeSteps.{list-there, list-of, unlisted}
+use Rattle.jh_ways.proofs.NodeSteps.{list-there, list-of, unlisted}
+use Rattle.jh_ways.specs.Ways.{listed, way, list_at}
 use Rattle.jh_reach.proofs.nine.reach_itself.Goals as goal
 
 pub way-requires : goal.way-requires

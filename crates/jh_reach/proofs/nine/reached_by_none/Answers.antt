@@ -1,18 +1,18 @@
 -- Written by tools/reach.py.
 use Rattle.std.proofs.Common.{ap, ◌∙◌, Some, slice_get, map}
-use Rattle.jh_tree.specs.Tree.{of_object, of_field, of_truth}
+use Rattle.jh_tree.specs.Tree.{of_truth}
 use Rattle.jh_tree.specs.Tree as t
 use Rattle.jh_table.specs.Nodes.{nodes, tree_in}
 use Rattle.jh_table.specs.declared.shapes.Shape.TheVariants as s
 use Rattle.jh_table.proofs.NodeSteps.{fits-Bound, tree-Bound, fits-Implies, tree-Implies, fits-All, tree-All}
 use Rattle.jh_table.proofs.Listed.{extends-trans}
+use Rattle.jh_enter.proofs.Fields.{made-as}
+use Rattle.jh_ways.proofs.NodeSteps.{holds-object}
 use Rattle.jh_reach.specs.declared.parts.Part.TheVariants as p
 use Rattle.jh_make.specs.Joined.{joined}
-use Rattle.jh_reach.specs.Axioms.{differ}
+use Rattle.jh_ways.specs.Ways.{differ}
 use Rattle.jh_reach.specs.Parts.{part_tree}
 use Rattle.jh_reach.specs.Standing.{fields_in}
-use Rattle.jh_enter.proofs.Fields.{made-as}
-use Rattle.jh_reach.proofs.NodeSteps.{holds-object}
 use Rattle.jh_reach.proofs.Standings.{fields-grow, along-fields, along-grows}
 use Rattle.jh_reach.proofs.nine.reached_by_none.Goals as goal
 

@@ -1,6 +1,6 @@
 -- Written by tools/reach.py.
 use Rattle.std.proofs.Common.{ap, ◌∙◌, Some, slice_get}
-use Rattle.jh_tree.specs.Tree.{of_object, of_field, of_truth}
+use Rattle.jh_tree.specs.Tree.{of_object, of_field}
 use Rattle.jh_tree.specs.Tree as t
 use Rattle.jh_table.specs.Entries.{the_field}
 use Rattle.jh_table.specs.Nodes.{nodes, tree_in}

@@ -1,6 +1,6 @@
 -- Written by tools/reach.py.
 use Rattle.std.proofs.Common.{slice_get}
-use Rattle.jh_tree.specs.Tree.{of_object, of_field, of_truth}
+use Rattle.jh_tree.specs.Tree.{of_truth}
 use Rattle.jh_tree.specs.Tree as t
 use Rattle.jh_table.specs.Entries.{the_truth}
 use Rattle.jh_table.specs.Nodes.{nodes, tree_in}
@@ -8,7 +8,7 @@ use Rattle.jh_table.specs.declared.shapes.Shape.TheVariants as s
 use Rattle.jh_table.proofs.NodeSteps.{fits-All, tree-All}
 use Rattle.jh_table.proofs.Listed.{extends-trans}
 use Rattle.jh_enter.proofs.Fields.{made-as}
-use Rattle.jh_reach.proofs.NodeSteps.{holds-formula}
+use Rattle.jh_ways.proofs.NodeSteps.{holds-formula}
 use Rattle.jh_reach.proofs.terms.follows_for_three.Goals as goal
 
 pub follows_for_two-requires : goal.follows_for_two-requires

@@ -1,15 +1,14 @@
 -- Written by tools/reach.py.
 use Rattle.std.proofs.Common.{ap, ◌∙◌, Some}
-use Rattle.jh_tree.specs.Tree.{of_object, of_field, of_truth}
+use Rattle.jh_tree.specs.Tree.{of_object, of_truth}
 use Rattle.jh_tree.specs.Tree as t
 use Rattle.jh_table.specs.Nodes.{nodes, tree_in}
 use Rattle.jh_table.specs.declared.shapes.Shape.TheVariants as s
 use Rattle.jh_table.proofs.NodeSteps.{fits-Bound, tree-Bound}
 use Rattle.jh_table.proofs.Listed.{extends-trans}
-use Rattle.jh_reach.specs.Axioms.{listed}
-use Rattle.jh_reach.specs.Standing.{list_at}
 use Rattle.jh_enter.proofs.Fields.{fits-listed-Reach, tree-listed-Reach, made-as}
-use Rattle.jh_reach.proofs.NodeSteps.{list-of, list-grows, unlisted}
+use Rattle.jh_ways.proofs.NodeSteps.{list-of, list-grows, unlisted}
+use Rattle.jh_ways.specs.Ways.{listed, list_at}
 use Rattle.jh_reach.proofs.terms.way.Goals as goal
 
 pub make-requires : goal.make-requires

@@ -6,10 +6,9 @@ use Rattle.jh_table.specs.Entries.{the_field, the_object}
 use Rattle.jh_table.specs.Nodes.{nodes}
 use Rattle.jh_table.proofs.NodeSteps.{fits-Bound, tree-Bound, fits-Iff, tree-Iff}
 use Rattle.jh_table.proofs.Listed.{extends-trans}
-use Rattle.jh_reach.specs.Axioms.{listed, differ, way, leaves_out}
-use Rattle.jh_reach.specs.Standing.{list_at}
 use Rattle.jh_enter.proofs.Fields.{fits-listed-Reach, tree-listed-Reach}
-use Rattle.jh_reach.proofs.NodeSteps.{list-there, list-of, list-grows, unlisted, holds-field, holds-object, holds-formula}
+use Rattle.jh_ways.proofs.NodeSteps.{list-there, list-of, list-grows, unlisted, holds-field, holds-object, holds-formula}
+use Rattle.jh_ways.specs.Ways.{listed, differ, way, leaves_out, list_at}
 use Rattle.jh_reach.proofs.updates.told_by_several.Goals as goal
 
 pub make-requires : goal.make-requires

@@ -7,10 +7,9 @@ use Rattle.jh_table.specs.Nodes.{nodes, tree_in}
 use Rattle.jh_table.specs.declared.shapes.Shape.TheVariants as s
 use Rattle.jh_table.proofs.NodeSteps.{fits-Or, tree-Or}
 use Rattle.jh_table.proofs.Listed.{extends-trans}
-use Rattle.jh_reach.specs.Axioms.{listed, differ, way, leaves_out}
-use Rattle.jh_reach.specs.Standing.{list_at}
 use Rattle.jh_enter.proofs.Fields.{made-as}
-use Rattle.jh_reach.proofs.NodeSteps.{list-there, list-of, list-grows, unlisted, holds-field, holds-object}
+use Rattle.jh_ways.proofs.NodeSteps.{list-there, list-of, list-grows, unlisted, holds-field, holds-object}
+use Rattle.jh_ways.specs.Ways.{listed, differ, way, leaves_out, list_at}
 use Rattle.jh_reach.proofs.updates.ways_around.Goals as goal
 
 pub leaves_out-requires : goal.leaves_out-requires

@@ -1,17 +1,16 @@
 -- Written by tools/reach.py.
 use Rattle.std.proofs.Common.{ap, ◌∙◌, Some, slice_get}
-use Rattle.jh_tree.specs.Tree.{of_object, of_field, of_truth}
+use Rattle.jh_tree.specs.Tree.{of_object, of_truth}
 use Rattle.jh_tree.specs.Tree as t
 use Rattle.jh_table.specs.Entries.{the_object}
 use Rattle.jh_table.specs.Nodes.{nodes, tree_in}
 use Rattle.jh_table.specs.declared.shapes.Shape.TheVariants as s
 use Rattle.jh_table.proofs.NodeSteps.{fits-And, tree-And, fits-Implies, tree-Implies}
 use Rattle.jh_table.proofs.Listed.{extends-trans}
-use Rattle.jh_reach.specs.Axioms.{listed}
-use Rattle.jh_reach.specs.Standing.{list_at}
 use Rattle.jh_enter.proofs.Fields.{fits-listed-Reach, tree-listed-Reach, made-as}
-use Rattle.jh_reach.proofs.NodeSteps.{list-of, list-grows, unlisted}
-use Rattle.jh_reach.proofs.updates.stops_at.Goals as goal
+use Rattle.jh_ways.proofs.NodeSteps.{list-of, list-grows, unlisted}
+use Rattle.jh_ways.specs.Ways.{listed, list_at}
+use Rattle.jh_ways.proofs.ways.stops_at.Goals as goal
 
 pub make-requires : goal.make-requires
 make-requires c = fits-listed-Reach c.args.table.now c.args.list c.args.from c.args.to (listed (unlisted (list_at c.args.table.now c.args.list))) (the_object (slice_get (nodes c.args.table.now) c.args.from)) (the_object (slice_get (nodes c.args.table.now) c.args.to)) (list-of c.args.table.now c.args.list c.requires.list) c.requires.from c.requires.to

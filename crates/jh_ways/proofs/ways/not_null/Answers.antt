@@ -1,6 +1,6 @@
 -- Written by tools/reach.py.
 use Rattle.std.proofs.Common.{ap, ◌∙◌, Some, slice_get}
-use Rattle.jh_tree.specs.Tree.{of_object, of_field, of_truth}
+use Rattle.jh_tree.specs.Tree.{of_object, of_truth}
 use Rattle.jh_tree.specs.Tree as t
 use Rattle.jh_table.specs.Entries.{the_object}
 use Rattle.jh_table.specs.Nodes.{nodes, tree_in}
@@ -8,7 +8,7 @@ use Rattle.jh_table.specs.declared.shapes.Shape.TheVariants as s
 use Rattle.jh_table.proofs.NodeSteps.{fits-Null, tree-Null, fits-EqObject, tree-EqObject, fits-Negation, tree-Negation}
 use Rattle.jh_table.proofs.Listed.{extends-trans}
 use Rattle.jh_enter.proofs.Fields.{made-as}
-use Rattle.jh_reach.proofs.terms.not_null.Goals as goal
+use Rattle.jh_ways.proofs.ways.not_null.Goals as goal
 
 pub make-requires : goal.make-requires
 make-requires c = fits-Null c.args.table.now.pools (nodes c.args.table.now)

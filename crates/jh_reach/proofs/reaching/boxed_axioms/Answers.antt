@@ -7,7 +7,7 @@ use Rattle.jh_make.specs.Joined.{are_truths, truths_at}
 use Rattle.jh_reach.specs.Axioms.{axioms_of}
 use Rattle.jh_reach.specs.Named.{backbone_tree}
 use Rattle.jh_reach.proofs.Standings.{formulas-are, formulas-at}
-use Rattle.jh_reach.proofs.reaching.axioms.Goals as goal
+use Rattle.jh_reach.proofs.reaching.boxed_axioms.Goals as goal
 
 pub boxed-requires : goal.boxed-requires
 boxed-requires c =

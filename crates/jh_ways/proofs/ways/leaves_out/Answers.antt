@@ -7,11 +7,10 @@ use Rattle.jh_table.specs.Nodes.{nodes, tree_in}
 use Rattle.jh_table.specs.declared.shapes.Shape.TheVariants as s
 use Rattle.jh_table.proofs.NodeSteps.{fits-Negation, tree-Negation, fits-And, tree-And}
 use Rattle.jh_table.proofs.Listed.{extends-trans}
-use Rattle.jh_reach.specs.Axioms.{listed, child, differ, way}
-use Rattle.jh_reach.specs.Standing.{list_at}
 use Rattle.jh_enter.proofs.Fields.{fits-listed-Reach, tree-listed-Reach, made-as}
-use Rattle.jh_reach.proofs.NodeSteps.{list-there, list-of, list-grows, unlisted, holds-field, holds-object}
-use Rattle.jh_reach.proofs.updates.leaves_out.Goals as goal
+use Rattle.jh_ways.proofs.NodeSteps.{list-there, list-of, list-grows, unlisted, holds-field, holds-object}
+use Rattle.jh_ways.specs.Ways.{listed, child, differ, way, list_at}
+use Rattle.jh_ways.proofs.ways.leaves_out.Goals as goal
 
 pub make-requires : goal.make-requires
 make-requires c = fits-listed-Reach c.args.table.now c.args.list c.args.from c.args.to (listed (unlisted (list_at c.args.table.now c.args.list))) (the_object (slice_get (nodes c.args.table.now) c.args.from)) (the_object (slice_get (nodes c.args.table.now) c.args.to)) (list-of c.args.table.now c.args.list c.requires.list) c.requires.from c.requires.to

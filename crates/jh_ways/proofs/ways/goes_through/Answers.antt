@@ -1,17 +1,16 @@
 -- Written by tools/reach.py.
 use Rattle.std.proofs.Common.{ap, ◌∙◌, Some, slice_get}
-use Rattle.jh_tree.specs.Tree.{of_object, of_field, of_truth}
+use Rattle.jh_tree.specs.Tree.{of_object, of_truth}
 use Rattle.jh_tree.specs.Tree as t
 use Rattle.jh_table.specs.Entries.{the_field, the_object}
 use Rattle.jh_table.specs.Nodes.{nodes, tree_in}
 use Rattle.jh_table.specs.declared.shapes.Shape.TheVariants as s
 use Rattle.jh_table.proofs.NodeSteps.{fits-ReadObject, tree-ReadObject, fits-And, tree-And}
 use Rattle.jh_table.proofs.Listed.{extends-trans}
-use Rattle.jh_reach.specs.Axioms.{listed, differ}
-use Rattle.jh_reach.specs.Standing.{list_at}
 use Rattle.jh_enter.proofs.Fields.{fits-listed-Reach, tree-listed-Reach, made-as}
-use Rattle.jh_reach.proofs.NodeSteps.{list-of, list-grows, unlisted, holds-object}
-use Rattle.jh_reach.proofs.updates.goes_through.Goals as goal
+use Rattle.jh_ways.proofs.NodeSteps.{list-of, list-grows, unlisted, holds-object}
+use Rattle.jh_ways.specs.Ways.{listed, child, differ, list_at}
+use Rattle.jh_ways.proofs.ways.goes_through.Goals as goal
 
 pub make-requires : goal.make-requires
 make-requires c = fits-ReadObject c.args.table.now.pools (nodes c.args.table.now) c.args.field c.args.at (the_field (slice_get (nodes c.args.table.now) c.args.field)) (the_object (slice_get (nodes c.args.table.now) c.args.at)) c.requires.field c.requires.at

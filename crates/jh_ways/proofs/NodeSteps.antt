@@ -1,7 +1,7 @@
 -- What the functions over nodes cite.
 use Rattle.std.proofs.Common.{◌≡◌, refl, sym, ap, ◌∙◌, subst, ℕ, true, Some}
 use Rattle.std.specs.Prelude.{Option, List, [], ◌∷◌}
-use Rattle.jh_reach.specs.Axioms.{listed}
+use Rattle.jh_ways.specs.Ways.{listed, list_at}
 use Rattle.std.proofs.lemmas.Bool.{true≢false}
 use Rattle.jh_tree.specs.Tree.{TermTree, FieldTree, FormulaTree, FieldTrees, ValueTree, none, more, of_object, of_field, of_truth}
 use Rattle.jh_table.specs.Entries.{Listing, is_field, is_object, is_truth, the_field, the_object, the_truth, the_list, fields_at}
@@ -9,7 +9,6 @@ use Rattle.jh_table.specs.Nodes.{nodes}
 use Rattle.jh_table.proofs.Growing.{fields-stay, are_fields-stay}
 use Rattle.jh_table.specs.Growth.{Extends}
 use Rattle.jh_enter.specs.Entered.{IsList}
-use Rattle.jh_reach.specs.Standing.{list_at}
 
 pub it-is-field : (o : Option ValueTree) → is_field o ≡ true → o ≡ Some (of_field (the_field o))
 unfolding is_field the_field
