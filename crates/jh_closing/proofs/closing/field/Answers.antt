@@ -1,7 +1,7 @@
 use Rattle.std.proofs.Common.{ap, ◌∙◌}
 use Rattle.jh_tree.specs.Closed.{is_closed_value}
 use Rattle.jh_table.specs.Entries.{the_value}
-use Rattle.jh_premises.proofs.closing.formula.Goals as goal
+use Rattle.jh_closing.proofs.closing.field.Goals as goal
 
 pub returns : goal.returns
 unfolding is_closed_value the_value
