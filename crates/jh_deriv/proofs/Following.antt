@@ -23,9 +23,9 @@ use Rattle.jh_premises.specs.declared.nodes.Nodes.TheVariants as n
 use Rattle.jh_premises.specs.declared.nodes.Adds.TheVariants as a
 use Rattle.jh_premises.specs.Nodes.{formula_at, value_at, formulas_at, branches_at, IsFormula, AreFormulas}
 use Rattle.jh_premises.specs.Nodes as p
-use Rattle.jh_deriv.specs.declared.branches.Waiting.{Waiting}
-use Rattle.jh_deriv.specs.Placed.{ArePlaced}
-use Rattle.jh_deriv.specs.Waits.{waits}
+use Rattle.jh_branches.specs.declared.branches.Waiting.{Waiting}
+use Rattle.jh_branches.specs.Placed.{ArePlaced}
+use Rattle.jh_branches.specs.Waits.{waits}
 use Rattle.jh_deriv.specs.Replays.{facts_at, AllFormulas, waiting_at, open_at, AreBranches, Turns, IsStuck, Gains, Comes, bare_facts, bare_steps}
 use Rattle.jh_deriv.proofs.Opens.{facts-append, facts-stay, all-append, open-after}
 use Rattle.jh_deriv.proofs.Turning.{branches-after}

@@ -11,9 +11,9 @@ use Rattle.jh_premises.specs.declared.nodes.Nodes.TheVariants as n
 use Rattle.jh_premises.specs.declared.nodes.Adds.{Adds}
 use Rattle.jh_premises.specs.declared.nodes.Adds.TheVariants as a
 use Rattle.jh_premises.specs.Nodes.{formula_at, formulas_at, branches_at, IsFormula, AreFormulas, AreBranches}
-use Rattle.jh_deriv.specs.declared.branches.Waiting.{Waiting}
-use Rattle.jh_deriv.specs.Placed.{numbers}
-use Rattle.jh_deriv.specs.Waits.{waits, waits_with, kept_by}
+use Rattle.jh_branches.specs.declared.branches.Waiting.{Waiting}
+use Rattle.jh_branches.specs.Placed.{numbers}
+use Rattle.jh_branches.specs.Waits.{waits, waits_with, kept_by}
 use Rattle.jh_deriv.specs.Replays.{facts_at, AllFormulas, waiting_at, open_at, AreWaiting, Below, Rises}
 
 pub facts-append : (ts : List ValueTree) (xs ys : List ℕ) → facts_at ts (xs ++ ys) ≡ facts_at ts xs ++ facts_at ts ys

@@ -21,9 +21,9 @@ use Rattle.jh_premises.specs.declared.nodes.NodeStep.{NodeStep}
 use Rattle.jh_premises.specs.declared.nodes.NodeStep.TheVariants as e
 use Rattle.jh_premises.specs.Nodes.{formula_at, formulas_at, branches_at, rule_at, option_rule, step_at, Gives, IsFormula, AreFormulas}
 use Rattle.jh_premises.specs.Nodes as p
-use Rattle.jh_deriv.specs.declared.branches.Waiting.{Waiting}
-use Rattle.jh_deriv.specs.Placed.{ArePlaced, Stands, StandAll, numbers}
-use Rattle.jh_deriv.specs.Waits.{waits, kept_by, Follows}
+use Rattle.jh_branches.specs.declared.branches.Waiting.{Waiting}
+use Rattle.jh_branches.specs.Placed.{ArePlaced, Stands, StandAll, numbers}
+use Rattle.jh_branches.specs.Waits.{waits, kept_by, Follows}
 use Rattle.jh_deriv.specs.Replays.{SuitsAlone, SuitsFacts, Finds, facts_at, AllFormulas, open_at, AreBranches, Turns, IsStuck}
 use Rattle.jh_deriv.proofs.Opens.{all-append, all-take, all-numbers, open-after, open-last, open-kept, below-more, below-append, below-last, below-after, rises-last, rises-append, rises-after, facts-stay, open-stays, waiting-stay, waiting-append, waiting-last, waiting-after}
 

@@ -1,3 +1,3 @@
-pub mod Placed
-pub mod Waits
+pub use Rattle.jh_branches.specs.Placed
+pub use Rattle.jh_branches.specs.Waits
 pub mod Replays

@@ -14,9 +14,9 @@ use Rattle.jh_compare.specs.Unmarked.{unmarked_formula}
 use Rattle.jh_steps.specs.Closes.{after, Runs, FailsAt}
 use Rattle.jh_premises.specs.declared.nodes.NodeRule.{NodeRule}
 use Rattle.jh_premises.specs.declared.nodes.NodeStep.{NodeStep}
-use Rattle.jh_deriv.specs.declared.branches.Waiting.{Waiting}
-use Rattle.jh_deriv.specs.Placed.{ArePlaced}
-use Rattle.jh_deriv.specs.Waits.{kept_by}
+use Rattle.jh_branches.specs.declared.branches.Waiting.{Waiting}
+use Rattle.jh_branches.specs.Placed.{ArePlaced}
+use Rattle.jh_branches.specs.Waits.{kept_by}
 use Rattle.jh_premises.specs.Nodes.{formula_at, rule_at, IsFormula, AreFormulas, IsRule, step_at, AreOperands}
 
 -- both sides of the equation are one

@@ -11,13 +11,12 @@ ghost use Rattle.jh_steps.specs.Steps.{step_tree, bare_step, steps_of};
 ghost use Rattle.jh_steps.specs.Rules.{HasAll};
 ghost use Rattle.jh_steps.specs.Closes.{ClosesSequent, FailsSequent, after, facts_of};
 ghost use Rattle.jh_premises.specs.Nodes.{formulas_at, branches_at, IsRule};
-ghost use Rattle.jh_deriv.specs.Placed.{ArePlaced, noted};
+ghost use Rattle.jh_branches.specs.Placed.{ArePlaced, noted};
 ghost use Rattle.jh_deriv.specs.Replays.{AllFormulas, AreBranches, Comes, Gains, IsStuck, SuitsFacts, Turns, bare_facts, bare_steps, facts_at, open_at};
 
-use crate::branches::Branches;
 use crate::entering::{bare_formula, negated_goal};
-use crate::facts::FactList;
 use crate::suiting::{found, suits_facts};
+use jh_branches::{Branches, FactList};
 use jh_name::NoMemory;
 use jh_premises::{Adds, NodeRule, Nodes};
 use jh_sequent::{Hyp, Sequent};
@@ -27,7 +26,7 @@ use jh_tree::Formula;
 use std::alloc::Global;
 
 /// What comes of a replay.
-#[derive(Clone, Copy, Debug, PartialEq, Eq)]
+#[derive(Clone, Copy, PartialEq, Eq)]
 pub enum Replayed {
     /// The derivation closes the sequent.
     Yes,

@@ -12,16 +12,15 @@ ghost use Rattle.jh_premises.specs.Nodes.{formula_at, number_at, value_at, step_
 ghost use Rattle.jh_deriv.specs.Replays.{AllFormulas, AreApart, is_const, Finds, IsItself, SuitsAlone, SuitsFacts, facts_at};
 
 use crate::entering::entered;
+use jh_branches::Other;
 use jh_compare::replaces;
-use jh_name::{Name, NoMemory, Sort};
+use jh_name::{Name, NoMemory};
 use jh_premises::{NodeRule, NodeStep, is_closed, rule_of};
 use jh_rewrite::names;
 use jh_steps::DerivStep;
-use jh_subst::names_are_one;
 use jh_table::{Shape, Table};
 use jh_tree::{Formula, Value};
 use jh_value::{boxed_formula, value};
-use jh_walk::NameTest;
 
 /// Whether the sides of an equation are one.
 fn is_itself(table: &Table, node: usize) -> bool
@@ -152,20 +151,6 @@ pub fn found(table: &mut Table, step: &DerivStep) -> Result<Option<NodeRule>, No
     match entered(table, step)? {
         Some(made) => checked(table, made),
         None => Ok(None),
-    }
-}
-
-/// The test of a name that says that it is another.
-#[derive(Drop)]
-struct Other<'a> {
-    name: &'a Name,
-}
-
-impl NameTest for Other<'_> {
-    ghost test = { λ other y u. not (name_equal y other.name.now) };
-
-    fn passes(&self, name: &Name, _sort: Sort) -> bool {
-        !names_are_one(name, self.name)
     }
 }
 

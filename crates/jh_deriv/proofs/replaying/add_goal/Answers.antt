@@ -2,7 +2,7 @@ use Rattle.jh_tree.specs.Bare.{formula_tree}
 use Rattle.jh_tree.specs.Tree as t
 use Rattle.jh_compare.specs.Unmarked.{unmarked_formula}
 use Rattle.jh_table.specs.Nodes.{nodes}
-use Rattle.jh_deriv.specs.Placed.{noted}
+use Rattle.jh_branches.specs.Placed.{noted}
 use Rattle.jh_deriv.proofs.Following.{gains-one, on-ok-two}
 use Rattle.jh_deriv.proofs.replaying.add_goal.Goals as goal
 

@@ -5,7 +5,7 @@ use Rattle.jh_tree.specs.Bare.{formula_tree}
 use Rattle.jh_compare.specs.Unmarked.{unmarked_formula}
 use Rattle.jh_table.specs.Nodes.{nodes}
 use Rattle.jh_sequent.specs.declared.sequent.Hyp.{Hyp}
-use Rattle.jh_deriv.specs.Placed.{noted}
+use Rattle.jh_branches.specs.Placed.{noted}
 use Rattle.jh_deriv.specs.Replays.{Gains, bare_facts}
 use Rattle.jh_deriv.proofs.Following.{gains-two, facts-are, on-ok-one}
 use Rattle.jh_deriv.proofs.replaying.add_sequent.Goals as goal

@@ -1,8 +1,8 @@
 #![tactic(auto, unfolding(crate::specs::Placed::numbers, crate::specs::Waits::waits))]
 
 ghost use Rattle.std.specs.Prelude.{◌≡◌, ◌↔◌, ◌++◌, [], Ok, true, false, IsTrue, OnOk};
-ghost use Rattle.jh_deriv.specs.Placed.{ArePlaced, StandAll, noted, numbers};
-ghost use Rattle.jh_deriv.specs.Waits.{Follows, waits};
+ghost use Rattle.jh_branches.specs.Placed.{ArePlaced, StandAll, noted, numbers};
+ghost use Rattle.jh_branches.specs.Waits.{Follows, waits};
 
 use crate::facts::FactList;
 use jh_name::NoMemory;
@@ -10,7 +10,7 @@ use jh_premises::{Adds, Nodes};
 use std::alloc::Global;
 
 /// A branch that waits: how many of the facts are its, and what its step adds to them.
-#[derive(Clone, Copy, Debug)]
+#[derive(Clone, Copy)]
 pub struct Waiting {
     pub count: usize,
     pub added: Nodes,
@@ -20,8 +20,8 @@ pub struct Waiting {
 /// next.
 #[derive(Drop)]
 pub struct Branches {
-    pub(crate) facts: FactList,
-    pub(crate) waiting: Vec<Waiting>,
+    pub facts: FactList,
+    pub waiting: Vec<Waiting>,
 }
 
 impl Branches {

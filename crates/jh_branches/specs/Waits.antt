@@ -3,8 +3,8 @@ use Rattle.std.specs.Prelude.{◌≡◌, ℕ, List, [], ◌∷◌, ◌++◌, len
 use Rattle.jh_premises.specs.declared.nodes.Nodes.{Nodes}
 use Rattle.jh_premises.specs.declared.nodes.Adds.{Adds}
 use Rattle.jh_premises.specs.declared.nodes.Adds.TheVariants as a
-use Rattle.jh_deriv.specs.declared.branches.Waiting.{Waiting}
-use Rattle.jh_deriv.specs.Placed.{numbers}
+use Rattle.jh_branches.specs.declared.branches.Waiting.{Waiting}
+use Rattle.jh_branches.specs.Placed.{numbers}
 
 -- a branch that keeps all these facts
 abbrev pub waits_with : List ℕ → Nodes → Waiting

@@ -1,5 +1,5 @@
 ghost use Rattle.std.specs.Prelude.{◌≡◌, ◌↔◌, ◌≤◌, ◌<◌, ℕ, [], ◌∷◌, ◌++◌, IsTrue, OnOk, length, take, Some, slice_get};
-ghost use Rattle.jh_deriv.specs.Placed.{ArePlaced, Stands, noted};
+ghost use Rattle.jh_branches.specs.Placed.{ArePlaced, Stands, noted};
 
 use indexmap::IndexMap;
 use jh_name::NoMemory;
@@ -10,8 +10,8 @@ use std::alloc::Global;
 /// forgotten by cutting the list alone.
 #[derive(Drop)]
 pub struct FactList {
-    pub(crate) facts: Vec<usize>,
-    pub(crate) places: IndexMap<usize, usize>,
+    pub facts: Vec<usize>,
+    pub places: IndexMap<usize, usize>,
 }
 
 impl FactList {
