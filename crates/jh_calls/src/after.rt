@@ -1,6 +1,6 @@
 #![tactic(auto, using(jh_changes::proofs::AddedSteps::added_steps, jh_table::proofs::Listed::growth_steps))]
 
-ghost use Rattle.std.specs.Prelude.{◌≡◌, ◌<◌, ◌++◌, ◌∷◌, [], ℕ, Bool, true, List, map, filter, length, option_map, codes, OnOk, Some, slice_get};
+ghost use Rattle.std.specs.Prelude.{◌≡◌, ◌<◌, ◌∷◌, [], ℕ, Bool, true, List, map, length, option_map, codes, OnOk, Some, slice_get};
 ghost use Rattle.jh_ast.specs.Programs.{ProgramTree};
 ghost use Rattle.jh_tree.specs.Tree.{FormulaTree, of_truth};
 ghost use Rattle.jh_tree.specs.Tree as t;
@@ -10,9 +10,7 @@ ghost use Rattle.jh_table.specs.Nodes.{nodes};
 ghost use Rattle.jh_wp.specs.Command as w;
 ghost use Rattle.jh_runs.specs.Code.{Text};
 ghost use Rattle.jh_runs.specs.Program.{Program};
-ghost use Rattle.jh_runs.specs.Entry.{owed};
 ghost use Rattle.jh_runs.specs.WellFormed.{lies_in};
-ghost use Rattle.jh_guard.specs.Items.{Item, sorted_item, is_of_objects};
 ghost use Rattle.jh_guard.specs.Writes.{Writes};
 ghost use Rattle.jh_guard.specs.Frames as frames;
 ghost use Rattle.jh_guard.specs.Steps as steps;
@@ -20,7 +18,7 @@ ghost use Rattle.jh_guard.specs.Calls as guard;
 ghost use Rattle.jh_lowered.specs.Statements.{target_in, local_in, claim_in, method_in};
 ghost use Rattle.jh_schemas.specs.Meant.{name_in};
 ghost use Rattle.jh_facts.specs.Facts.{AreFacts};
-ghost use Rattle.jh_changes.specs.Added.{AddsCommands, sorted_in, chosen};
+ghost use Rattle.jh_changes.specs.Added.{AddsCommands, chosen};
 ghost use Rattle.jh_asserting.specs.Told.{AreFormulas};
 ghost use Rattle.jh_naming.specs.Calling.{AreTexts, name_at};
 ghost use Rattle.jh_calls.specs.Called.{IsCalled, callee_of};
@@ -30,35 +28,17 @@ use crate::called::{Called, Surroundings};
 use crate::contracts::{calling_of, renamed_claim};
 use crate::results::put_result;
 use crate::turns::Turns;
-use jh_asserting::{assume_claims, assume_fact, assume_named};
-use jh_changes::{SortedName, push_changed, push_frames, push_growth};
+use jh_asserting::{assume_fact, assume_named};
+use jh_changes::{SortedName, push_frames};
 use jh_command::Command;
 use jh_facts::push_lies;
+use jh_havoc::{push_owed, push_state};
 use jh_lowered::{CallCode, Claim};
 use jh_name::{NoMemory, Place, Text};
 use jh_naming::{Calling, is_among};
 use jh_rules::Ty;
 use jh_schemas::Named;
 use jh_table::Table;
-
-/// Adds what is known of the state after a call by itself: what the method may write takes any value, the state is well
-/// formed, and the sets of objects only grew.
-fn push_state(
-    table: &mut Table,
-    commands: &mut Vec<Command>,
-    called: &Called<'_>,
-    place: Place,
-    well_formed: usize,
-    turn: u32,
-) -> Result<(), NoMemory>
-    requires { is_truth (slice_get (nodes table.old) well_formed) ≡ true }
-    ensures commands { OnOk result ((wf : FormulaTree) (xs : List Item) → slice_get (nodes table.old) well_formed ≡ Some (of_truth wf) → sorted_in called.now.sets.now ≡ map sorted_item (filter is_of_objects xs) → AddsCommands table.new commands.old.items commands.new.items (steps.changed (sorted_in called.now.written.now) turn ++ (steps.assume_named (codes "wf") place wf ∷ steps.growth turn xs))) }
-    ensures grows { Extends table.old table.new }
-{
-    push_changed(table, commands, called.written, turn)?;
-    assume_named(table, commands, "wf", place, well_formed)?;
-    push_growth(table, commands, called.sets, turn)
-}
 
 /// The fact at a place.
 fn fact_at(facts: &[usize], place: usize) -> usize
@@ -141,22 +121,6 @@ fn push_ensures(
     }
 }
 
-/// Adds that the invariants are true after a call of a public method.
-fn push_owed(
-    table: &mut Table,
-    commands: &mut Vec<Command>,
-    around: &Surroundings<'_>,
-    called: &Called<'_>,
-) -> Result<(), NoMemory>
-    ensures commands { OnOk result ((p : ProgramTree) (g : Program) → AreFormulas p table.old around.now.formulas.now → g.invariants ≡ map (claim_in p) around.now.invariants.now → AddsCommands table.new commands.old.items commands.new.items (steps.assume_claims (owed g (method_in p called.now.method.now)))) }
-    ensures grows { Extends table.old table.new }
-{
-    if !called.method.is_public {
-        return Ok(());
-    }
-    assume_claims(table, commands, around.formulas, around.invariants)
-}
-
 /// Adds that the result of a call lies in its type.
 fn push_typed(
     table: &mut Table,
@@ -195,14 +159,15 @@ pub(crate) fn push_after(
     push_state(
         table,
         commands,
-        called,
+        called.written,
+        called.sets,
         call.place,
         well_formed,
         turns.copies,
     )?;
     push_framed(table, commands, around, called, turns.copies)?;
     push_ensures(table, commands, around.formulas, called, turns)?;
-    push_owed(table, commands, around, called)?;
+    push_owed(table, commands, around.formulas, around.invariants, method)?;
     push_typed(table, commands, around.classes, method.result, turns.result)?;
     put_result(
         table,

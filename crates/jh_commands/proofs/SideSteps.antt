@@ -1,5 +1,5 @@
 -- Commands of lists and choices.
-use Rattle.std.proofs.Common.{◌≡◌, refl, sym, ap, ◌∙◌, subst, ℕ, true, ◌&&◌, List, [], ◌∷◌, ◌++◌, map, Some, slice_get, Result, Ok, Err, IfOk, OnOk}
+use Rattle.std.proofs.Common.{◌≡◌, refl, ap, ◌∙◌, ℕ, true, ◌&&◌, List, [], ◌∷◌, ◌++◌, map, Some, slice_get, Result, Ok, Err, IfOk, OnOk}
 use Rattle.std.specs.declared.alloc.Global.{Global}
 use Rattle.std.specs.declared.boxed.Box.{Box}
 use Rattle.jh_tree.specs.Tree.{FormulaTree, of_truth}
@@ -53,10 +53,6 @@ adds-choice t old new x y a b e h k = record {
   fits = λ i. (h.fits i && k.fits i) && true;
 }
 
-pub adds-stop : (t : Listing) (old new : List Command) → new ≡ old ++ c.Stop ∷ [] → AddsCommands t old new (w.stop ∷ [])
-unfolding command_in command_fits
-adds-stop t old new e = record { added = c.Stop ∷ []; list = e; are = refl; fits = refl }
-
 pub adds-leave : (t : Listing) (old new : List Command) → new ≡ old ++ c.Leave ∷ [] → AddsCommands t old new (w.leave ∷ [])
 unfolding command_in command_fits
 adds-leave t old new e = record { added = c.Leave ∷ []; list = e; are = refl; fits = refl }
@@ -69,4 +65,4 @@ pub truth-is : (t : Listing) (n : ℕ) (f : FormulaTree) → slice_get (nodes t)
 unfolding the_truth
 truth-is t n f h = ap the_truth h
 
-pub ruleset side_steps = (adds-stop, adds-leave, is-assume, truth-there, truth-is)
+pub ruleset side_steps = (adds-leave, is-assume, truth-there, truth-is)

@@ -1,11 +1,11 @@
 #![tactic(auto, using(crate::proofs::OutlinedSteps::outlined_steps, jh_table::proofs::Listed::growth_steps))]
 
-ghost use Rattle.std.specs.Prelude.{◌≡◌, ◌∷◌, ◌++◌, List, true, map, filter, codes, IfOk, OnOk, Some, slice_get};
+ghost use Rattle.std.specs.Prelude.{◌≡◌, ◌∷◌, ◌++◌, true, map, filter, codes, IfOk, OnOk, Some, slice_get};
 ghost use Rattle.jh_tree.specs.Tree.{of_truth};
 ghost use Rattle.jh_table.specs.Entries.{is_truth};
 ghost use Rattle.jh_table.specs.Growth.{Extends};
 ghost use Rattle.jh_table.specs.Nodes.{nodes};
-ghost use Rattle.jh_guard.specs.Items.{Item, sorted_item, is_of_objects};
+ghost use Rattle.jh_guard.specs.Items.{sorted_item, is_of_objects};
 ghost use Rattle.jh_guard.specs.Terms.{truth_formula};
 ghost use Rattle.jh_guard.specs.Steps as steps;
 ghost use Rattle.jh_lowered.specs.Codes.{truth_code};
@@ -15,11 +15,11 @@ ghost use Rattle.jh_known.specs.Outlines.{source_of};
 ghost use Rattle.jh_commands.specs.Made as made;
 
 use crate::forming::formed_node;
-use jh_asserting::{assert_claims, assume_claims, assume_named};
+use jh_asserting::{assert_claims, assume_claims};
 use jh_assigned::{Changed, Told, changed_by};
-use jh_changes::{SortedName, push_changed, push_growth};
 use jh_command::Command;
 use jh_facts::Known;
+use jh_havoc::push_state;
 use jh_known::Outline;
 use jh_lowered::{Claim, Code, TruthCode};
 use jh_name::{NoMemory, Place};
@@ -32,27 +32,6 @@ use jh_tree::MarkKind;
 pub(crate) struct Head {
     pub(crate) test: usize,
     pub(crate) next: u32,
-}
-
-/// Adds that the state is well formed, and that sets of objects only grew since their copies at a turn: `sets` are
-/// those among some of the state.
-fn push_state(
-    table: &mut Table,
-    commands: &mut Vec<Command>,
-    outline: &Outline<'_>,
-    this: Option<usize>,
-    scope: &[Known<'_>],
-    place: Place,
-    sets: &[SortedName<'_>],
-    turn: u32,
-) -> Result<(), NoMemory>
-    requires { made.Outlined table.old outline.now }
-    ensures commands { OnOk result ((xs : List Item) → sorted_in sets.now ≡ map sorted_item (filter is_of_objects xs) → AddsCommands table.new commands.old.items commands.new.items (steps.assume_named (codes "wf") place (made.formed_in outline.now this scope.now) ∷ steps.growth turn xs)) }
-    ensures grows { Extends table.old table.new }
-{
-    let formed = formed_node(table, outline, this, scope)?;
-    assume_named(table, commands, "wf", place, formed)?;
-    push_growth(table, commands, sets, turn)
 }
 
 /// The names that a loop changes, and the sets of objects among the state that it may write.
@@ -94,18 +73,16 @@ fn push_any(
     ensures grows { Extends table.old table.new }
 {
     let changed = changed_in(table, outline, scope, body)?;
-    let next = push_changed(table, commands, changed.names.as_slice(), turn)?;
+    let formed = formed_node(table, outline, this, scope)?;
     push_state(
         table,
         commands,
-        outline,
-        this,
-        scope,
-        place,
+        changed.names.as_slice(),
         changed.sets.as_slice(),
+        place,
+        formed,
         turn,
-    )?;
-    Ok(next)
+    )
 }
 
 /// Adds what comes before the condition of a loop, and the checks of the condition.

@@ -1,17 +1,13 @@
 #![tactic(auto, using(crate::proofs::OutlinedSteps::outlined_steps, jh_facts::proofs::FactSteps::fact_steps, jh_table::proofs::Listed::growth_steps))]
 
-ghost use Rattle.std.specs.Prelude.{◌≡◌, ◌∷◌, ◌++◌, [], true, if◌then◌else◌, map, option_map, IfOk, OnOk, Some, slice_get};
-ghost use Rattle.jh_tree.specs.Tree.{FormulaTree, of_truth};
-ghost use Rattle.jh_tree.specs.Tree as t;
-ghost use Rattle.jh_tree.specs.declared.mark.MarkKind.TheVariants as kind;
-ghost use Rattle.jh_table.specs.Entries.{Listing, is_truth};
+ghost use Rattle.std.specs.Prelude.{◌≡◌, ◌∷◌, ◌++◌, [], map, option_map, IfOk, OnOk, Some, slice_get};
+ghost use Rattle.jh_tree.specs.Tree.{of_truth};
+ghost use Rattle.jh_table.specs.Entries.{Listing};
 ghost use Rattle.jh_table.specs.Growth.{Extends};
 ghost use Rattle.jh_table.specs.Nodes.{nodes};
 ghost use Rattle.jh_vars.specs.Written.{Callee};
 ghost use Rattle.jh_guard.specs.Methods as methods;
-ghost use Rattle.jh_guard.specs.Steps as steps;
 ghost use Rattle.jh_lowered.specs.Statements.{claim_in, local_in, method_in};
-ghost use Rattle.jh_facts.specs.Facts.{AreFacts, AddsFacts};
 ghost use Rattle.jh_facts.specs.States.{local_of};
 ghost use Rattle.jh_changes.specs.Added.{AddsCommands};
 ghost use Rattle.jh_commands.specs.Made as made;
@@ -22,10 +18,11 @@ use crate::forming::formed_node;
 use crate::returning::returned_node;
 use crate::sides::{push_leave, sequence};
 use crate::statements::push_all;
-use jh_asserting::{assume_claims, assume_named, formula_node};
+use jh_asserting::{assume_named, formula_node};
 use jh_changes::push_copies;
 use jh_command::Command;
 use jh_facts::Known;
+use jh_havoc::push_owed;
 use jh_known::{Callable, Outline};
 use jh_lowered::{Claim, Local, MethodCode};
 use jh_name::NoMemory;
@@ -82,13 +79,6 @@ fn push_requires(
     }
 }
 
-/// The invariants that a method is owed and owes: all for a public one, none for another.
-pub(crate) fn owed<'a>(outline: &Outline<'a>, is_public: bool) -> &'a [Claim]
-    ensures { result.now ≡ (if is_public then outline.now.invariants.now else []) }
-{
-    if is_public { outline.invariants } else { &[] }
-}
-
 /// Adds that the state is well formed and that `requires` is true.
 fn push_known(
     table: &mut Table,
@@ -121,11 +111,12 @@ fn push_entry(
     ensures grows { Extends table.old table.new }
 {
     push_known(table, commands, outline, method, scope)?;
-    assume_claims(
+    push_owed(
         table,
         commands,
         outline.formulas,
-        owed(outline, method.is_public),
+        outline.invariants,
+        method,
     )?;
     push_copies(table, commands, outline.state, 1)
 }

@@ -3,7 +3,6 @@
 ghost use Rattle.std.specs.Prelude.{◌≡◌, ◌<◌, ◌∷◌, [], List, true, map, length, codes, option_map, IfOk, OnOk, Some, slice_get};
 ghost use Rattle.jh_tree.specs.Tree.{FormulaTree, of_truth};
 ghost use Rattle.jh_tree.specs.Tree as t;
-ghost use Rattle.jh_tree.specs.declared.mark.MarkKind.TheVariants as kind;
 ghost use Rattle.jh_table.specs.Entries.{is_truth};
 ghost use Rattle.jh_table.specs.Growth.{Extends};
 ghost use Rattle.jh_table.specs.Nodes.{nodes};
@@ -16,9 +15,9 @@ ghost use Rattle.jh_facts.specs.Facts.{AreFacts, AddsFacts};
 ghost use Rattle.jh_commands.specs.Made as made;
 ghost use Rattle.jh_known.specs.Outlines.{IsCallable, callee_of, program_in, writes_in, source_of};
 
-use crate::methods::owed;
 use jh_asserting::{bare_mark, claim_mark, formula_node};
 use jh_changes::push_frames;
+use jh_havoc::owed;
 use jh_known::{Callable, Outline};
 use jh_lowered::{Claim, MethodCode};
 use jh_make::{conjunction_of, labelled, truth};
@@ -174,7 +173,12 @@ fn push_returned(
     ensures grows { Extends table.old table.new }
 {
     push_ensures(table, facts, outline, method.code)?;
-    push_invariants(table, facts, outline, owed(outline, method.code.is_public))?;
+    push_invariants(
+        table,
+        facts,
+        outline,
+        owed(outline.invariants, method.code.is_public),
+    )?;
     push_framed(table, facts, outline, method)
 }
 

@@ -88,14 +88,6 @@ pub(crate) fn push_choice(
     Ok(())
 }
 
-/// Adds that no run goes on.
-pub(crate) fn push_stop(commands: &mut Vec<Command>) -> Result<(), NoMemory>
-    ensures { OnOk result ((t : Listing) → AddsCommands t commands.old.items commands.new.items (w.stop ∷ [])) }
-{
-    commands.push(Command::Stop)?;
-    Ok(())
-}
-
 /// Adds that the method returns.
 pub(crate) fn push_leave(commands: &mut Vec<Command>) -> Result<(), NoMemory>
     ensures { OnOk result ((t : Listing) → AddsCommands t commands.old.items commands.new.items (w.leave ∷ [])) }

@@ -21,8 +21,8 @@ ghost use Rattle.jh_commands.specs.Sides.{IsCommand};
 use crate::calling::push_call;
 use crate::loops::push_head;
 use crate::scope::declare;
-use crate::sides::{Side, entered, left, passed_by, push_choice, push_stop, sequence};
-use jh_asserting::{assert_claim, assert_claims, assume_claim};
+use crate::sides::{Side, entered, left, passed_by, push_choice, sequence};
+use jh_asserting::{assert_claim, assume_claim};
 use jh_command::Command;
 use jh_facts::Known;
 use jh_known::Outline;
@@ -77,14 +77,7 @@ fn push_kept(
     ensures commands { OnOk result (AddsCommands table.new commands.old.items commands.new.items (steps.assert_claims kind.LoopKept (map (claim_in (source_of outline.now)) invariants.now) ++ w.stop ∷ [])) }
     ensures grows { Extends table.old table.new }
 {
-    assert_claims(
-        table,
-        commands,
-        outline.formulas,
-        MarkKind::LoopKept,
-        invariants,
-    )?;
-    push_stop(commands)
+    jh_havoc::push_kept(table, commands, outline.formulas, invariants)
 }
 
 /// Adds the choice between two sides, and answers the turn that is free behind the second.

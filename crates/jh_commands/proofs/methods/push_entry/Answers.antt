@@ -1,17 +1,15 @@
-use Rattle.std.proofs.Common.{[], ◌∷◌, ◌++◌, List, map, subst}
-use Rattle.jh_table.proofs.Listed.{extends-trans}
-use Rattle.jh_runs.specs.Code.{Claim}
+use Rattle.std.proofs.Common.{◌++◌, List, map, subst}
 use Rattle.jh_runs.specs.Entry.{owed}
 use Rattle.jh_guard.specs.Items.{Sorted, items, sorted_item}
 use Rattle.jh_guard.specs.Steps.{assume_claims, copies}
-use Rattle.jh_lowered.specs.Statements.{claim_in, method_in}
-use Rattle.jh_changes.specs.Added.{AddsCommands, sorted_in}
+use Rattle.jh_lowered.specs.Statements.{method_in}
+use Rattle.jh_changes.specs.Added.{AddsCommands}
 use Rattle.jh_changes.proofs.AddedSteps.{adds-two, on-ok}
 use Rattle.jh_known.specs.Outlines.{source_of, program_in}
 use Rattle.jh_asserting.proofs.ToldSteps.{formulas-grow}
 use Rattle.jh_commands.specs.Made.{known_at}
 use Rattle.jh_commands.proofs.OutlinedSteps.{the-outline}
-use Rattle.jh_commands.proofs.MethodSteps.{owed-are}
+use Rattle.jh_known.proofs.OutlineSteps.{program-invariants}
 use Rattle.jh_commands.proofs.methods.push_entry.Goals as goal
 
 pub returns-clause-commands : goal.returns-clause-commands
@@ -21,18 +19,16 @@ returns-clause-commands c =
     let src = source_of o in
     let outline = the-outline c.args.table.now o c.requires.outline in
     let t1 = c.push_known.new.table in
-    let t2 = c.assume_claims.new.table in
+    let t2 = c.push_owed.new.table in
     let t3 = c.push_copies.new.table in
     let old = c.args.commands.now.items in
     let m1 = c.push_known.new.commands.items in
-    let m2 = c.assume_claims.new.commands.items in
+    let m2 = c.push_owed.new.commands.items in
     let new = c.push_copies.new.commands.items in
     let first = known_at o (method_in src x) in
     let claims = owed (program_in o) (method_in src x) in
-    let told =
-    subst (λ (cs : List Claim). AddsCommands t2 m1 m2 (assume_claims cs)) (owed-are o x c.owed.result.now c.owed.ensures)
-    (c.in_ok-assume_claims.ensures.commands src (formulas-grow c.args.table.now t1 c.push_known.ensures.grows src o.formulas.now outline.formulas)) in
+    let told = c.in_ok-push_owed.ensures.commands src (program_in o) (formulas-grow c.args.table.now t1 c.push_known.ensures.grows src o.formulas.now outline.formulas) (program-invariants o) in
     on-ok c.push_copies.result
-    (λ h m. adds-two t2 t3 old m2 new (first ++ assume_claims claims) (copies (map sorted_item (items (program_in o))) 1) (adds-two t1 t2 old m1 m2 first (assume_claims claims) c.in_ok-push_known.ensures.commands c.assume_claims.ensures.grows told) c.push_copies.ensures.grows
+    (λ h m. adds-two t2 t3 old m2 new (first ++ assume_claims claims) (copies (map sorted_item (items (program_in o))) 1) (adds-two t1 t2 old m1 m2 first (assume_claims claims) c.in_ok-push_known.ensures.commands c.push_owed.ensures.grows told) c.push_copies.ensures.grows
     (subst (λ (xs : List Sorted). AddsCommands t3 m2 new (copies xs 1)) outline.names h))
     c.push_copies.ensures.commands

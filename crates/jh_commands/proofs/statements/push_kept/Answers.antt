@@ -1,18 +1,10 @@
-use Rattle.std.proofs.Common.{[], ◌∷◌, map}
-use Rattle.jh_tree.specs.declared.mark.MarkKind.TheVariants as kind
-use Rattle.jh_table.proofs.Listed.{extends-refl}
-use Rattle.jh_wp.specs.Command as w
-use Rattle.jh_guard.specs.Steps.{assert_claims}
-use Rattle.jh_lowered.specs.Statements.{claim_in}
-use Rattle.jh_changes.proofs.AddedSteps.{adds-two, on-ok}
+use Rattle.jh_changes.proofs.AddedSteps.{on-ok}
 use Rattle.jh_known.specs.Outlines.{source_of}
 use Rattle.jh_commands.proofs.OutlinedSteps.{the-outline}
 use Rattle.jh_commands.proofs.statements.push_kept.Goals as goal
 
 pub returns-clause-commands : goal.returns-clause-commands
 returns-clause-commands c =
-    let src = source_of c.args.outline.now in
-    let u = c.assert_claims.new.table in
-    on-ok c.push_stop.result
-    (λ h. adds-two u u c.args.commands.now.items c.assert_claims.new.commands.items c.push_stop.new.commands.items (assert_claims kind.LoopKept (map (claim_in src) c.args.invariants.now)) (w.stop ∷ []) (c.in_ok-assert_claims.ensures.commands src (the-outline c.args.table.now c.args.outline.now c.requires).formulas) (extends-refl u) (h u))
-    c.push_stop.ensures
+    on-ok c.push_kept.result
+    (λ h. h (source_of c.args.outline.now) (the-outline c.args.table.now c.args.outline.now c.requires).formulas)
+    c.push_kept.ensures.commands

@@ -1,0 +1,13 @@
+use Rattle.std.proofs.Common.{List, subst}
+use Rattle.jh_runs.specs.Code.{Claim}
+use Rattle.jh_guard.specs.Steps.{assume_claims}
+use Rattle.jh_changes.specs.Added.{AddsCommands}
+use Rattle.jh_changes.proofs.AddedSteps.{on-ok}
+use Rattle.jh_havoc.proofs.StopSteps.{owed-are}
+use Rattle.jh_havoc.proofs.claims.push_owed.Goals as goal
+
+pub returns-clause-commands : goal.returns-clause-commands
+returns-clause-commands c =
+    on-ok c.assume_claims.result
+    (λ h p g is all. subst (λ (cs : List Claim). AddsCommands c.assume_claims.new.table c.args.commands.now.items c.assume_claims.new.commands.items (assume_claims cs)) (owed-are p g c.args.method.now c.args.invariants.now c.owed.result.now all c.owed.ensures) (h p is))
+    c.assume_claims.ensures.commands
