@@ -1,15 +1,11 @@
 -- The nodes with a part in a class.
-use Rattle.std.specs.Prelude.{◌≡◌, ◌<◌, ◌++◌, ℕ, zero, suc, List, [], length, Option, Some, None, slice_get, if◌then◌else◌, ◌==◌}
-use Rattle.std.specs.Option.{option_map_or}
+use Rattle.std.specs.Prelude.{◌≡◌, ◌<◌, ◌++◌, ℕ, zero, suc, List, length, Option, Some, None, slice_get, if◌then◌else◌, ◌==◌}
 use Rattle.std.specs.declared.alloc.Global.{Global}
 use Rattle.std.specs.declared.vec.Vec.{Vec}
 use Rattle.jh_forest.specs.declared.merge.Merge.{Merge}
 use Rattle.jh_closure.specs.declared.node.Node.{Node}
 use Rattle.jh_closure.specs.Nodes.{EachPart, Has}
-
--- the list at a place
-abbrev pub row : List (Vec ℕ Global) → ℕ → List ℕ
-row uses r = option_map_or (λ (v : Vec ℕ Global). v.items) (slice_get uses r) []
+pub use Rattle.jh_uses.specs.Lists.{row}
 
 abbrev pub passed : Option Merge → (ℕ → List ℕ) → ℕ → List ℕ
 passed (Some m) f r = if r == m.large then f m.large ++ f m.small else f r

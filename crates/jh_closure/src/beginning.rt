@@ -13,9 +13,9 @@ use crate::levels::{State, add_mark};
 use crate::node::node_at;
 use crate::settling::{settle, sign_all};
 use crate::signatures::Signatures;
-use crate::uses::{add_use, no_uses, uses_of};
 use jh_forest::Forest;
 use jh_name::NoMemory;
+use jh_uses::{add_use, no_uses, uses_of};
 use std::alloc::Global;
 
 /// Adds a node to the lists of its parts.

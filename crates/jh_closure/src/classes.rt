@@ -4,9 +4,9 @@ ghost use Rattle.jh_closure.specs.Uses.{AreUses};
 ghost use Rattle.jh_closure.specs.declared.node.Node.{Node};
 
 use crate::signatures::Signatures;
-use crate::uses::{pass_uses, take_uses};
 use jh_forest::{Forest, Merge};
 use jh_name::NoMemory;
+use jh_uses::{pass_uses, take_uses};
 use std::alloc::Global;
 
 /// The classes of nodes: how they were joined, the nodes with a part in each, and the nodes by their signatures.

@@ -10,7 +10,6 @@ mod levels;
 mod node;
 mod settling;
 mod signatures;
-mod uses;
 
 pub use closure::Closure;
 pub use equation::Equation;

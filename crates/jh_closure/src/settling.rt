@@ -11,9 +11,9 @@ use crate::Node;
 use crate::classes::{Core, unite};
 use crate::node::{node_at, signature};
 use crate::signatures::Signatures;
-use crate::uses::uses_of;
 use jh_forest::{Cause, Forest, Why};
 use jh_name::NoMemory;
+use jh_uses::uses_of;
 use std::alloc::Global;
 
 /// Looks a node up by its signature. Where another one has it, both wait to be one.

@@ -1,11 +1,11 @@
 ghost use Rattle.std.specs.Prelude.{◌≡◌, ◌≢◌, ◌<◌, ◌++◌, ◌-◌, [], ◌∷◌, ℕ, IfOk, OnErr, OnOk, length, take, if◌then◌else◌, ◌==◌};
-ghost use Rattle.jh_closure.specs.Uses.{row};
+ghost use Rattle.jh_uses.specs.Lists.{row};
 
 use jh_name::NoMemory;
 use std::alloc::Global;
 
 /// Empty lists for so many nodes.
-pub(crate) fn no_uses(alloc: Global, count: usize) -> Result<Vec<Vec<usize>>, NoMemory>
+pub fn no_uses(alloc: Global, count: usize) -> Result<Vec<Vec<usize>>, NoMemory>
     ensures empty { IfOk result (λ made. (r : ℕ) → row made.items r ≡ []) }
     ensures count { IfOk result (λ made. length made.items ≡ count) }
 {
@@ -17,7 +17,7 @@ pub(crate) fn no_uses(alloc: Global, count: usize) -> Result<Vec<Vec<usize>>, No
 }
 
 /// The nodes with a part in a class.
-pub(crate) fn uses_of(uses: &Vec<Vec<usize>>, class: usize) -> &[usize]
+pub fn uses_of(uses: &Vec<Vec<usize>>, class: usize) -> &[usize]
     requires { class < length uses.now.items }
     ensures { result.now ≡ row uses.now.items class }
 {
@@ -51,7 +51,7 @@ fn shorten(list: &mut Vec<usize>, by: usize)
 }
 
 /// Adds a node with a part in a class.
-pub(crate) fn add_use(uses: &mut Vec<Vec<usize>>, class: usize, node: usize) -> Result<(), NoMemory>
+pub fn add_use(uses: &mut Vec<Vec<usize>>, class: usize, node: usize) -> Result<(), NoMemory>
     requires { class < length uses.old.items }
     ensures added { OnOk result ((r : ℕ) → row uses.new.items r ≡ (if r == class then row uses.old.items class ++ node ∷ [] else row uses.old.items r)) }
     ensures count { length uses.new.items ≡ length uses.old.items }
@@ -60,7 +60,7 @@ pub(crate) fn add_use(uses: &mut Vec<Vec<usize>>, class: usize, node: usize) -> 
 }
 
 /// Adds the list of the class that goes to that of the class that stays. Where memory is wanting nothing changes.
-pub(crate) fn pass_uses(
+pub fn pass_uses(
     alloc: Global,
     uses: &mut Vec<Vec<usize>>,
     small: usize,
@@ -77,7 +77,7 @@ pub(crate) fn pass_uses(
 }
 
 /// Takes the list of the class that went off that of the class that stayed.
-pub(crate) fn take_uses(uses: &mut Vec<Vec<usize>>, small: usize, large: usize)
+pub fn take_uses(uses: &mut Vec<Vec<usize>>, small: usize, large: usize)
     requires small { small < length uses.old.items }
     requires large { large < length uses.old.items }
     ensures taken { (r : ℕ) → row uses.new.items r ≡ (if r == large then take (length (row uses.old.items large) - length (row uses.old.items small)) (row uses.old.items large) else row uses.old.items r) }

@@ -1,6 +1,6 @@
 use Rattle.std.proofs.Common.{◌≡◌, [], ℕ, length}
-use Rattle.jh_closure.specs.Uses.{row}
-use Rattle.jh_closure.proofs.uses.no_uses.Given as goal
+use Rattle.jh_uses.specs.Lists.{row}
+use Rattle.jh_uses.proofs.lists.no_uses.Given as goal
 
 abbrev pub invariant-loop-node : goal.invariant-loop-node
 invariant-loop-node l = record {
