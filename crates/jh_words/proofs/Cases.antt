@@ -2,7 +2,7 @@
 -- hand it over.
 use Rattle.std.proofs.Common.{◌≡◌, refl, ℕ, List, [], ◌∷◌, ◌==◌}
 use Rattle.std.specs.Prelude.{Option, None, Some, codes, if◌then◌else◌}
-use Rattle.jh_words.specs.CommandLine.{Job, Word, job_of, run, verify}
+use Rattle.jh_words.specs.CommandLine.{Job, Word, gen, job_of, run, verify}
 
 -- the words of a line
 abbrev with_byte : ℕ → List Word → List Word
@@ -22,6 +22,9 @@ plain_report file = report file 1 5000 1
 
 abbrev run_for : Word → Word → Word → Word → ℕ → Option Job
 run_for file class method heap steps = Some (run (record { file = file; class = class; method = method; heap = heap; steps = steps }))
+
+abbrev made : ℕ → ℕ → Option Job
+made seed methods = Some (gen (record { seed = seed; methods = methods }))
 
 abbrev nothing : Option Job
 nothing = None
@@ -273,7 +276,52 @@ steps_behind_the_end = refl
 one_file_for_both : job_of (line (codes "run a C.m a")) ≡ run_for (codes "a") (codes "C") (codes "m") (codes "a") 10000
 one_file_for_both = refl
 
--- ---- commands that aren't there
+-- ---- gen
 
-generate : job_of (line (codes "gen 5 6")) ≡ nothing
+generate : job_of (line (codes "gen 5 6")) ≡ made 5 6
 generate = refl
+
+no_seed : job_of (line (codes "gen 0 1")) ≡ made 0 1
+no_seed = refl
+
+most_methods : job_of (line (codes "gen 1 200")) ≡ made 1 200
+most_methods = refl
+
+many_methods : job_of (line (codes "gen 1 201")) ≡ nothing
+many_methods = refl
+
+no_methods : job_of (line (codes "gen 0 0")) ≡ nothing
+no_methods = refl
+
+zeros_before : job_of (line (codes "gen 007 0012")) ≡ made 7 12
+zeros_before = refl
+
+the_greatest_seed : job_of (line (codes "gen 999999999999999999 3")) ≡ made 999999999999999999 3
+the_greatest_seed = refl
+
+a_seed_of_nineteen_digits : job_of (line (codes "gen 1000000000000000000 3")) ≡ nothing
+a_seed_of_nineteen_digits = refl
+
+methods_of_nineteen_digits : job_of (line (codes "gen 1 0000000000000000003")) ≡ nothing
+methods_of_nineteen_digits = refl
+
+a_seed_alone : job_of (line (codes "gen 5")) ≡ nothing
+a_seed_alone = refl
+
+three_numbers : job_of (line (codes "gen 5 6 7")) ≡ nothing
+three_numbers = refl
+
+a_seed_with_sign : job_of (line (codes "gen +5 6")) ≡ nothing
+a_seed_with_sign = refl
+
+a_seed_in_letters : job_of (line (codes "gen x 6")) ≡ nothing
+a_seed_in_letters = refl
+
+an_option_of_none : job_of (line (codes "gen 5 6 --rounds 2")) ≡ nothing
+an_option_of_none = refl
+
+an_end_before_numbers : job_of (line (codes "gen -- 5 6")) ≡ made 5 6
+an_end_before_numbers = refl
+
+a_negative_seed : job_of (line (codes "gen -- -5 6")) ≡ nothing
+a_negative_seed = refl

@@ -1,5 +1,1 @@
 mod Cases
-mod Cuts
-mod Lists
-mod Numbers
-mod Resuming

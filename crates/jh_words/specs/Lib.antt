@@ -1,4 +1,3 @@
 pub mod CommandLine
 pub mod Held
-pub mod Reading
 pub mod Usage

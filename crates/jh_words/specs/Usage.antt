@@ -9,12 +9,15 @@ unfoldable pub usage_page : List ℕ
 usage_page =
     codes "Usage: jahob verify FILE [--workers n] [--rounds r] [--leaves k]\n"
     ++ (codes "       jahob run FILE CLASS.METHOD HEAP [--steps n]\n"
+    ++ (codes "       jahob gen SEED METHODS\n"
     ++ (codes "\n"
     ++ (codes "Commands:\n"
     ++ (codes "  verify  Proves that each method of the program in FILE meets its\n"
     ++ (codes "          specification, and says so for each thing that is to be proved\n"
     ++ (codes "  run     Runs a method of the program in FILE from the heap in the file HEAP,\n"
     ++ (codes "          and prints its result and the heap at the end\n"
+    ++ (codes "  gen     Makes a program with METHODS methods, 1 to 200, from the number SEED,\n"
+    ++ (codes "          of at most 18 digits, proves it, and says how much is proved and how\n"
     ++ (codes "\n"
     ++ (codes "Options, anywhere behind the command, as --steps 5 or --steps=5:\n"
     ++ (codes "  --workers n  How many proofs are sought at a time: 1 to 16 [default: 1]\n"
@@ -30,7 +33,7 @@ usage_page =
     ++ (codes "10 null dereferenced, 11 assert failed, 12 no free object, 13 no step left,\n"
     ++ (codes "14 a number too great, 15 the heap is refused.\n"
     ++ (codes "\n"
-    ++ codes "Example: jahob verify examples/swap.j\n"))))))))))))))))))))))
+    ++ codes "Example: jahob verify examples/swap.j\n")))))))))))))))))))))))))
 
 -- a text ends with that page; what stands before it, if anything, says what is wrong, and tests show it
 abbrev pub IsUsage : List ℕ → Type 0

@@ -3,12 +3,14 @@
 
 ghost use Rattle.std.specs.Prelude.{◌≡◌, List, map, option_map, option_and_then, string_bytes, IfOk};
 ghost use Rattle.jh_words.specs.CommandLine as spec;
-ghost use Rattle.jh_words.specs.Held.{given_in, job_in, parts_in, verify_in};
+ghost use Rattle.jh_arguments.specs.Held.{given_in, parts_in};
+ghost use Rattle.jh_words.specs.Held.{job_in};
 
-use crate::job::{Job, Run, Verify};
-use crate::parts::{Given, Reader, parts};
-use crate::setting::{are_options, leaves, number_of, rounds, steps, workers};
-use crate::shape::cut_at_dot;
+use crate::job::{Gen, Job, Run, Verify};
+use jh_arguments::{
+    Given, Reader, are_options, cut_at_dot, leaves, methods_in, number_in, number_of, parts,
+    rounds, steps, workers,
+};
 use jh_name::NoMemory;
 use jh_options::Options;
 use std::alloc::Global;
@@ -121,6 +123,29 @@ fn run_method<'a>(
     }
 }
 
+/// The source of a seed with so many methods.
+fn generated<'a>(seed: &str, methods: &str) -> Option<Job<'a>>
+    ensures { option_map job_in result ≡ spec.generated (spec.number_in seed.now) (spec.methods_in methods.now) }
+{
+    match (number_in(seed), methods_in(methods)) {
+        (Some(seed), Some(methods)) => Some(Job::Gen(Gen {
+            seed,
+            methods: methods as u32,
+        })),
+        _ => None,
+    }
+}
+
+/// The job of `gen SEED METHODS`, which has no options.
+fn gen_source<'a>(seed: &str, methods: &str, options: &[Given<'a>]) -> Option<Job<'a>>
+    ensures { option_map job_in result ≡ spec.gen_source seed.now methods.now (map given_in options.now) }
+{
+    match options {
+        [] => generated(seed, methods),
+        _ => None,
+    }
+}
+
 /// The job of `verify` with these words behind it.
 fn verify_job<'a>(words: &[&'a str], options: &[Given<'a>]) -> Option<Job<'a>>
     ensures { option_map job_in result ≡ spec.verify_job (map (λ word. word.now) words.now) (map given_in options.now) }
@@ -141,6 +166,16 @@ fn run_job<'a>(words: &[&'a str], options: &[Given<'a>]) -> Option<Job<'a>>
     }
 }
 
+/// The job of `gen` with these words behind it.
+fn gen_job<'a>(words: &[&'a str], options: &[Given<'a>]) -> Option<Job<'a>>
+    ensures { option_map job_in result ≡ spec.gen_job (map (λ word. word.now) words.now) (map given_in options.now) }
+{
+    match words {
+        [seed, methods] => gen_source(seed, methods, options),
+        _ => None,
+    }
+}
+
 /// The job of a command, by what the words behind it are made of.
 fn job_by<'a>(command: &str, reader: &Reader<'a>) -> Option<Job<'a>>
     ensures { option_map job_in result ≡ spec.job_by command.now (parts_in reader.now) }
@@ -148,6 +183,7 @@ fn job_by<'a>(command: &str, reader: &Reader<'a>) -> Option<Job<'a>>
     match command {
         "verify" => verify_job(reader.words.as_slice(), reader.options.as_slice()),
         "run" => run_job(reader.words.as_slice(), reader.options.as_slice()),
+        "gen" => gen_job(reader.words.as_slice(), reader.options.as_slice()),
         _ => None,
     }
 }

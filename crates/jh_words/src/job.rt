@@ -1,7 +1,7 @@
 use jh_options::Options;
 
 /// The report on a file.
-#[derive(Clone, Copy, Debug)]
+#[derive(Clone, Copy)]
 pub struct Verify<'a> {
     /// The file of the source.
     pub file: &'a str,
@@ -12,7 +12,7 @@ pub struct Verify<'a> {
 }
 
 /// A run of a method.
-#[derive(Clone, Copy, Debug)]
+#[derive(Clone, Copy)]
 pub struct Run<'a> {
     /// The file of the source.
     pub file: &'a str,
@@ -26,9 +26,19 @@ pub struct Run<'a> {
     pub steps: u64,
 }
 
-/// What the words of a command line ask for: the report on a file, or a run. The texts are those of the words.
-#[derive(Clone, Copy, Debug)]
+/// The summary of what is proved of a source that is made from a number.
+#[derive(Clone, Copy)]
+pub struct Gen {
+    /// The number that it is made from.
+    pub seed: u64,
+    /// How many methods it has, from 1 to 200.
+    pub methods: u32,
+}
+
+/// What the words of a command line ask for: the report on a file, a run, or the summary of a source that is made. The texts are those of the words.
+#[derive(Clone, Copy)]
 pub enum Job<'a> {
     Verify(Verify<'a>),
     Run(Run<'a>),
+    Gen(Gen),
 }

@@ -3,12 +3,9 @@
 
 mod command;
 mod job;
-mod parts;
 mod reading;
-mod setting;
-mod shape;
 mod usage;
 
-pub use job::{Job, Run, Verify};
+pub use job::{Gen, Job, Run, Verify};
 pub use reading::{WordsError, read};
 pub use usage::{no_method, page};

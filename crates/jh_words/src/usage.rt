@@ -5,11 +5,11 @@ ghost use Rattle.std.specs.Prelude.{◌≡◌, string_bytes, IfOk};
 ghost use Rattle.jh_words.specs.Usage.{IsUsage, usage_page};
 
 use crate::command::{is_file, is_name};
-use crate::parts::{Given, Reader, parts};
-use crate::setting::{Setting, number_for, setting_named};
-use crate::shape::cut_at_dot;
 use clap::error::ErrorKind;
 use clap::{Arg, Command, Error};
+use jh_arguments::{
+    Given, Reader, Setting, cut_at_dot, methods_in, number_for, number_in, parts, setting_named,
+};
 use jh_name::{NoMemory, Text};
 use std::alloc::{AllocError, Global};
 
@@ -20,12 +20,15 @@ pub fn page() -> &'static str
 {
     "Usage: jahob verify FILE [--workers n] [--rounds r] [--leaves k]
        jahob run FILE CLASS.METHOD HEAP [--steps n]
+       jahob gen SEED METHODS
 
 Commands:
   verify  Proves that each method of the program in FILE meets its
           specification, and says so for each thing that is to be proved
   run     Runs a method of the program in FILE from the heap in the file HEAP,
           and prints its result and the heap at the end
+  gen     Makes a program with METHODS methods, 1 to 200, from the number SEED,
+          of at most 18 digits, proves it, and says how much is proved and how
 
 Options, anywhere behind the command, as --steps 5 or --steps=5:
   --workers n  How many proofs are sought at a time: 1 to 16 [default: 1]
@@ -71,16 +74,33 @@ fn run_command<'a>(alloc: Global) -> Result<Command<'a>, AllocError> {
         .arg(option(alloc, "steps", "n"))
 }
 
-/// The commands with the words and options of each, but for what a word or a number may be.
-fn declared<'a>(alloc: Global) -> Result<Command<'a>, AllocError> {
-    let verify = verify_command(alloc)?;
-    let run = run_command(alloc)?;
+fn gen_command<'a>(alloc: Global) -> Result<Command<'a>, AllocError> {
+    Command::new(alloc, "gen")
+        .arg(word(alloc, "SEED"))?
+        .arg(word(alloc, "METHODS"))
+}
+
+/// The program, without its commands.
+fn program<'a>(alloc: Global) -> Command<'a> {
     Command::new(alloc, "jahob")
         .no_binary_name(true)
         .arg_required_else_help(true)
         .subcommand_required(true)
-        .subcommand(verify)?
-        .subcommand(run)
+}
+
+/// A program with a command more, where there was memory to make it.
+fn with<'a>(
+    program: Command<'a>,
+    command: Result<Command<'a>, AllocError>,
+) -> Result<Command<'a>, AllocError> {
+    program.subcommand(command?)
+}
+
+/// The commands with the words and options of each, but for what a word or a number may be.
+fn declared<'a>(alloc: Global) -> Result<Command<'a>, AllocError> {
+    let declared = with(program(alloc), verify_command(alloc))?;
+    let declared = with(declared, run_command(alloc))?;
+    with(declared, gen_command(alloc))
 }
 
 /// What an error says before its own account of the usage.
@@ -174,12 +194,31 @@ fn say_words(text: &mut String, words: &[&str]) -> Result<(), NoMemory> {
     }
 }
 
-/// Says what is wrong with the values among the words behind the command.
-fn say_values(text: &mut String, reader: &Reader<'_>) -> Result<(), NoMemory> {
+/// Says the first of the numbers of `gen` that isn't one that may stand at its place.
+fn say_seed_or_methods(text: &mut String, words: &[&str]) -> Result<(), NoMemory> {
+    match words {
+        [seed, ..] if number_in(seed).is_none() => {
+            say_wrong(text, seed, "<SEED>", "a number of 1 to 18 digits is wanted")
+        }
+        [_, methods, ..] if methods_in(methods).is_none() => say_wrong(
+            text,
+            methods,
+            "<METHODS>",
+            "a number from 1 to 200 is wanted, of at most 18 digits",
+        ),
+        _ => Ok(()),
+    }
+}
+
+/// Says what is wrong with the values among the words behind a command.
+fn say_values(text: &mut String, command: &str, reader: &Reader<'_>) -> Result<(), NoMemory> {
     if say_numbers(text, reader.options.as_slice())? {
         return Ok(());
     }
-    say_words(text, reader.words.as_slice())
+    match command {
+        "gen" => say_seed_or_methods(text, reader.words.as_slice()),
+        _ => say_words(text, reader.words.as_slice()),
+    }
 }
 
 /// Says that a hyphen stands alone, which `clap` takes for any other word.
@@ -192,8 +231,8 @@ fn say_hyphen(text: &mut String) -> Result<(), NoMemory> {
 fn say_wrong_values(alloc: Global, text: &mut String, words: &[String]) -> Result<(), NoMemory> {
     match words {
         [] => Ok(()),
-        [_, rest @ ..] => match parts(alloc, rest)? {
-            Some(reader) => say_values(text, &reader),
+        [command, rest @ ..] => match parts(alloc, rest)? {
+            Some(reader) => say_values(text, command.as_str(), &reader),
             None => say_hyphen(text),
         },
     }

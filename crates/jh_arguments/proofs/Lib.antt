@@ -1,0 +1,4 @@
+mod Cuts
+mod Lists
+mod Numbers
+mod Resuming
