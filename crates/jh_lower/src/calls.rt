@@ -1,4 +1,4 @@
-#![tactic(auto, using(jh_ast::proofs::ExprSteps::expr_steps), unfolding(jh_lowered::specs::Codes::any_code))]
+#![tactic(auto, using(jh_ast::proofs::ExprSteps::expr_steps, jh_lowered::proofs::CodeSteps::code_steps), unfolding(jh_lowered::specs::Codes::any_code))]
 
 ghost use Rattle.std.specs.Prelude.{◌≡◌, map, option_map, IfOk, Some};
 ghost use Rattle.jh_ast.specs.Bare.{expr_tree, call_tree};
@@ -8,14 +8,14 @@ ghost use Rattle.jh_runs.specs.Lowered as exprs;
 ghost use Rattle.jh_runs.specs.LoweredStmts as lowered;
 ghost use Rattle.jh_lowered.specs.Codes.{object_code, any_code};
 ghost use Rattle.jh_lower.specs.Lowering.{IsDeclared, source_of};
-ghost use Rattle.jh_lowered.specs.Statements.{call_in, target_in};
+ghost use Rattle.jh_lowered.specs.Statements.{code_in, target_in};
 
 use crate::context::Context;
-use crate::expressions::{expr_code, receiver_class};
-use crate::making::as_object;
+use crate::expressions::{boxed_expr, expr_code, receiver_class};
+use crate::making::{as_object, boxed};
 use jh_ast::{Call, Expr};
 use jh_exprs::{ScopeTable, call_place, class_spelled};
-use jh_lowered::{AnyCode, CallCode, ObjectCode, Target};
+use jh_lowered::{AnyCode, CallCode, Code, ObjectCode, Target};
 use jh_name::{NoMemory, Place, Row, Text};
 use std::alloc::Global;
 
@@ -68,7 +68,8 @@ fn written_receiver(
     if class_spelled(context.lookups, at, expr).is_some() {
         return Ok(None);
     }
-    Ok(Some(as_object(expr_code(alloc, context, at, expr)?)))
+    let code = boxed_expr(alloc, context, at, expr)?;
+    Ok(Some(as_object(code)))
 }
 
 /// The receiver of a call: `this` where none is written and the method is of an object; none of a static method.
@@ -133,8 +134,8 @@ fn parts_of(
     ensures args { IfOk result (λ made. map any_code made.args ≡ map (λ a. exprs.expr_code (source_of context.now) a (scope_by at.now)) (map expr_tree call.now.args)) }
 {
     let method = Text::of(String::from_str(alloc, call.method.text.text())?);
-    let receiver = receiver_code(alloc, context, at, class, call)?;
     let args = arguments(alloc, context, at, call.args.items())?;
+    let receiver = receiver_code(alloc, context, at, class, call)?;
     Ok(Parts {
         receiver,
         method,
@@ -148,21 +149,22 @@ pub fn call_code(
     context: &Context,
     at: &ScopeTable,
     place: Place,
-    target: Target,
+    target: Box<Target>,
     call: &Call,
-) -> Result<CallCode, NoMemory>
+) -> Result<Box<Code>, NoMemory>
     requires { IsDeclared context.now }
-    ensures { IfOk result (λ made. call_in (source_of context.now) made ≡ lowered.call_code (source_of context.now) place (scope_by at.now) (target_in target) (call_tree call.now)) }
+    ensures { IfOk result (λ made. code_in (source_of context.now) made.value ≡ lowered.call_code (source_of context.now) place (scope_by at.now) (target_in target.value) (call_tree call.now)) }
 {
     let class = class_called(context, at, call);
     let parts = parts_of(alloc, context, at, class, call)?;
-    Ok(CallCode {
+    let code = Code::Call(CallCode {
         place,
-        target,
+        target: Box::into_inner(target),
         receiver: parts.receiver,
         receiver_place: call_place(call),
         class,
         method: parts.method,
         args: parts.args,
-    })
+    });
+    boxed(alloc, code)
 }

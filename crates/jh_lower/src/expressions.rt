@@ -6,15 +6,18 @@ ghost use Rattle.jh_exprs.specs.Lookings.{scope_by};
 ghost use Rattle.jh_vars.specs.Resolved.{kind_of_local};
 ghost use Rattle.jh_runs.specs.Lowered as lowered;
 ghost use Rattle.jh_lowered.specs.Codes.{object_code, any_code};
-ghost use Rattle.jh_lower.specs.Lowering.{IsDeclared, source_of};
+ghost use Rattle.jh_lower.specs.Lowering.{IsDeclared, boxed_code, source_of};
 
 use crate::context::Context;
-use crate::making::{as_object, name_code, read_code};
+use crate::making::{
+    BoxedCode, an_object, boxed_object, constant, name_code, null_code, out_of_box, read_code,
+    truth_value,
+};
 use crate::numbers::negative;
 use crate::operators::{binary, negation};
 use jh_ast::{Expr, ExprBody, Word};
 use jh_exprs::{ScopeTable, class_spelled, expr_type};
-use jh_lowered::{AnyCode, NumberCode, ObjectCode, TruthCode};
+use jh_lowered::{AnyCode, ObjectCode};
 use jh_name::{Kind, NoMemory, Place, name};
 use jh_rules::{FieldEntry, LocalEntry, class_of, kind_of};
 use std::alloc::Global;
@@ -80,16 +83,16 @@ fn static_code(
     context: &Context,
     class: Option<usize>,
     word: &Word,
-) -> Result<AnyCode, NoMemory>
+) -> Result<BoxedCode, NoMemory>
     requires { IsDeclared context.now }
-    ensures { IfOk result (λ made. any_code made ≡ lowered.static_code (source_of context.now) class word.now) }
+    ensures { IfOk result (λ made. boxed_code made ≡ lowered.static_code (source_of context.now) class word.now) }
 {
     match class {
-        None => Ok(AnyCode::Object(ObjectCode::Null)),
+        None => null_code(alloc),
         Some(class) => {
             let own = word.text.text();
             let name = context.member_name(alloc, class, own)?;
-            Ok(name_code(context.member_kind(class, own), name))
+            name_code(alloc, context.member_kind(class, own), name)
         }
     }
 }
@@ -100,14 +103,14 @@ fn field_code(
     context: &Context,
     class: Option<usize>,
     word: &Word,
-    receiver: ObjectCode,
+    receiver: Box<ObjectCode>,
     place: Place,
-) -> Result<AnyCode, NoMemory>
+) -> Result<BoxedCode, NoMemory>
     requires { IsDeclared context.now }
-    ensures { IfOk result (λ made. any_code made ≡ lowered.field_code (source_of context.now) class word.now (object_code receiver) place) }
+    ensures { IfOk result (λ made. boxed_code made ≡ lowered.field_code (source_of context.now) class word.now (object_code receiver.value) place) }
 {
     match class {
-        None => Ok(AnyCode::Object(ObjectCode::Null)),
+        None => null_code(alloc),
         Some(class) => {
             let own = word.text.text();
             let name = context.member_name(alloc, class, own)?;
@@ -129,21 +132,15 @@ fn own_code(
     at: &ScopeTable,
     word: &Word,
     entry: FieldEntry,
-) -> Result<AnyCode, NoMemory>
+) -> Result<BoxedCode, NoMemory>
     requires { IsDeclared context.now }
-    ensures { IfOk result (λ made. any_code made ≡ lowered.own_code (source_of context.now) (scope_by at.now) word.now entry) }
+    ensures { IfOk result (λ made. boxed_code made ≡ lowered.own_code (source_of context.now) (scope_by at.now) word.now entry) }
 {
     if entry.fixed {
         static_code(alloc, context, Some(at.class), word)
     } else {
-        field_code(
-            alloc,
-            context,
-            Some(at.class),
-            word,
-            ObjectCode::This,
-            word.place,
-        )
+        let receiver = Box::new(alloc, ObjectCode::This)?;
+        field_code(alloc, context, Some(at.class), word, receiver, word.place)
     }
 }
 
@@ -153,22 +150,69 @@ fn word_code(
     context: &Context,
     at: &ScopeTable,
     word: &Word,
-) -> Result<AnyCode, NoMemory>
+) -> Result<BoxedCode, NoMemory>
     requires { IsDeclared context.now }
-    ensures { IfOk result (λ made. any_code made ≡ lowered.word_code (source_of context.now) (scope_by at.now) word.now) }
+    ensures { IfOk result (λ made. boxed_code made ≡ lowered.word_code (source_of context.now) (scope_by at.now) word.now) }
 {
     let text = word.text.text();
     match at.local(text) {
-        Some(local) => Ok(name_code(kind_of_local(local), name(alloc, text, 0)?)),
+        Some(local) => {
+            let name = name(alloc, text, 0)?;
+            name_code(alloc, kind_of_local(local), name)
+        }
         None => match context.lookups.field_of(at.class, text) {
-            None => Ok(AnyCode::Object(ObjectCode::Null)),
+            None => null_code(alloc),
             Some(entry) => own_code(alloc, context, at, word, entry),
         },
     }
 }
 
+/// The code of an expression in a box, each part of the type that is asked of it.
+#[cycle(boxed_expr)]
+pub fn boxed_expr(
+    alloc: Global,
+    context: &Context,
+    at: &ScopeTable,
+    expr: &Expr,
+) -> Result<BoxedCode, NoMemory>
+    requires { IsDeclared context.now }
+    ensures { IfOk result (λ made. boxed_code made ≡ lowered.expr_code (source_of context.now) (expr_tree expr.now) (scope_by at.now)) }
+{
+    match &expr.body {
+        ExprBody::Null => null_code(alloc),
+        ExprBody::True => truth_value(alloc, true),
+        ExprBody::False => truth_value(alloc, false),
+        ExprBody::Number(number) => constant(alloc, *number),
+        ExprBody::This => an_object(alloc, ObjectCode::This),
+        ExprBody::Name(word) => word_code(alloc, context, at, word),
+        ExprBody::Member(inner, word) => match class_spelled(context.lookups, at, inner) {
+            Some(class) => static_code(alloc, context, class, word),
+            None => {
+                let inside = boxed_expr(alloc, context, at, inner)?;
+                let receiver = boxed_object(alloc, inside)?;
+                let class = receiver_class(context, at, inner);
+                field_code(alloc, context, class, word, receiver, inner.place)
+            }
+        },
+        ExprBody::Not(inner) => {
+            let inside = boxed_expr(alloc, context, at, inner)?;
+            negation(alloc, inside)
+        }
+        ExprBody::Minus(inner) => {
+            let inside = boxed_expr(alloc, context, at, inner)?;
+            negative(alloc, expr.place, inside)
+        }
+        ExprBody::Binary(op, left, right) => {
+            let first = literal(left)?;
+            let second = literal(right)?;
+            let left = boxed_expr(alloc, context, at, left)?;
+            let right = boxed_expr(alloc, context, at, right)?;
+            binary(alloc, expr.place, *op, (first, second), left, right)
+        }
+    }
+}
+
 /// The code of an expression, each part of the type that is asked of it.
-#[cycle(expr_code)]
 pub fn expr_code(
     alloc: Global,
     context: &Context,
@@ -178,35 +222,5 @@ pub fn expr_code(
     requires { IsDeclared context.now }
     ensures { IfOk result (λ made. any_code made ≡ lowered.expr_code (source_of context.now) (expr_tree expr.now) (scope_by at.now)) }
 {
-    match &expr.body {
-        ExprBody::Null => Ok(AnyCode::Object(ObjectCode::Null)),
-        ExprBody::True => Ok(AnyCode::Truth(TruthCode::Literal(true))),
-        ExprBody::False => Ok(AnyCode::Truth(TruthCode::Literal(false))),
-        ExprBody::Number(number) => Ok(AnyCode::Number(NumberCode::Const(*number))),
-        ExprBody::This => Ok(AnyCode::Object(ObjectCode::This)),
-        ExprBody::Name(word) => word_code(alloc, context, at, word),
-        ExprBody::Member(inner, word) => match class_spelled(context.lookups, at, inner) {
-            Some(class) => static_code(alloc, context, class, word),
-            None => {
-                let receiver = as_object(expr_code(alloc, context, at, inner)?);
-                let class = receiver_class(context, at, inner);
-                field_code(alloc, context, class, word, receiver, inner.place)
-            }
-        },
-        ExprBody::Not(inner) => {
-            let inside = expr_code(alloc, context, at, inner)?;
-            negation(alloc, inside)
-        }
-        ExprBody::Minus(inner) => {
-            let inside = expr_code(alloc, context, at, inner)?;
-            negative(alloc, expr.place, inside)
-        }
-        ExprBody::Binary(op, left, right) => {
-            let first = literal(left)?;
-            let second = literal(right)?;
-            let left = expr_code(alloc, context, at, left)?;
-            let right = expr_code(alloc, context, at, right)?;
-            binary(alloc, expr.place, *op, (first, second), left, right)
-        }
-    }
+    Ok(out_of_box(boxed_expr(alloc, context, at, expr)?))
 }

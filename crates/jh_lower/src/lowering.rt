@@ -1,7 +1,7 @@
 #![tactic(auto, using(jh_bodies::proofs::Scopings::scope_steps, jh_ast::proofs::StmtSteps::stmt_steps, jh_lowered::proofs::CodeSteps::code_steps), unfolding(jh_runs::specs::LoweredStmts::stmt_code, jh_ast::specs::Bare::rhs_tree, jh_lowered::specs::Statements::target_in))]
 
-ghost use Rattle.std.specs.Prelude.{◌≡◌, ◌++◌, map, option_map, IfOk, OnOk};
-ghost use Rattle.jh_ast.specs.Bare.{expr_tree, labelled_part, rhs_tree, stmt_tree, stmt_trees, part_trees};
+ghost use Rattle.std.specs.Prelude.{◌≡◌, ◌++◌, ◌∷◌, [], map, option_map, IfOk, OnOk};
+ghost use Rattle.jh_ast.specs.Bare.{call_tree, expr_tree, labelled_part, part_trees, rhs_tree, spec_part, stmt_tree, stmt_trees};
 ghost use Rattle.jh_rules.specs.Scopes as scopes;
 ghost use Rattle.jh_exprs.specs.Lookings.{declared_by, scope_by};
 ghost use Rattle.jh_bodies.specs.Scoping as scoping;
@@ -9,21 +9,43 @@ ghost use Rattle.jh_runs.specs.Code as c;
 ghost use Rattle.jh_runs.specs.Lowered as exprs;
 ghost use Rattle.jh_runs.specs.LoweredStmts as lowered;
 ghost use Rattle.jh_lowered.specs.Codes.{truth_code};
-ghost use Rattle.jh_lower.specs.Lowering.{IsDeclared, source_of};
+ghost use Rattle.jh_lower.specs.Lowering.{IsDeclared, boxed_code, source_of};
 ghost use Rattle.jh_lowered.specs.Statements.{claim_in, code_in, codes_in, target_in};
 
 use crate::calls::call_code;
 use crate::context::Context;
-use crate::expressions::expr_code;
-use crate::making::as_truth;
+use crate::expressions::boxed_expr;
+use crate::making::{BoxedCode, boxed, boxed_truth, out_of_box};
 use crate::parts::{default_code, labelled_claim, labelled_claims, local_code};
 use crate::targets::target_code;
-use jh_ast::{Expr, Labelled, Param, Rhs, Stmt, StmtBody};
+use jh_ast::{Call, Expr, Labelled, Param, Rhs, Spec, Stmt, StmtBody, Word};
 use jh_bodies::{add_label, add_labels};
 use jh_exprs::ScopeTable;
 use jh_lowered::{Claim, Code, Target, TruthCode};
 use jh_name::{NoMemory, Place, Row};
 use std::alloc::Global;
+
+/// An assignment of a value.
+fn assigned(alloc: Global, target: Box<Target>, value: BoxedCode) -> Result<Box<Code>, NoMemory>
+    ensures { (p : _) → IfOk result (λ made. code_in p made.value ≡ c.assign (target_in target.value) (boxed_code value)) }
+{
+    let code = Code::Assign(Box::into_inner(target), out_of_box(value));
+    boxed(alloc, code)
+}
+
+/// A new object of the class that a word names.
+fn new_object(
+    alloc: Global,
+    place: Place,
+    target: Box<Target>,
+    word: &Word,
+) -> Result<Box<Code>, NoMemory>
+    ensures { (p : _) → IfOk result (λ made. code_in p made.value ≡ c.new_object place (target_in target.value) word.now.text.text) }
+{
+    let class = word.text.copy(alloc)?;
+    let code = Code::New(place, Box::into_inner(target), class);
+    boxed(alloc, code)
+}
 
 /// An assignment, by its right side.
 fn rhs_code(
@@ -31,22 +53,19 @@ fn rhs_code(
     context: &Context,
     at: &ScopeTable,
     place: Place,
-    target: Target,
+    target: Box<Target>,
     rhs: &Rhs,
-) -> Result<Code, NoMemory>
+) -> Result<Box<Code>, NoMemory>
     requires { IsDeclared context.now }
-    ensures { IfOk result (λ made. code_in (source_of context.now) made ≡ lowered.rhs_code (source_of context.now) place (scope_by at.now) (target_in target) (rhs_tree rhs.now)) }
+    ensures { IfOk result (λ made. code_in (source_of context.now) made.value ≡ lowered.rhs_code (source_of context.now) place (scope_by at.now) (target_in target.value) (rhs_tree rhs.now)) }
 {
     match rhs {
         Rhs::Value(expr) => {
-            let value = expr_code(alloc, context, at, expr)?;
-            Ok(Code::Assign(target, value))
+            let value = boxed_expr(alloc, context, at, expr)?;
+            assigned(alloc, target, value)
         }
-        Rhs::Call(call) => {
-            let call = call_code(alloc, context, at, place, target, call)?;
-            Ok(Code::Call(call))
-        }
-        Rhs::New(word) => Ok(Code::New(place, target, word.text.copy(alloc)?)),
+        Rhs::Call(call) => call_code(alloc, context, at, place, target, call),
+        Rhs::New(word) => new_object(alloc, place, target, word),
     }
 }
 
@@ -58,17 +77,19 @@ fn declaration(
     place: Place,
     param: &Param,
     rhs: &Option<Rhs>,
-) -> Result<Code, NoMemory>
+) -> Result<Box<Code>, NoMemory>
     requires { IsDeclared context.now }
-    ensures { IfOk result (λ made. code_in (source_of context.now) made ≡ lowered.declaration_code (source_of context.now) place (scope_by at.now) (lowered.local_code (source_of context.now) param.now) (option_map rhs_tree rhs.now)) }
+    ensures { IfOk result (λ made. code_in (source_of context.now) made.value ≡ lowered.declaration_code (source_of context.now) place (scope_by at.now) (lowered.local_code (source_of context.now) param.now) (option_map rhs_tree rhs.now)) }
 {
     let local = local_code(alloc, context, param)?;
+    let ty = local.ty;
+    let target = Box::new(alloc, Target::New(local))?;
     match rhs {
         None => {
-            let value = default_code(local.ty);
-            Ok(Code::Assign(Target::New(local), value))
+            let value = default_code(alloc, ty)?;
+            assigned(alloc, target, value)
         }
-        Some(rhs) => rhs_code(alloc, context, at, place, Target::New(local), rhs),
+        Some(rhs) => rhs_code(alloc, context, at, place, target, rhs),
     }
 }
 
@@ -80,12 +101,28 @@ fn assignment(
     place: Place,
     expr: &Expr,
     rhs: &Rhs,
-) -> Result<Code, NoMemory>
+) -> Result<Box<Code>, NoMemory>
     requires { IsDeclared context.now }
-    ensures { IfOk result (λ made. code_in (source_of context.now) made ≡ lowered.rhs_code (source_of context.now) place (scope_by at.now) (lowered.target_code (source_of context.now) (scope_by at.now) (expr_tree expr.now)) (rhs_tree rhs.now)) }
+    ensures { IfOk result (λ made. code_in (source_of context.now) made.value ≡ lowered.rhs_code (source_of context.now) place (scope_by at.now) (lowered.target_code (source_of context.now) (scope_by at.now) (expr_tree expr.now)) (rhs_tree rhs.now)) }
 {
     let target = target_code(alloc, context, at, expr)?;
+    let target = Box::new(alloc, target)?;
     rhs_code(alloc, context, at, place, target, rhs)
+}
+
+/// A call that stands alone.
+fn call_alone(
+    alloc: Global,
+    context: &Context,
+    at: &ScopeTable,
+    place: Place,
+    call: &Call,
+) -> Result<Box<Code>, NoMemory>
+    requires { IsDeclared context.now }
+    ensures { IfOk result (λ made. code_in (source_of context.now) made.value ≡ lowered.call_code (source_of context.now) place (scope_by at.now) c.nowhere (call_tree call.now)) }
+{
+    let target = Box::new(alloc, Target::Nowhere)?;
+    call_code(alloc, context, at, place, target, call)
 }
 
 /// The test of a branch or of a loop.
@@ -94,11 +131,12 @@ fn test_code(
     context: &Context,
     at: &ScopeTable,
     expr: &Expr,
-) -> Result<TruthCode, NoMemory>
+) -> Result<Box<TruthCode>, NoMemory>
     requires { IsDeclared context.now }
-    ensures { IfOk result (λ made. truth_code made ≡ exprs.as_truth (exprs.expr_code (source_of context.now) (expr_tree expr.now) (scope_by at.now))) }
+    ensures { IfOk result (λ made. truth_code made.value ≡ exprs.as_truth (exprs.expr_code (source_of context.now) (expr_tree expr.now) (scope_by at.now))) }
 {
-    Ok(as_truth(expr_code(alloc, context, at, expr)?))
+    let code = boxed_expr(alloc, context, at, expr)?;
+    boxed_truth(alloc, code)
 }
 
 /// A return.
@@ -107,21 +145,69 @@ fn return_code(
     context: &Context,
     at: &ScopeTable,
     value: &Option<Expr>,
-) -> Result<Code, NoMemory>
+) -> Result<Box<Code>, NoMemory>
     requires { IsDeclared context.now }
-    ensures { IfOk result (λ made. code_in (source_of context.now) made ≡ lowered.return_code (source_of context.now) (scope_by at.now) (option_map expr_tree value.now)) }
+    ensures { IfOk result (λ made. code_in (source_of context.now) made.value ≡ lowered.return_code (source_of context.now) (scope_by at.now) (option_map expr_tree value.now)) }
 {
     match value {
-        None => Ok(Code::Return(None)),
-        Some(expr) => Ok(Code::Return(Some(expr_code(alloc, context, at, expr)?))),
+        None => boxed(alloc, Code::Return(None)),
+        Some(expr) => {
+            let value = boxed_expr(alloc, context, at, expr)?;
+            boxed(alloc, Code::Return(Some(out_of_box(value))))
+        }
     }
+}
+
+/// An assertion.
+fn assertion(alloc: Global, labelled: &Labelled) -> Result<Box<Code>, NoMemory>
+    ensures { (p : _) → IfOk result (λ made. code_in p made.value ≡ c.assert (lowered.labelled_claim p (labelled_part labelled.now))) }
+{
+    let claim = labelled_claim(alloc, labelled)?;
+    boxed(alloc, Code::Assert(claim))
+}
+
+/// A note.
+fn note(alloc: Global, labelled: &Labelled) -> Result<Box<Code>, NoMemory>
+    ensures { IfOk result (λ made. (p : _) → code_in p made.value ≡ c.note (lowered.labelled_claim p (labelled_part labelled.now))) }
+{
+    let claim = labelled_claim(alloc, labelled)?;
+    boxed(alloc, Code::Note(claim))
+}
+
+/// A ghost assignment.
+fn ghost_assignment(alloc: Global, left: &Spec, right: &Spec) -> Result<Box<Code>, NoMemory>
+    ensures { (p : _) → IfOk result (λ made. code_in p made.value ≡ lowered.ghost_code left.now.place (lowered.ghost_target (lowered.spec_value p (spec_part left.now))) right.now.place (lowered.spec_value p (spec_part right.now))) }
+{
+    let code = Code::Ghost(left.place, left.number, right.place, right.number);
+    boxed(alloc, code)
+}
+
+/// A block of some statements.
+fn block(alloc: Global, parts: Vec<Code>) -> Result<Box<Code>, NoMemory>
+    ensures { (p : _) → IfOk result (λ made. code_in p made.value ≡ c.block (codes_in p parts.items)) }
+{
+    boxed(alloc, Code::Block(Row::of(parts)))
+}
+
+/// A branch of its parts.
+fn branch_of(
+    alloc: Global,
+    place: Place,
+    test: Box<TruthCode>,
+    first: Box<Code>,
+    second: Vec<Code>,
+) -> Result<Box<Code>, NoMemory>
+    ensures { (p : _) → IfOk result (λ made. code_in p made.value ≡ c.branch place (truth_code test.value) (code_in p first.value) (codes_in p second.items)) }
+{
+    let code = Code::Branch(place, Box::into_inner(test), first, Row::of(second));
+    boxed(alloc, code)
 }
 
 /// What stands before the body of a loop.
 #[derive(Drop)]
 struct Head {
     claims: Row<Claim>,
-    test: TruthCode,
+    test: Box<TruthCode>,
 }
 
 /// The invariants and the test of a loop.
@@ -134,11 +220,27 @@ fn loop_head(
 ) -> Result<Head, NoMemory>
     requires { IsDeclared context.now }
     ensures claims { IfOk result (λ made. (p : _) → map (claim_in p) made.claims ≡ map (lowered.labelled_claim p) (map labelled_part invariants.now)) }
-    ensures test { IfOk result (λ made. truth_code made.test ≡ exprs.as_truth (exprs.expr_code (source_of context.now) (expr_tree test.now) (scope_by at.now))) }
+    ensures test { IfOk result (λ made. truth_code made.test.value ≡ exprs.as_truth (exprs.expr_code (source_of context.now) (expr_tree test.now) (scope_by at.now))) }
 {
     let claims = labelled_claims(alloc, invariants)?;
     let test = test_code(alloc, context, at, test)?;
     Ok(Head { claims, test })
+}
+
+/// A loop of its head and its body.
+fn loop_of(alloc: Global, place: Place, head: Head, body: Box<Code>) -> Result<Box<Code>, NoMemory>
+    ensures { (p : _) → IfOk result (λ made. code_in p made.value ≡ c.loop place (map (claim_in p) head.claims) (truth_code head.test.value) (code_in p body.value)) }
+{
+    let code = Code::Loop(place, head.claims, Box::into_inner(head.test), body);
+    boxed(alloc, code)
+}
+
+/// Adds a statement.
+fn push_code(made: &mut Vec<Code>, code: Box<Code>) -> Result<(), NoMemory>
+    ensures { OnOk result (made.new.items ≡ made.old.items ++ code.value ∷ []) }
+{
+    made.push(Box::into_inner(code))?;
+    Ok(())
 }
 
 /// One statement alone.
@@ -146,7 +248,7 @@ fn alone(alloc: Global, code: Box<Code>) -> Result<Vec<Code>, NoMemory>
     ensures { (p : _) → IfOk result (λ made. codes_in p made.items ≡ c.more (code_in p code.value) c.none) }
 {
     let mut made = Vec::new(alloc);
-    made.push(Box::into_inner(code))?;
+    push_code(&mut made, code)?;
     Ok(made)
 }
 
@@ -167,7 +269,7 @@ pub fn lower_all(
     let mut made = Vec::new(alloc);
     for stmt in stmts.iter() {
         let code = lower_one(alloc, context, at, stmt)?;
-        made.push(code)?;
+        push_code(&mut made, code)?;
     }
     Ok(made)
 }
@@ -206,7 +308,6 @@ fn lower_part(
 {
     let mark = at.mark();
     let made = lower_one(alloc, context, at, stmt)?;
-    let made = Box::new(alloc, made)?;
     at.leave(mark)?;
     Ok(made)
 }
@@ -234,68 +335,51 @@ fn lower_else(
     }
 }
 
-/// The code of a statement. Behind it the scope is that of the next one.
+/// The code of a statement, in a box. Behind it the scope is that of the next one.
 #[cycle(lower_one)]
 fn lower_one(
     alloc: Global,
     context: &Context,
     at: &mut ScopeTable,
     stmt: &Stmt,
-) -> Result<Code, NoMemory>
+) -> Result<Box<Code>, NoMemory>
     requires { IsDeclared context.now }
-    ensures code { IfOk result (λ made. code_in (source_of context.now) made ≡ lowered.stmt_code (source_of context.now) (stmt_tree stmt.now) (scope_by at.old)) }
+    ensures code { IfOk result (λ made. code_in (source_of context.now) made.value ≡ lowered.stmt_code (source_of context.now) (stmt_tree stmt.now) (scope_by at.old)) }
     ensures scope { OnOk result (scope_by at.new ≡ scopes.behind (declared_by context.now.lookups.now) (scope_by at.old) (stmt_tree stmt.now)) }
     ensures undos { OnOk result (at.new.undos.items ≡ at.old.undos.items ++ scoping.undos_in (scope_by at.old) (stmt_tree stmt.now)) }
 {
     match &stmt.body {
-        StmtBody::Empty => Ok(Code::Empty),
+        StmtBody::Empty => boxed(alloc, Code::Empty),
         StmtBody::Block(stmts) => {
             let made = lower_block(alloc, context, at, stmts.items())?;
-            Ok(Code::Block(Row::of(made)))
+            block(alloc, made)
         }
         StmtBody::Local(param, rhs) => {
             let made = declaration(alloc, context, at, stmt.place, param, rhs)?;
             at.declare(context.lookups, param, false)?;
             Ok(made)
         }
-        StmtBody::Assign(target, rhs) => {
-            let made = assignment(alloc, context, at, stmt.place, target, rhs)?;
-            Ok(made)
-        }
-        StmtBody::Call(call) => {
-            let made = call_code(alloc, context, at, stmt.place, Target::Nowhere, call)?;
-            Ok(Code::Call(made))
-        }
+        StmtBody::Assign(target, rhs) => assignment(alloc, context, at, stmt.place, target, rhs),
+        StmtBody::Call(call) => call_alone(alloc, context, at, stmt.place, call),
         StmtBody::If(test, first, second) => {
             let test = test_code(alloc, context, at, test)?;
             let first = lower_part(alloc, context, at, first)?;
             let second = lower_else(alloc, context, at, second)?;
-            Ok(Code::Branch(stmt.place, test, first, Row::of(second)))
+            branch_of(alloc, stmt.place, test, first, second)
         }
         StmtBody::While(invariants, test, body) => {
             let head = loop_head(alloc, context, at, invariants.items(), test)?;
             add_labels(at, invariants.items())?;
             let body = lower_part(alloc, context, at, body)?;
-            Ok(Code::Loop(stmt.place, head.claims, head.test, body))
+            loop_of(alloc, stmt.place, head, body)
         }
-        StmtBody::Return(value) => {
-            let made = return_code(alloc, context, at, value)?;
+        StmtBody::Return(value) => return_code(alloc, context, at, value),
+        StmtBody::Assert(labelled) => assertion(alloc, labelled),
+        StmtBody::Note(labelled) => {
+            let made = note(alloc, labelled)?;
+            add_label(at, labelled)?;
             Ok(made)
         }
-        StmtBody::Assert(labelled) => {
-            let made = labelled_claim(alloc, labelled)?;
-            Ok(Code::Assert(made))
-        }
-        StmtBody::Note(labelled) => {
-            let made = labelled_claim(alloc, labelled)?;
-            add_label(at, labelled)?;
-            Ok(Code::Note(made))
-        }
-        StmtBody::Ghost(left, right) => Ok(Code::Ghost(
-            left.place,
-            left.number,
-            right.place,
-            right.number,
-        )),
+        StmtBody::Ghost(left, right) => ghost_assignment(alloc, left, right),
     }
 }

@@ -4,49 +4,139 @@ ghost use Rattle.std.specs.Prelude.{◌≡◌, IfOk};
 ghost use Rattle.jh_runs.specs.Code as c;
 ghost use Rattle.jh_runs.specs.Lowered as lowered;
 ghost use Rattle.jh_lowered.specs.Codes.{object_code, number_code, truth_code, any_code};
+ghost use Rattle.jh_lower.specs.Lowering.{boxed_code};
 
-use jh_lowered::{AnyCode, NumberCode, ObjectCode, TruthCode};
+use jh_lowered::{AnyCode, Code, NumberCode, ObjectCode, TruthCode};
 use jh_name::{Kind, Name, NoMemory, Place};
 use std::alloc::Global;
 
-/// A value that is an object, and null where it is none.
-pub fn as_object(code: AnyCode) -> ObjectCode
-    ensures { object_code result ≡ lowered.as_object (any_code code) }
+/// An expression of code, by the type of its values, in a box. While the code of an expression is made it is handed about
+/// so: what is alive where memory may be wanting is narrow, which keeps the proofs short.
+#[derive(Drop)]
+pub enum BoxedCode {
+    Object(Box<ObjectCode>),
+    Number(Box<NumberCode>),
+    Truth(Box<TruthCode>),
+}
+
+/// The code out of its box.
+pub fn out_of_box(code: BoxedCode) -> AnyCode
+    ensures { any_code result ≡ boxed_code code }
 {
     match code {
-        AnyCode::Object(object) => object,
+        BoxedCode::Object(object) => AnyCode::Object(Box::into_inner(object)),
+        BoxedCode::Number(number) => AnyCode::Number(Box::into_inner(number)),
+        BoxedCode::Truth(truth) => AnyCode::Truth(Box::into_inner(truth)),
+    }
+}
+
+/// An object, boxed.
+pub fn an_object(alloc: Global, code: ObjectCode) -> Result<BoxedCode, NoMemory>
+    ensures { IfOk result (λ made. boxed_code made ≡ c.an_object (object_code code)) }
+{
+    Ok(BoxedCode::Object(Box::new(alloc, code)?))
+}
+
+/// A number, boxed.
+pub fn a_number(alloc: Global, code: NumberCode) -> Result<BoxedCode, NoMemory>
+    ensures { IfOk result (λ made. boxed_code made ≡ c.a_number (number_code code)) }
+{
+    Ok(BoxedCode::Number(Box::new(alloc, code)?))
+}
+
+/// A truth, boxed.
+pub fn a_truth(alloc: Global, code: TruthCode) -> Result<BoxedCode, NoMemory>
+    ensures { IfOk result (λ made. boxed_code made ≡ c.a_truth (truth_code code)) }
+{
+    Ok(BoxedCode::Truth(Box::new(alloc, code)?))
+}
+
+/// No object.
+pub fn null_code(alloc: Global) -> Result<BoxedCode, NoMemory>
+    ensures { IfOk result (λ made. boxed_code made ≡ c.an_object c.null) }
+{
+    an_object(alloc, ObjectCode::Null)
+}
+
+/// A number as it is written.
+pub fn constant(alloc: Global, number: i64) -> Result<BoxedCode, NoMemory>
+    ensures { IfOk result (λ made. boxed_code made ≡ c.a_number (c.const number)) }
+{
+    a_number(alloc, NumberCode::Const(number))
+}
+
+/// A truth as it is written.
+pub fn truth_value(alloc: Global, value: bool) -> Result<BoxedCode, NoMemory>
+    ensures { IfOk result (λ made. boxed_code made ≡ c.a_truth (c.literal value)) }
+{
+    a_truth(alloc, TruthCode::Literal(value))
+}
+
+/// A value that is an object, and null where it is none.
+pub fn as_object(code: BoxedCode) -> ObjectCode
+    ensures { object_code result ≡ lowered.as_object (boxed_code code) }
+{
+    match code {
+        BoxedCode::Object(object) => Box::into_inner(object),
         _ => ObjectCode::Null,
     }
 }
 
 /// A value that is a number, and 0 where it is none.
-pub fn as_number(code: AnyCode) -> NumberCode
-    ensures { number_code result ≡ lowered.as_number (any_code code) }
+pub fn as_number(code: BoxedCode) -> NumberCode
+    ensures { number_code result ≡ lowered.as_number (boxed_code code) }
 {
     match code {
-        AnyCode::Number(number) => number,
+        BoxedCode::Number(number) => Box::into_inner(number),
         _ => NumberCode::Const(0),
     }
 }
 
-/// A value that is a truth, and false where it is none.
-pub fn as_truth(code: AnyCode) -> TruthCode
-    ensures { truth_code result ≡ lowered.as_truth (any_code code) }
+/// A value that is an object, in a box.
+pub fn boxed_object(alloc: Global, code: BoxedCode) -> Result<Box<ObjectCode>, NoMemory>
+    ensures { IfOk result (λ made. object_code made.value ≡ lowered.as_object (boxed_code code)) }
 {
     match code {
-        AnyCode::Truth(truth) => truth,
-        _ => TruthCode::Literal(false),
+        BoxedCode::Object(object) => Ok(object),
+        _ => Ok(Box::new(alloc, ObjectCode::Null)?),
     }
 }
 
+/// A value that is a number, in a box.
+pub fn boxed_number(alloc: Global, code: BoxedCode) -> Result<Box<NumberCode>, NoMemory>
+    ensures { IfOk result (λ made. number_code made.value ≡ lowered.as_number (boxed_code code)) }
+{
+    match code {
+        BoxedCode::Number(number) => Ok(number),
+        _ => Ok(Box::new(alloc, NumberCode::Const(0))?),
+    }
+}
+
+/// A value that is a truth, in a box; false where it is none.
+pub fn boxed_truth(alloc: Global, code: BoxedCode) -> Result<Box<TruthCode>, NoMemory>
+    ensures { IfOk result (λ made. truth_code made.value ≡ lowered.as_truth (boxed_code code)) }
+{
+    match code {
+        BoxedCode::Truth(truth) => Ok(truth),
+        _ => Ok(Box::new(alloc, TruthCode::Literal(false))?),
+    }
+}
+
+/// A statement in a box. What can't be boxed is dropped here alone, for all that make one.
+pub fn boxed(alloc: Global, code: Code) -> Result<Box<Code>, NoMemory>
+    ensures { IfOk result (λ made. made.value ≡ code) }
+{
+    Ok(Box::new(alloc, code)?)
+}
+
 /// A parameter, a local or a static of a kind.
-pub fn name_code(kind: Kind, name: Name) -> AnyCode
-    ensures { any_code result ≡ lowered.name_code kind name.text }
+pub fn name_code(alloc: Global, kind: Kind, name: Name) -> Result<BoxedCode, NoMemory>
+    ensures { IfOk result (λ made. boxed_code made ≡ lowered.name_code kind name.text) }
 {
     match kind {
-        Kind::Int => AnyCode::Number(NumberCode::Name(name)),
-        Kind::Bool => AnyCode::Truth(TruthCode::Name(name)),
-        _ => AnyCode::Object(ObjectCode::Name(name)),
+        Kind::Int => a_number(alloc, NumberCode::Name(name)),
+        Kind::Bool => a_truth(alloc, TruthCode::Name(name)),
+        _ => an_object(alloc, ObjectCode::Name(name)),
     }
 }
 
@@ -55,27 +145,20 @@ pub fn read_code(
     alloc: Global,
     kind: Kind,
     field: Name,
-    receiver: ObjectCode,
+    receiver: Box<ObjectCode>,
     place: Place,
-) -> Result<AnyCode, NoMemory>
-    ensures { IfOk result (λ made. any_code made ≡ lowered.read_code kind field.text (object_code receiver) place) }
+) -> Result<BoxedCode, NoMemory>
+    ensures { IfOk result (λ made. boxed_code made ≡ lowered.read_code kind field.text (object_code receiver.value) place) }
 {
     match kind {
-        Kind::Int => Ok(AnyCode::Number(NumberCode::Read(field, receiver, place))),
-        Kind::Bool => Ok(AnyCode::Truth(TruthCode::Read(field, receiver, place))),
-        _ => read_object(alloc, field, receiver, place),
+        Kind::Int => a_number(
+            alloc,
+            NumberCode::Read(field, Box::into_inner(receiver), place),
+        ),
+        Kind::Bool => a_truth(
+            alloc,
+            TruthCode::Read(field, Box::into_inner(receiver), place),
+        ),
+        _ => an_object(alloc, ObjectCode::Read(field, receiver, place)),
     }
-}
-
-/// The read of a field of objects.
-fn read_object(
-    alloc: Global,
-    field: Name,
-    receiver: ObjectCode,
-    place: Place,
-) -> Result<AnyCode, NoMemory>
-    ensures { IfOk result (λ made. any_code made ≡ c.an_object (c.read_object field.text (object_code receiver) place)) }
-{
-    let receiver = Box::new(alloc, receiver)?;
-    Ok(AnyCode::Object(ObjectCode::Read(field, receiver, place)))
 }

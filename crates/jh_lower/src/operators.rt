@@ -1,141 +1,143 @@
-#![tactic(auto, unfolding(jh_lowered::specs::Codes::any_code, jh_lowered::specs::Codes::object_code, jh_lowered::specs::Codes::number_code, jh_lowered::specs::Codes::truth_code))]
+#![tactic(auto, unfolding(jh_lowered::specs::Codes::object_code, jh_lowered::specs::Codes::number_code, jh_lowered::specs::Codes::truth_code))]
 
 ghost use Rattle.std.specs.Prelude.{◌≡◌, IfOk};
 ghost use Rattle.jh_runs.specs.Code as c;
 ghost use Rattle.jh_runs.specs.Lowered as lowered;
-ghost use Rattle.jh_lowered.specs.Codes.{truth_code, any_code};
+ghost use Rattle.jh_lowered.specs.Codes.{truth_code};
+ghost use Rattle.jh_lower.specs.Lowering.{boxed_code};
 
-use crate::making::{as_number, as_object};
+use crate::making::{BoxedCode, a_number, a_truth, as_number, as_object, boxed_truth};
 use crate::numbers::{boxed_numbers, product};
-use crate::truths::{boxed_truth, boxed_truths};
+use crate::truths::boxed_truths;
 use jh_ast::Op;
-use jh_lowered::{AnyCode, NumberCode, TruthCode};
+use jh_lowered::{NumberCode, TruthCode};
 use jh_name::{NoMemory, Place};
 use std::alloc::Global;
 
+/// That two truths are the same.
+fn same_truth(alloc: Global, left: Box<TruthCode>, right: BoxedCode) -> Result<TruthCode, NoMemory>
+    ensures { IfOk result (λ made. truth_code made ≡ c.same_truth (truth_code left.value) (lowered.as_truth (boxed_code right))) }
+{
+    let right = boxed_truth(alloc, right)?;
+    Ok(TruthCode::SameTruth(left, right))
+}
+
 /// That two values are the same, at the type of the left one.
-fn equal(alloc: Global, left: AnyCode, right: AnyCode) -> Result<TruthCode, NoMemory>
-    ensures { IfOk result (λ made. truth_code made ≡ lowered.equal_code (any_code left) (any_code right)) }
+fn equal(alloc: Global, left: BoxedCode, right: BoxedCode) -> Result<TruthCode, NoMemory>
+    ensures { IfOk result (λ made. truth_code made ≡ lowered.equal_code (boxed_code left) (boxed_code right)) }
 {
     match left {
-        AnyCode::Object(object) => Ok(TruthCode::SameObject(object, as_object(right))),
-        AnyCode::Number(number) => Ok(TruthCode::SameNumber(number, as_number(right))),
-        AnyCode::Truth(truth) => {
-            let both = boxed_truths(alloc, AnyCode::Truth(truth), right)?;
-            Ok(TruthCode::SameTruth(both.left, both.right))
-        }
+        BoxedCode::Object(object) => Ok(TruthCode::SameObject(
+            Box::into_inner(object),
+            as_object(right),
+        )),
+        BoxedCode::Number(number) => Ok(TruthCode::SameNumber(
+            Box::into_inner(number),
+            as_number(right),
+        )),
+        BoxedCode::Truth(truth) => same_truth(alloc, truth, right),
     }
 }
 
 /// `||`.
-fn or_code(alloc: Global, left: AnyCode, right: AnyCode) -> Result<AnyCode, NoMemory>
-    ensures { IfOk result (λ made. any_code made ≡ c.a_truth (c.either (lowered.as_truth (any_code left)) (lowered.as_truth (any_code right)))) }
+fn or_code(alloc: Global, left: BoxedCode, right: BoxedCode) -> Result<BoxedCode, NoMemory>
+    ensures { IfOk result (λ made. boxed_code made ≡ c.a_truth (c.either (lowered.as_truth (boxed_code left)) (lowered.as_truth (boxed_code right)))) }
 {
     let both = boxed_truths(alloc, left, right)?;
-    Ok(AnyCode::Truth(TruthCode::Or(both.left, both.right)))
+    a_truth(alloc, TruthCode::Or(both.left, both.right))
 }
 
 /// `&&`.
-fn and_code(alloc: Global, left: AnyCode, right: AnyCode) -> Result<AnyCode, NoMemory>
-    ensures { IfOk result (λ made. any_code made ≡ c.a_truth (c.both (lowered.as_truth (any_code left)) (lowered.as_truth (any_code right)))) }
+fn and_code(alloc: Global, left: BoxedCode, right: BoxedCode) -> Result<BoxedCode, NoMemory>
+    ensures { IfOk result (λ made. boxed_code made ≡ c.a_truth (c.both (lowered.as_truth (boxed_code left)) (lowered.as_truth (boxed_code right)))) }
 {
     let both = boxed_truths(alloc, left, right)?;
-    Ok(AnyCode::Truth(TruthCode::And(both.left, both.right)))
+    a_truth(alloc, TruthCode::And(both.left, both.right))
 }
 
 /// `==`.
-fn equal_code(alloc: Global, left: AnyCode, right: AnyCode) -> Result<AnyCode, NoMemory>
-    ensures { IfOk result (λ made. any_code made ≡ c.a_truth (lowered.equal_code (any_code left) (any_code right))) }
+fn equal_code(alloc: Global, left: BoxedCode, right: BoxedCode) -> Result<BoxedCode, NoMemory>
+    ensures { IfOk result (λ made. boxed_code made ≡ c.a_truth (lowered.equal_code (boxed_code left) (boxed_code right))) }
 {
     let made = equal(alloc, left, right)?;
-    Ok(AnyCode::Truth(made))
+    a_truth(alloc, made)
 }
 
 /// `!`.
-pub fn negation(alloc: Global, inside: AnyCode) -> Result<AnyCode, NoMemory>
-    ensures { IfOk result (λ made. any_code made ≡ c.a_truth (c.negation (lowered.as_truth (any_code inside)))) }
+pub fn negation(alloc: Global, inside: BoxedCode) -> Result<BoxedCode, NoMemory>
+    ensures { IfOk result (λ made. boxed_code made ≡ c.a_truth (c.negation (lowered.as_truth (boxed_code inside)))) }
 {
     let inside = boxed_truth(alloc, inside)?;
-    Ok(AnyCode::Truth(TruthCode::Not(inside)))
+    a_truth(alloc, TruthCode::Not(inside))
 }
 
 /// `!=`.
-fn different_code(alloc: Global, left: AnyCode, right: AnyCode) -> Result<AnyCode, NoMemory>
-    ensures { IfOk result (λ made. any_code made ≡ c.a_truth (c.negation (lowered.equal_code (any_code left) (any_code right)))) }
+fn different_code(alloc: Global, left: BoxedCode, right: BoxedCode) -> Result<BoxedCode, NoMemory>
+    ensures { IfOk result (λ made. boxed_code made ≡ c.a_truth (c.negation (lowered.equal_code (boxed_code left) (boxed_code right)))) }
 {
-    let same = equal(alloc, left, right)?;
-    negation(alloc, AnyCode::Truth(same))
+    let same = equal_code(alloc, left, right)?;
+    negation(alloc, same)
 }
 
 /// `<`.
-fn less_code(left: AnyCode, right: AnyCode) -> AnyCode
-    ensures { any_code result ≡ c.a_truth (c.less (lowered.as_number (any_code left)) (lowered.as_number (any_code right))) }
+fn less_code(alloc: Global, left: BoxedCode, right: BoxedCode) -> Result<BoxedCode, NoMemory>
+    ensures { IfOk result (λ made. boxed_code made ≡ c.a_truth (c.less (lowered.as_number (boxed_code left)) (lowered.as_number (boxed_code right)))) }
 {
-    AnyCode::Truth(TruthCode::Less(as_number(left), as_number(right)))
+    a_truth(alloc, TruthCode::Less(as_number(left), as_number(right)))
 }
 
 /// `<=`.
-fn less_equal_code(left: AnyCode, right: AnyCode) -> AnyCode
-    ensures { any_code result ≡ c.a_truth (c.less_equal (lowered.as_number (any_code left)) (lowered.as_number (any_code right))) }
+fn less_equal_code(alloc: Global, left: BoxedCode, right: BoxedCode) -> Result<BoxedCode, NoMemory>
+    ensures { IfOk result (λ made. boxed_code made ≡ c.a_truth (c.less_equal (lowered.as_number (boxed_code left)) (lowered.as_number (boxed_code right)))) }
 {
-    AnyCode::Truth(TruthCode::LessEq(as_number(left), as_number(right)))
+    a_truth(alloc, TruthCode::LessEq(as_number(left), as_number(right)))
 }
 
 /// `>`.
-fn greater_code(left: AnyCode, right: AnyCode) -> AnyCode
-    ensures { any_code result ≡ c.a_truth (c.greater (lowered.as_number (any_code left)) (lowered.as_number (any_code right))) }
+fn greater_code(alloc: Global, left: BoxedCode, right: BoxedCode) -> Result<BoxedCode, NoMemory>
+    ensures { IfOk result (λ made. boxed_code made ≡ c.a_truth (c.greater (lowered.as_number (boxed_code left)) (lowered.as_number (boxed_code right)))) }
 {
-    AnyCode::Truth(TruthCode::Greater(as_number(left), as_number(right)))
+    a_truth(alloc, TruthCode::Greater(as_number(left), as_number(right)))
 }
 
 /// `>=`.
-fn greater_equal_code(left: AnyCode, right: AnyCode) -> AnyCode
-    ensures { any_code result ≡ c.a_truth (c.greater_equal (lowered.as_number (any_code left)) (lowered.as_number (any_code right))) }
+fn greater_equal_code(
+    alloc: Global,
+    left: BoxedCode,
+    right: BoxedCode,
+) -> Result<BoxedCode, NoMemory>
+    ensures { IfOk result (λ made. boxed_code made ≡ c.a_truth (c.greater_equal (lowered.as_number (boxed_code left)) (lowered.as_number (boxed_code right)))) }
 {
-    AnyCode::Truth(TruthCode::GreaterEq(as_number(left), as_number(right)))
+    a_truth(
+        alloc,
+        TruthCode::GreaterEq(as_number(left), as_number(right)),
+    )
 }
 
 /// `+`.
-fn sum_code(alloc: Global, place: Place, left: AnyCode, right: AnyCode) -> Result<AnyCode, NoMemory>
-    ensures { IfOk result (λ made. any_code made ≡ c.a_number (c.add place (lowered.as_number (any_code left)) (lowered.as_number (any_code right)))) }
+fn sum_code(
+    alloc: Global,
+    place: Place,
+    left: BoxedCode,
+    right: BoxedCode,
+) -> Result<BoxedCode, NoMemory>
+    ensures { IfOk result (λ made. boxed_code made ≡ c.a_number (c.add place (lowered.as_number (boxed_code left)) (lowered.as_number (boxed_code right)))) }
 {
     let both = boxed_numbers(alloc, left, right)?;
-    Ok(AnyCode::Number(NumberCode::Add(place, both.left, both.right)))
+    a_number(alloc, NumberCode::Add(place, both.left, both.right))
 }
 
 /// `-`.
 fn difference_code(
     alloc: Global,
     place: Place,
-    left: AnyCode,
-    right: AnyCode,
-) -> Result<AnyCode, NoMemory>
-    ensures { IfOk result (λ made. any_code made ≡ c.a_number (c.sub place (lowered.as_number (any_code left)) (lowered.as_number (any_code right)))) }
+    left: BoxedCode,
+    right: BoxedCode,
+) -> Result<BoxedCode, NoMemory>
+    ensures { IfOk result (λ made. boxed_code made ≡ c.a_number (c.sub place (lowered.as_number (boxed_code left)) (lowered.as_number (boxed_code right)))) }
 {
     let both = boxed_numbers(alloc, left, right)?;
-    Ok(AnyCode::Number(NumberCode::Sub(place, both.left, both.right)))
-}
-
-/// `*`, with the numbers that the operands are as literals.
-fn product_code(
-    alloc: Global,
-    place: Place,
-    literals: (Option<i64>, Option<i64>),
-    left: AnyCode,
-    right: AnyCode,
-) -> Result<AnyCode, NoMemory>
-    ensures { IfOk result (λ made. any_code made ≡ c.a_number (lowered.product place literals.0 literals.1 (lowered.as_number (any_code left)) (lowered.as_number (any_code right)))) }
-{
-    let (first, second) = literals;
-    let made = product(
-        alloc,
-        place,
-        first,
-        second,
-        as_number(left),
-        as_number(right),
-    )?;
-    Ok(AnyCode::Number(made))
+    a_number(alloc, NumberCode::Sub(place, both.left, both.right))
 }
 
 /// Two operands with an operator between them, at the place of the first token; with the numbers that the operands are as
@@ -145,22 +147,22 @@ pub fn binary(
     place: Place,
     op: Op,
     literals: (Option<i64>, Option<i64>),
-    left: AnyCode,
-    right: AnyCode,
-) -> Result<AnyCode, NoMemory>
-    ensures { IfOk result (λ made. any_code made ≡ lowered.binary_code place op literals.0 (any_code left) literals.1 (any_code right)) }
+    left: BoxedCode,
+    right: BoxedCode,
+) -> Result<BoxedCode, NoMemory>
+    ensures { IfOk result (λ made. boxed_code made ≡ lowered.binary_code place op literals.0 (boxed_code left) literals.1 (boxed_code right)) }
 {
     match op {
         Op::Or => or_code(alloc, left, right),
         Op::And => and_code(alloc, left, right),
         Op::Equal => equal_code(alloc, left, right),
         Op::NotEqual => different_code(alloc, left, right),
-        Op::Less => Ok(less_code(left, right)),
-        Op::LessEq => Ok(less_equal_code(left, right)),
-        Op::Greater => Ok(greater_code(left, right)),
-        Op::GreaterEq => Ok(greater_equal_code(left, right)),
+        Op::Less => less_code(alloc, left, right),
+        Op::LessEq => less_equal_code(alloc, left, right),
+        Op::Greater => greater_code(alloc, left, right),
+        Op::GreaterEq => greater_equal_code(alloc, left, right),
         Op::Add => sum_code(alloc, place, left, right),
         Op::Sub => difference_code(alloc, place, left, right),
-        Op::Mul => product_code(alloc, place, literals, left, right),
+        Op::Mul => product(alloc, place, literals, left, right),
     }
 }

@@ -1,28 +1,28 @@
-#![tactic(auto, unfolding(jh_lowered::specs::Codes::any_code, jh_lowered::specs::Codes::object_code, jh_lowered::specs::Codes::number_code, jh_lowered::specs::Codes::truth_code))]
+#![tactic(auto)]
 
 ghost use Rattle.std.specs.Prelude.{◌≡◌, ℕ, map, option_map, IfOk};
 ghost use Rattle.jh_ast.specs.Bare.{spec_part, labelled_part};
 ghost use Rattle.jh_runs.specs.LoweredStmts as lowered;
-ghost use Rattle.jh_lowered.specs.Codes.{any_code};
 ghost use Rattle.jh_lowered.specs.Statements.{local_in, claim_in};
-ghost use Rattle.jh_lower.specs.Lowering.{IsDeclared, source_of};
+ghost use Rattle.jh_lower.specs.Lowering.{IsDeclared, boxed_code, source_of};
 
 use crate::context::Context;
+use crate::making::{BoxedCode, constant, null_code, truth_value};
 use jh_ast::{JType, Labelled, Param, Spec, Word};
 use jh_exprs::type_of;
-use jh_lowered::{AnyCode, Claim, Local, NumberCode, ObjectCode, TruthCode};
+use jh_lowered::{Claim, Local};
 use jh_name::{Name, NoMemory, Row};
 use jh_rules::Ty;
 use std::alloc::Global;
 
 /// The default of a type.
-pub fn default_code(ty: Ty) -> AnyCode
-    ensures { any_code result ≡ lowered.default_code ty }
+pub fn default_code(alloc: Global, ty: Ty) -> Result<BoxedCode, NoMemory>
+    ensures { IfOk result (λ made. boxed_code made ≡ lowered.default_code ty) }
 {
     match ty {
-        Ty::Int => AnyCode::Number(NumberCode::Const(0)),
-        Ty::Boolean => AnyCode::Truth(TruthCode::Literal(false)),
-        _ => AnyCode::Object(ObjectCode::Null),
+        Ty::Int => constant(alloc, 0),
+        Ty::Boolean => truth_value(alloc, false),
+        _ => null_code(alloc),
     }
 }
 

@@ -11,8 +11,8 @@ ghost use Rattle.jh_lower.specs.Lowering.{IsDeclared, source_of};
 ghost use Rattle.jh_lowered.specs.Statements.{target_in};
 
 use crate::context::Context;
-use crate::expressions::{expr_code, receiver_class};
-use crate::making::as_object;
+use crate::expressions::{boxed_expr, receiver_class};
+use crate::making::boxed_object;
 use jh_ast::{Expr, ExprBody, Word};
 use jh_exprs::{ScopeTable, class_spelled};
 use jh_lowered::{ObjectCode, Target};
@@ -41,16 +41,16 @@ fn field_target(
     context: &Context,
     class: Option<usize>,
     word: &Word,
-    receiver: ObjectCode,
+    receiver: Box<ObjectCode>,
     place: Place,
 ) -> Result<Target, NoMemory>
-    ensures { IfOk result (λ made. target_in made ≡ lowered.field_target (source_of context.now) class word.now (object_code receiver) place) }
+    ensures { IfOk result (λ made. target_in made ≡ lowered.field_target (source_of context.now) class word.now (object_code receiver.value) place) }
 {
     match class {
         None => Ok(Target::Nowhere),
         Some(class) => {
             let name = context.member_name(alloc, class, word.text.text())?;
-            Ok(Target::Field(name, receiver, place))
+            Ok(Target::Field(name, Box::into_inner(receiver), place))
         }
     }
 }
@@ -68,14 +68,8 @@ fn own_target(
     if entry.fixed {
         static_target(alloc, context, Some(at.class), word)
     } else {
-        field_target(
-            alloc,
-            context,
-            Some(at.class),
-            word,
-            ObjectCode::This,
-            word.place,
-        )
+        let receiver = Box::new(alloc, ObjectCode::This)?;
+        field_target(alloc, context, Some(at.class), word, receiver, word.place)
     }
 }
 
@@ -113,7 +107,8 @@ fn dotted_target(
     match class_spelled(context.lookups, at, inner) {
         Some(class) => static_target(alloc, context, class, word),
         None => {
-            let receiver = as_object(expr_code(alloc, context, at, inner)?);
+            let inside = boxed_expr(alloc, context, at, inner)?;
+            let receiver = boxed_object(alloc, inside)?;
             let class = receiver_class(context, at, inner);
             field_target(alloc, context, class, word, receiver, inner.place)
         }

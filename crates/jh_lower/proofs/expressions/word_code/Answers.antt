@@ -2,14 +2,12 @@ use Rattle.std.proofs.Common.{◌≡◌, sym, ap, ◌∙◌, subst, IfOk, Some, 
 use Rattle.jh_rules.specs.Words.{text_of}
 use Rattle.jh_exprs.specs.Lookings.{declared_by, scope_by}
 use Rattle.jh_runs.specs.Code as code
-use Rattle.jh_lowered.specs.Codes.{any_code, object_code}
-use Rattle.jh_lower.specs.Lowering.{source_of}
+use Rattle.jh_lower.specs.Lowering.{boxed_code, source_of}
 use Rattle.jh_lower.proofs.Resolving.{field-is, word-is}
 use Rattle.jh_lower.proofs.expressions.word_code.Goals as goal
 
 pub returns-in-None-field_of : goal.returns-in-None-field_of
-unfolding any_code object_code
-returns-in-None-field_of c = word-is (source_of c.args.context.now) (scope_by c.args.at.now) c.args.word.now None None (ap (scope_by c.args.at.now).local (sym c.text-text.ensures) ∙ sym c.local.ensures ∙ c.in-None.is) (field-is c.args.context.now c.requires c.args.at.now.class (text_of c.args.word.now) None (sym c.in-None-field_of.is ∙ c.field_of.ensures ∙ ap (λ x. (declared_by c.args.context.now.lookups.now).field_of c.args.at.now.class x) c.text-text.ensures))
+returns-in-None-field_of c = subst (λ (x : code.AnyCode). IfOk c.null_code.result (λ made. boxed_code made ≡ x)) (word-is (source_of c.args.context.now) (scope_by c.args.at.now) c.args.word.now None None (ap (scope_by c.args.at.now).local (sym c.text-text.ensures) ∙ sym c.local.ensures ∙ c.in-None.is) (field-is c.args.context.now c.requires c.args.at.now.class (text_of c.args.word.now) None (sym c.in-None-field_of.is ∙ c.field_of.ensures ∙ ap (λ x. (declared_by c.args.context.now.lookups.now).field_of c.args.at.now.class x) c.text-text.ensures))) c.null_code.ensures
 
 pub returns-in-Some-field_of : goal.returns-in-Some-field_of
-returns-in-Some-field_of c = subst (λ (x : code.AnyCode). IfOk c.own_code.result (λ made. any_code made ≡ x)) (word-is (source_of c.args.context.now) (scope_by c.args.at.now) c.args.word.now None (Some c.in-Some-field_of.entry) (ap (scope_by c.args.at.now).local (sym c.text-text.ensures) ∙ sym c.local.ensures ∙ c.in-None.is) (field-is c.args.context.now c.requires c.args.at.now.class (text_of c.args.word.now) (Some c.in-Some-field_of.entry) (sym c.in-Some-field_of.is ∙ c.field_of.ensures ∙ ap (λ x. (declared_by c.args.context.now.lookups.now).field_of c.args.at.now.class x) c.text-text.ensures))) c.own_code.ensures
+returns-in-Some-field_of c = subst (λ (x : code.AnyCode). IfOk c.own_code.result (λ made. boxed_code made ≡ x)) (word-is (source_of c.args.context.now) (scope_by c.args.at.now) c.args.word.now None (Some c.in-Some-field_of.entry) (ap (scope_by c.args.at.now).local (sym c.text-text.ensures) ∙ sym c.local.ensures ∙ c.in-None.is) (field-is c.args.context.now c.requires c.args.at.now.class (text_of c.args.word.now) (Some c.in-Some-field_of.entry) (sym c.in-Some-field_of.is ∙ c.field_of.ensures ∙ ap (λ x. (declared_by c.args.context.now.lookups.now).field_of c.args.at.now.class x) c.text-text.ensures))) c.own_code.ensures
