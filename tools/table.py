@@ -216,10 +216,12 @@ ghost use Rattle.std.specs.Prelude.{◌≡◌, ◌<◌, Some, length, slice_get}
 ghost use Rattle.jh_table.specs.Parts.{own_parts, list_of, binders, put};
 ghost use Rattle.jh_table.specs.Own.{own_list};
 
+use std::hash::{Hash, Hasher};
+
 /// One node of a table: a constructor of terms, fields or formulas over the numbers of its parts. Names,
 /// labels and lists of fields stand in pools of the table and are given by their numbers there. The
 /// constructors of each sort are variants of their own, so a shape tells its sort.
-#[derive(Clone, Copy, Debug, PartialEq, Eq, Hash)]
+#[derive(Clone, Copy)]
 pub enum Shape {"""]
     last = None
     for code, ctor, variant, kinds in shapes():
@@ -227,8 +229,44 @@ pub enum Shape {"""]
         out.append(f"    {variant}({args})," if kinds else f"    {variant},")
     out.append("""}
 
+// Shapes are compared and hashed by their codes, since derived tests have an arm for each constructor, with goals of its own.
+impl PartialEq for Shape {
+    ghost use Rattle.std.specs.Ordering.{on};
+    ghost use Rattle.std.specs.Cmp.Rules.{comparing};
+    ghost use Rattle.std.proofs.Common.{rules};
+    ghost use Rattle.jh_table.specs.Codes.{code_of, same_code, code_laws};
+
+    ghost eq = { on code_of same_code };
+
+    ghost laws = { Prim.search (comparing, code_laws, rules) };
+
+    fn eq(&self, other: &Shape) -> bool {
+        self.code().is(other.code())
+    }
+}
+
+impl Eq for Shape {
+    ghost use Rattle.std.specs.Cmp.Rules.{comparing};
+    ghost use Rattle.std.proofs.Common.{rules};
+    ghost use Rattle.jh_table.specs.Codes.{code_laws};
+
+    ghost laws = { Prim.search (comparing, code_laws, rules) };
+}
+
+impl Hash for Shape {
+    ghost use Rattle.jh_table.specs.Codes.{code_of, code_input, same_input};
+
+    ghost hash_input = { λ x. code_input (code_of x) };
+
+    ghost respects_eq = { λ x y. same_input (code_of x) (code_of y) };
+
+    fn hash<H: Hasher>(&self, state: &mut H) {
+        self.code().feed(state);
+    }
+}
+
 /// The parts of a shape that are no fields of a list.
-#[derive(Clone, Copy, Debug, PartialEq, Eq)]
+#[derive(Clone, Copy, PartialEq, Eq)]
 pub enum Own {
     None,
     One(usize),
@@ -913,36 +951,198 @@ module _ (f : Finder) where
     return with_steps('\n'.join(out) + '\n')
 
 
-def shape_eq_file():
-    out = [f"""-- The derived test of equality of shapes: it says true of a shape and itself, and of no two.
-{COMMON.replace('arith}', 'rules}')}
-use Rattle.std.proofs.lemmas.Bool.{{true≢false}}
+def code_words(kinds, ns):
+    """The constant and the three numbers of a shape's code."""
+    numbers = [n for k, n in zip(kinds, ns) if core(k) != 'z'] + ['0'] * 3
+    constant = [n for k, n in zip(kinds, ns) if core(k) == 'z']
+    return constant, numbers[:3]
+
+
+def codes_spec():
+    out = [f"""-- A shape as numbers alone, and the shape of such numbers.
+use Rattle.std.specs.Prelude.{{◌≡◌, ℕ, ℤ, pos, Bool, true, ◌&&◌, nat_eq, ◌++◌, if◌then◌else◌, ◌==◌}}
+use Rattle.std.specs.Ordering.{{on, int_eq, eq_of_both}}
+use Rattle.std.specs.Cmp.{{IsEquivalence}}
+use Rattle.std.specs.Cmp.Rules.{{comparing}}
+use Rattle.std.specs.Hash as fed
+use Rattle.std.proofs.Common.{{ap, rules}}
+use Rattle.std.proofs.lemmas.Bool.Decides.{{Decides-eqb, Decides-int_eq}}
+use Rattle.jh_tree.proofs.ClosedLemmas.{{both-left, both-right}}
+use Rattle.jh_table.specs.declared.codes.Code.{{Code}}
 {USE_SHAPES}
+
+abbrev pub code : ℕ → ℤ → ℕ → ℕ → ℕ → Code
+code kind constant first second third = record {{ kind = kind; constant = constant; first = first; second = second; third = third }}
+
+unfoldable pub code_of : Shape → Code"""]
+    for kind, (_, ctor, variant, kinds) in enumerate(shapes()):
+        ns = names(kinds)
+        constant, numbers = code_words(kinds, ns)
+        out.append(f"code_of {shape_of(variant, ns)} = code {kind} {constant[0] if constant else '(pos 0)'} {' '.join(numbers)}")
+    out.append("""
+-- what two shapes are told apart by
+abbrev pub same_numbers : Code → Code → Bool
+same_numbers = eq_of_both (on (λ c. c.first) nat_eq) (eq_of_both (on (λ c. c.second) nat_eq) (on (λ c. c.third) nat_eq))
+
+abbrev pub same_code : Code → Code → Bool
+same_code = eq_of_both (on (λ c. c.kind) nat_eq) (eq_of_both (on (λ c. c.constant) int_eq) same_numbers)
+
+-- both tests are equivalences
+numbers_laws : IsEquivalence same_numbers
+numbers_laws = search (comparing, rules)
+
+pub code_laws : IsEquivalence same_code
+code_laws = search (comparing, numbers_laws, rules)
+
+-- what a shape gives to a hash
+abbrev pub code_input : Code → fed.HashWrites
+code_input c = fed.u8 c.kind ++ fed.i64 c.constant ++ fed.usize c.first ++ fed.usize c.second ++ fed.usize c.third
+
+pub same_is : (c d : Code) → same_code c d ≡ true → c ≡ d
+same_is c d h =
+    let kind = nat_eq c.kind d.kind in
+    let constant = int_eq c.constant d.constant in
+    let first = nat_eq c.first d.first in
+    let second = nat_eq c.second d.second in
+    let third = nat_eq c.third d.third in
+    let later = both-right kind (constant && (first && (second && third))) h in
+    let numbers = both-right constant (first && (second && third)) later in
+    let last = both-right first (second && third) numbers in
+    let k = (Decides-eqb c.kind d.kind).0 (both-left kind (constant && (first && (second && third))) h) in
+    let z = (Decides-int_eq c.constant d.constant).0 (both-left constant (first && (second && third)) later) in
+    let x = (Decides-eqb c.first d.first).0 (both-left first (second && third) numbers) in
+    let y = (Decides-eqb c.second d.second).0 (both-left second third last) in
+    let w = (Decides-eqb c.third d.third).0 (both-right second third last) in
+    λ i. record { kind = k i; constant = z i; first = x i; second = y i; third = w i }
+
+pub same_input : (c d : Code) → same_code c d ≡ true → code_input c ≡ code_input d
+same_input c d h = ap code_input (same_is c d h)""")
+    return '\n'.join(out) + '\n'
+
+
+def codes_code():
+    out = ["""#![tactic(auto, unfolding(crate::specs::Codes::code_of))]
+
+ghost use Rattle.std.specs.Prelude.{◌≡◌, ◌++◌, fold};
+ghost use Rattle.jh_table.specs.Codes.{code, code_of, code_input, same_code, same_numbers};
+
+use crate::Shape;
+use std::hash::{Hash, Hasher};
+
+/// A shape as numbers alone: which constructor it is, its constant, and its other arguments in their order. What it
+/// has none of is 0.
+#[derive(Clone, Copy)]
+pub(crate) struct Code {
+    kind: u8,
+    constant: i64,
+    first: usize,
+    second: usize,
+    third: usize,
+}
+
+fn coded(kind: u8, constant: i64, first: usize, second: usize, third: usize) -> Code
+    ensures { result ≡ code kind constant first second third }
+{
+    Code {
+        kind,
+        constant,
+        first,
+        second,
+        third,
+    }
+}
+
+impl Code {
+    fn has_numbers_of(self, other: Code) -> bool
+        ensures { result ≡ same_numbers self other }
+    {
+        self.first == other.first && self.second == other.second && self.third == other.third
+    }
+
+    /// Whether it is the code of the same shape.
+    pub(crate) fn is(self, other: Code) -> bool
+        ensures { result ≡ same_code self other }
+    {
+        self.kind == other.kind
+            && self.constant == other.constant
+            && self.has_numbers_of(other)
+    }
+
+    /// Gives its numbers to a hash.
+    pub(crate) fn feed<H: Hasher>(self, state: &mut H)
+        ensures { state.new ≡ fold H.write state.old (code_input self) }
+    {
+        self.kind.hash(state);
+        self.constant.hash(state);
+        self.first.hash(state);
+        self.second.hash(state);
+        self.third.hash(state);
+    }
+}
+
+impl Shape {
+    /// The shape as numbers.
+    pub(crate) fn code(self) -> Code
+        ensures { result ≡ code_of self }
+    {
+        match self {"""]
+    for kind, (_, ctor, variant, kinds) in enumerate(shapes()):
+        ns = names(kinds)
+        constant, numbers = code_words(kinds, ns)
+        word = {'k': 'number', 'z': 'constant', 'n': 'name', 'm': 'mark', 'l': 'list'}
+        shown = [f"{word.get(n, n)} as usize" if kinds == ['u'] and n == 'k' else word.get(n, n) for n in numbers]
+        left = f"Shape::{variant}" + (f"({', '.join(word.get(n, n) for n in ns)})" if ns else '')
+        out.append(f"            {left} => coded({kind}, {'constant' if constant else '0'}, {', '.join(shown)}),")
+    out.append("""        }
+    }
+}
+""")
+    return '\n'.join(out)
+
+
+def shape_eq_file():
+    out = [f"""-- The test of equality of shapes: it says true of a shape and itself, and of no two.
+use Rattle.std.proofs.Common.{{◌≡◌, refl, sym, ap, ◌∙◌, ℕ, true, ◌&&◌, nat_eq}}
+use Rattle.std.specs.Prelude.{{if◌then◌else◌, ◌==◌}}
+use Rattle.std.specs.Ordering.{{int_eq}}
+use Rattle.std.proofs.lemmas.Bool.Decides.{{Decides-eqb, Decides-int_eq}}
+{USE_SHAPES}
+use Rattle.jh_table.specs.declared.codes.Code.{{Code}}
+use Rattle.jh_table.specs.Codes.{{code_of, same_code, same_is}}
 use Rattle.jh_table.specs.contracts.shapes.ShapePartialEq.TheImpl.{{ghosts}}
-"""]
+
+-- the shape of a code
+unfoldable shape_in : Code → Shape"""]
     shown = list(shapes())
-    for code, ctor, variant, kinds in shown:
-        ns = names(kinds)
-        others = [n + n for n in ns]
-        sig = binders_of(kinds, ns)
-        out.append(f"eq-{variant} : {sig + ' ' if sig else ''}(y : Shape) → ghosts.eq {shape_of(variant, ns)} y ≡ true → {shape_of(variant, ns)} ≡ y")
-        args = ' '.join(ns)
-        args = args + ' ' if args else ''
-        body = 'search rules' if ns else 'refl'
-        out.append(f"eq-{variant} {args}{shape_of(variant, others)} h = {body}")
-        out.append(f"eq-{variant} {args}_ h = absurd (true≢false (sym h))")
-        out.append('')
-    out.append("pub shape_eq-true : (x y : Shape) → ghosts.eq x y ≡ true → x ≡ y")
-    for code, ctor, variant, kinds in shown:
-        ns = names(kinds)
-        args = ' '.join(ns)
-        args = args + ' ' if args else ''
-        out.append(f"shape_eq-true {shape_of(variant, ns)} y h = eq-{variant} {args}y h")
+    lines = []
+    for kind, (code, ctor, variant, kinds) in enumerate(shown):
+        fields = iter(('c.first', 'c.second', 'c.third'))
+        args = ['c.constant' if core(k) == 'z' else next(fields) for k in kinds]
+        lines.append((kind, apply('s.' + variant, args)))
+    text = lines[-1][1]
+    for kind, shape in reversed(lines[:-1]):
+        text = f"if c.kind == {kind} then {shape} else ({text})" if kind < len(lines) - 2 else f"if c.kind == {kind} then {shape} else {text}"
+    out.append(f"shape_in c = {text}")
     out.append('')
-    out.append("pub shape_eq-same : (x : Shape) → ghosts.eq x x ≡ true")
+    out.append("back : (x : Shape) → shape_in (code_of x) ≡ x")
+    out.append("unfolding code_of shape_in")
     for code, ctor, variant, kinds in shown:
-        ns = names(kinds)
-        out.append(f"shape_eq-same {shape_of(variant, ns)} = {'search rules' if ns else 'refl'}")
+        out.append(f"back {shape_of(variant, names(kinds))} = refl")
+    out.append("""
+pub shape_eq-true : (x y : Shape) → ghosts.eq x y ≡ true → x ≡ y
+shape_eq-true x y h = sym (back x) ∙ (ap shape_in (same_is (code_of x) (code_of y) h) ∙ back y)
+
+same-itself : (c : Code) → same_code c c ≡ true
+same-itself c =
+    let k = (Decides-eqb c.kind c.kind).1 refl in
+    let z = (Decides-int_eq c.constant c.constant).1 refl in
+    let x = (Decides-eqb c.first c.first).1 refl in
+    let y = (Decides-eqb c.second c.second).1 refl in
+    let w = (Decides-eqb c.third c.third).1 refl in
+    λ i. k i && (z i && (x i && (y i && w i)))
+
+pub shape_eq-same : (x : Shape) → ghosts.eq x x ≡ true
+shape_eq-same x = same-itself (code_of x)""")
     return '\n'.join(out) + '\n'
 
 
@@ -1101,6 +1301,8 @@ if __name__ == '__main__':
         'specs/Nodes.antt': nodes_file,
         'specs/Parts.antt': parts_spec,
         'src/shapes.rt': shapes_code,
+        'specs/Codes.antt': codes_spec,
+        'src/codes.rt': codes_code,
         'proofs/PartSteps.antt': part_steps_file,
         'proofs/NodeSteps.antt': node_steps_file,
         'proofs/Growing.antt': growing_file,

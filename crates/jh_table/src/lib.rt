@@ -1,6 +1,7 @@
 //! A table of terms, fields and formulas in which each part stands once and is named by its number.
 #![tactic(auto)]
 
+mod codes;
 mod facts;
 mod laws;
 mod listing;

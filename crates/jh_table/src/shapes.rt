@@ -5,10 +5,12 @@ ghost use Rattle.std.specs.Prelude.{◌≡◌, ◌<◌, Some, length, slice_get}
 ghost use Rattle.jh_table.specs.Parts.{own_parts, list_of, binders, put};
 ghost use Rattle.jh_table.specs.Own.{own_list};
 
+use std::hash::{Hash, Hasher};
+
 /// One node of a table: a constructor of terms, fields or formulas over the numbers of its parts. Names,
 /// labels and lists of fields stand in pools of the table and are given by their numbers there. The
 /// constructors of each sort are variants of their own, so a shape tells its sort.
-#[derive(Clone, Copy, Debug, PartialEq, Eq, Hash)]
+#[derive(Clone, Copy)]
 pub enum Shape {
     Bound(u32),
     FreeObject(usize),
@@ -58,8 +60,44 @@ pub enum Shape {
     Mark(usize, usize),
 }
 
+// Shapes are compared and hashed by their codes, since derived tests have an arm for each constructor, with goals of its own.
+impl PartialEq for Shape {
+    ghost use Rattle.std.specs.Ordering.{on};
+    ghost use Rattle.std.specs.Cmp.Rules.{comparing};
+    ghost use Rattle.std.proofs.Common.{rules};
+    ghost use Rattle.jh_table.specs.Codes.{code_of, same_code, code_laws};
+
+    ghost eq = { on code_of same_code };
+
+    ghost laws = { Prim.search (comparing, code_laws, rules) };
+
+    fn eq(&self, other: &Shape) -> bool {
+        self.code().is(other.code())
+    }
+}
+
+impl Eq for Shape {
+    ghost use Rattle.std.specs.Cmp.Rules.{comparing};
+    ghost use Rattle.std.proofs.Common.{rules};
+    ghost use Rattle.jh_table.specs.Codes.{code_laws};
+
+    ghost laws = { Prim.search (comparing, code_laws, rules) };
+}
+
+impl Hash for Shape {
+    ghost use Rattle.jh_table.specs.Codes.{code_of, code_input, same_input};
+
+    ghost hash_input = { λ x. code_input (code_of x) };
+
+    ghost respects_eq = { λ x y. same_input (code_of x) (code_of y) };
+
+    fn hash<H: Hasher>(&self, state: &mut H) {
+        self.code().feed(state);
+    }
+}
+
 /// The parts of a shape that are no fields of a list.
-#[derive(Clone, Copy, Debug, PartialEq, Eq)]
+#[derive(Clone, Copy, PartialEq, Eq)]
 pub enum Own {
     None,
     One(usize),
