@@ -205,26 +205,9 @@ use Rattle.jh_table.specs.declared.shapes.Shape.TheVariants as s
 use Rattle.jh_table.specs.Nodes.{nodes, tree_in}
 use Rattle.jh_table.proofs.Listed.{extends-refl, extends-trans, node-stays}
 use Rattle.jh_table.proofs.NodeSteps.{SHAPES}
-use Rattle.jh_enter.proofs.Fields.{entering-start, entering-step, listed-as, made-as, fits-listed-Reach, tree-listed-Reach, tree-listed-Tree}
+use Rattle.jh_enter.proofs.Fields.{entering-start, entering-step, listed-as, made-as, fits-listed-Reach, tree-listed-Reach, fits-listed-Tree, tree-listed-Tree}
 use Rattle.jh_enter.proofs.Adding.{adds-self, adds-part, adds-fields, adds-pool, adds-made, adds-first, adds-field, adds-list}
 use Rattle.jh_enter.proofs.entering.+entered.Goals as goal
-
-pub enter_field-returns-in_ok-c-in-Update-clause-node :
-    goal.enter_field-returns-in_ok-c-in-Update-clause-node
-enter_field-returns-in_ok-c-in-Update-clause-node t c =
-    let last = c.enter_value.new.table in
-    let x = field_tree c.deref.result.now in
-    let y = term_tree c.deref-in-Update.result.now in
-    let z = value_tree c.deref-in-Update-2.result.now in
-    let i = c.in_ok-a-in-Update.a in
-    let j = c.in_ok-b-in-Update.b in
-    let k = c.in_ok-c-in-Update.c in
-    let first : slice_get (nodes c.enter_term.new.table) i ≡ Some (of_field x) = node-stays c.enter_field.new.table c.enter_term.new.table i (of_field x) c.in_ok-b-in-Update.ensures.grows c.in_ok-a-in-Update.ensures.node in
-    let at : slice_get (nodes last) i ≡ Some (of_field x) = node-stays c.enter_term.new.table last i (of_field x) c.in_ok-c-in-Update.ensures.grows first in
-    let bt : slice_get (nodes last) j ≡ Some (of_object y) = node-stays c.enter_term.new.table last j (of_object y) c.in_ok-c-in-Update.ensures.grows c.in_ok-b-in-Update.ensures.node in
-    let whole : field_tree c.args.field.now ≡ tree.update x y z = search (rules, field_tree-Update) in
-    made-as (nodes c.make-in-Update.new.self) c.make-in-Update.result (tree_in last (s.Update i j k)) (of_field (field_tree c.args.field.now))
-    (tree-Update last.pools (nodes last) i j k x y z at bt c.in_ok-c-in-Update.ensures.node ∙ ap (λ f. of_field f) (sym whole)) c.make-in-Update.ensures.node
 
 pub enter_fields-loop-field-init : goal.enter_fields-loop-field-init
 enter_fields-loop-field-init t c = record {
@@ -279,47 +262,6 @@ pub enter_fields-returns-clause-grows : goal.enter_fields-returns-clause-grows
 enter_fields-returns-clause-grows t c =
     extends-trans c.args.table.now c.loop-field.table c.list.new.self c.loop-field.invariant.grows c.list.ensures.grows
 
-pub enter_atom-returns-in_ok-fields-in-Reach-clause-node :
-    goal.enter_atom-returns-in_ok-fields-in-Reach-clause-node
-enter_atom-returns-in_ok-fields-in-Reach-clause-node t c =
-    let last = c.enter_fields.new.table in
-    let fs = list_tree c.items.result.now in
-    let x = term_tree c.in-Reach.a in
-    let y = term_tree c.in-Reach.b in
-    let l = c.in_ok-fields-in-Reach.fields in
-    let i = c.in_ok-a-in-Reach.a in
-    let j = c.in_ok-b-in-Reach.b in
-    let first : slice_get (nodes c.enter_term-in-Reach-2.new.table) i ≡ Some (of_object x) = node-stays c.enter_term-in-Reach.new.table c.enter_term-in-Reach-2.new.table i (of_object x) c.in_ok-b-in-Reach.ensures.grows c.in_ok-a-in-Reach.ensures.node in
-    let at : slice_get (nodes last) i ≡ Some (of_object x) = node-stays c.enter_term-in-Reach-2.new.table last i (of_object x) c.in_ok-fields-in-Reach.ensures.grows first in
-    let bt : slice_get (nodes last) j ≡ Some (of_object y) = node-stays c.enter_term-in-Reach-2.new.table last j (of_object y) c.in_ok-fields-in-Reach.ensures.grows c.in_ok-b-in-Reach.ensures.node in
-    let whole : formula_tree c.args.formula.now ≡ tree.reach fs x y = search (rules, formula_tree-Reach) in
-    made-as (nodes c.make-in-Reach.new.self) c.make-in-Reach.result (tree_in last (s.Reach l i j)) (of_truth (formula_tree c.args.formula.now))
-    (tree-listed-Reach last l i j fs x y c.in_ok-fields-in-Reach.ensures.list at bt ∙ ap (λ f. of_truth f) (sym whole)) c.make-in-Reach.ensures.node
-
-pub enter_formula-returns-in_ok-mark-in-Mark-clause-node :
-    goal.enter_formula-returns-in_ok-mark-in-Mark-clause-node
-enter_formula-returns-in_ok-mark-in-Mark-clause-node t c =
-    let last = c.mark.new.self in
-    let x = formula_tree c.deref-in-Mark.result.now in
-    let i = c.in_ok-a-in-Mark.a in
-    let m = c.in_ok-mark-in-Mark.mark in
-    let at : slice_get (nodes last) i ≡ Some (of_truth x) = node-stays c.enter_formula-in-Mark.new.table last i (of_truth x) c.in_ok-mark-in-Mark.ensures.grows c.in_ok-a-in-Mark.ensures.node in
-    let whole : formula_tree c.args.formula.now ≡ tree.mark c.in-Mark.mark x = search (rules, formula_tree-Mark) in
-    made-as (nodes c.make-in-Mark.new.self) c.make-in-Mark.result (tree_in last (s.Mark m i)) (of_truth (formula_tree c.args.formula.now))
-    (tree-Mark last.pools (nodes last) m i c.in-Mark.mark x c.in_ok-mark-in-Mark.ensures.number at ∙ ap (λ f. of_truth f) (sym whole)) c.make-in-Mark.ensures.node
-
-pub enter_atom-make-requires-in-Reach :
-    goal.enter_atom-make-requires-in-Reach
-enter_atom-make-requires-in-Reach t c =
-    let last = c.enter_fields.new.table in
-    let x = term_tree c.in-Reach.a in
-    let y = term_tree c.in-Reach.b in
-    let i = c.in_ok-a-in-Reach.a in
-    let j = c.in_ok-b-in-Reach.b in
-    let first : slice_get (nodes c.enter_term-in-Reach-2.new.table) i ≡ Some (of_object x) = node-stays c.enter_term-in-Reach.new.table c.enter_term-in-Reach-2.new.table i (of_object x) c.in_ok-b-in-Reach.ensures.grows c.in_ok-a-in-Reach.ensures.node in
-    let at : slice_get (nodes last) i ≡ Some (of_object x) = node-stays c.enter_term-in-Reach-2.new.table last i (of_object x) c.in_ok-fields-in-Reach.ensures.grows first in
-    let bt : slice_get (nodes last) j ≡ Some (of_object y) = node-stays c.enter_term-in-Reach-2.new.table last j (of_object y) c.in_ok-fields-in-Reach.ensures.grows c.in_ok-b-in-Reach.ensures.node in
-    fits-listed-Reach last c.in_ok-fields-in-Reach.fields i j (list_tree c.items.result.now) x y c.in_ok-fields-in-Reach.ensures.list at bt
 """
 
 
@@ -342,8 +284,14 @@ def wrapped(code, tree):
     return tree if code == 'V' else f"({WRAP[code]} {tree})"
 
 
-def only(code, variant, ctor, kinds, calls, function):
-    """The answers for the clause `only` in one arm: where each call fails, and where the node is made."""
+def requires_of(function, made):
+    """The goal for what the call that makes the node asks for."""
+    name, _, arm = made[len('c.'):].partition('-in-')
+    return f"{function}-{name}-requires" + (f"-in-{arm}" if arm else '')
+
+
+def arm_answers(code, variant, ctor, kinds, calls, function):
+    """The answers of one arm: where each call fails, and where the node is made."""
     fn, param = TYPES[code][2], PARAM[code]
     letters, trees, steps = iter('abc'), iter('xyz'), []
     args = []
@@ -365,18 +313,41 @@ def only(code, variant, ctor, kinds, calls, function):
         if core(k) == 'k':
             entered.append((word, k, tree, f"{calls.name('mark', variant)}.new.self", None))
             continue
+        behind = None
         if core(k) == 'L':
             at = f"list_tree {calls.name('items', variant)}.result.now"
             later = f"list_tree c.in-{variant}.fields"
             table = calls.name('enter_fields', variant)
         else:
-            at = f"{TYPES[core(k)][2]}_tree " + (f"{calls.name('deref', variant)}.result.now" if boxed(k) else f"c.in-{variant}.{word}")
+            behind = calls.name('deref', variant) if boxed(k) else None
+            at = f"{TYPES[core(k)][2]}_tree " + (f"{behind}.result.now" if behind else f"c.in-{variant}.{word}")
             later = f"{TYPES[core(k)][2]}_tree c.in-{variant}.{word}" + ('.value' if boxed(k) else '')
             table = calls.name(f"enter_{WORD[core(k)]}", variant)
-        entered.append((word, k, tree, f"{table}.new.table", (at, later)))
+        entered.append((word, k, tree, f"{table}.new.table", (at, later, behind)))
     made = calls.name('make', variant)
     tree_now, built = f"{fn}_tree c.args.{param}.now", ' '.join(['tree.' + ctor] + args)
     several = sum(1 for k in kinds if is_part(k)) > 1
+
+    listed = any(core(k) == 'L' for k in kinds)
+
+    def whole_of(ends):
+        """The lines that say which tree it is, with what is in the boxes that were opened up to this step."""
+        if listed:
+            return [f"let whole : {tree_now} ≡ {built} = search (rules, {fn}_tree-{variant}) in"]
+        opened = {tree: (word, k, words[2]) for i, (word, k, tree, _, words) in enumerate(entered) if tree and words[2] and i <= ends}
+        lines = [f"let in_{word} = sym {behind}.ensures in" for word, _, behind in opened.values()]
+        shown = [f"({TYPES[core(opened[x][1])][2]}_tree (in_{opened[x][0]} i))" if x in opened else x for x in args]
+        step = f" ∙ (λ i. tree.{ctor} {' '.join(shown)})" if opened else ''
+        return lines + [f"let whole : {tree_now} ≡ {built} = ap (λ d. {fn}_tree d) c.in-{variant}.is{step} in"]
+
+    def grown(ends):
+        """That the table grows up to this step, and the table there."""
+        last, chain = 'c.args.table.now', None
+        for i, (word, _, _, table, _) in enumerate(entered[:ends + 1]):
+            step = f"c.in_{'err' if i == ends else 'ok'}-{word}-in-{variant}.ensures.grows"
+            chain = f"(extends-trans c.args.table.now {last} {table} {chain} {step})" if chain else step
+            last = table
+        return last, chain
 
     def arm_of(ends):
         """The lines up to the step of this number, which fails, or up to the end."""
@@ -386,7 +357,7 @@ def only(code, variant, ctor, kinds, calls, function):
                 lines.append(f"let {tree} = {words[0] if i <= ends else words[1]} in")
         lines.append(f"let v = {WRAP[code]} ({tree_now}) in")
         lines.append(f"let w = {WRAP[code]} ({built}) in")
-        lines.append(f"let whole : {tree_now} ≡ {built} = search (rules, {fn}_tree-{variant}) in")
+        lines += whole_of(ends)
         lines.append(f"let same : v ≡ w = ap (λ d. {WRAP[code]} d) whole in")
         last, chain = 'start', "(adds-self start v)"
         for i, (word, k, tree, table, words) in enumerate(entered[:ends + 1]):
@@ -407,6 +378,7 @@ def only(code, variant, ctor, kinds, calls, function):
     out = []
     for i, (word, *_) in enumerate(entered):
         out.append((f"{function}-returns-in_err-{word}-in-{variant}-clause-only", arm_of(i)))
+        out.append((f"{function}-returns-in_err-{word}-in-{variant}-clause-grows", [grown(i)[1]]))
     lines, last, chain = arm_of(len(entered))
     lines.append(f"let last = {last} in")
     places, trees, proofs, numbers, again = {}, [], [], [], ''
@@ -437,17 +409,23 @@ def only(code, variant, ctor, kinds, calls, function):
         numbers.append(place)
         trees.append(tree)
         proofs.append(proof)
-    listed = any(core(k) == 'L' for k in kinds)
-    lemma = f"tree-listed-{camel(ctor)} last" if listed else f"tree-{camel(ctor)} last.pools (nodes last)"
+    lemma = f"{camel(ctor)} last" if listed else f"{camel(ctor)} last.pools (nodes last)"
     shape = f"(s.{camel(ctor)} {' '.join(numbers)})"
-    lines.append(f"let made : tree_in last {shape} ≡ v = {' '.join([lemma] + numbers + trees + proofs)}{again} ∙ sym same in")
-    lines.append(f"adds-made start last {made}.new.self v {shape} made {chain} {made}.ensures.only")
-    out.append((f"{function}-returns-in_ok-{entered[-1][0]}-in-{variant}-clause-only", lines))
+    stands = ' '.join(numbers + trees + proofs)
+    lets = [line for line in lines if line.startswith('let ') and not line.startswith('let after_')]
+    said = f"let made : tree_in last {shape} ≡ v = tree-{'listed-' if listed else ''}{lemma} {stands}{again} ∙ sym same in"
+    goal = f"{function}-returns-in_ok-{entered[-1][0]}-in-{variant}-clause"
+    out.append((f"{goal}-only", lines + [said, f"adds-made start last {made}.new.self v {shape} made {chain} {made}.ensures.only"]))
+    out.append((f"{goal}-node", lets + [said, f"made-as (nodes {made}.new.self) {made}.result (tree_in last {shape}) v made {made}.ensures.node"]))
+    before, grows = grown(len(entered))
+    out.append((f"{goal}-grows", [f"extends-trans c.args.table.now {before} {made}.new.self {grows} {made}.ensures.grows"]))
+    wanted = [line for line in lets if line.split()[1] in trees + ['last', 'z', 'read', 'fs']]
+    out.append((requires_of(function, made), wanted + [f"fits-{'listed-' if listed else ''}{lemma} {stands}"]))
     return out
 
 
 def leaf(code, variant, ctor, kinds, calls, function):
-    """The answer for the clause `only` in an arm without parts."""
+    """The answers of an arm without parts."""
     fn, param, made = TYPES[code][2], PARAM[code], calls.name('make', variant)
     tree_now = f"{fn}_tree c.args.{param}.now"
     lines = ["let start = c.args.table.now in", f"let v = {WRAP[code]} ({tree_now}) in"]
@@ -455,38 +433,46 @@ def leaf(code, variant, ctor, kinds, calls, function):
         ok = f"c.in_ok-name-in-{variant}"
         name = calls.name('name', variant)
         built, shape = f"tree.{ctor} c.in-{variant}.name", f"(s.{camel(ctor)} {ok}.name)"
-        lines += [f"let last = {name}.new.self in", f"let whole : {tree_now} ≡ {built} = search (rules, {fn}_tree-{variant}) in"]
-        lines.append(f"let made : tree_in last {shape} ≡ v = tree-{camel(ctor)} last.pools (nodes last) {ok}.name c.in-{variant}.name {ok}.ensures.number ∙ ap (λ d. {WRAP[code]} d) (sym whole) in")
-        lines.append(f"adds-made start last {made}.new.self v {shape} made (adds-pool start start last v {ok}.ensures.nodes (adds-self start v)) {made}.ensures.only")
-        return f"{function}-returns-in_ok-name-in-{variant}-clause-only", lines
+        lines += [f"let last = {name}.new.self in", f"let whole : {tree_now} ≡ {built} = ap (λ d. {fn}_tree d) c.in-{variant}.is in"]
+        stands = f"{camel(ctor)} last.pools (nodes last) {ok}.name c.in-{variant}.name {ok}.ensures.number"
+        goal = f"{function}-returns-in_ok-name-in-{variant}-clause"
+        said = f"let made : tree_in last {shape} ≡ v = tree-{stands} ∙ ap (λ d. {WRAP[code]} d) (sym whole) in"
+        return [
+            (f"{goal}-only", lines + [said, f"adds-made start last {made}.new.self v {shape} made (adds-pool start start last v {ok}.ensures.nodes (adds-self start v)) {made}.ensures.only"]),
+            (f"{goal}-node", lines + [said, f"made-as (nodes {made}.new.self) {made}.result (tree_in last {shape}) v made {made}.ensures.node"]),
+            (f"{goal}-grows", [f"extends-trans c.args.table.now {name}.new.self {made}.new.self {ok}.ensures.grows {made}.ensures.grows"]),
+            (requires_of(function, made), lines[2:3] + [f"fits-{stands}"]),
+        ]
     number = f" c.in-{variant}.number" if kinds else ''
     again, read = '', number
     if kinds == ['z']:
         lines += [f"let z ={number} in", "let read = to_z w64 (of_z w64 z) in", "let fits : SFits w64 z = search rules in"]
         again, read = f" ∙ ap (λ d. {WRAP[code]} (tree.{ctor} d)) (to_z-of_z w64 z fits)", ' read'
     shape = f"(s.{camel(ctor)}{read})" if kinds else f"s.{camel(ctor)}"
-    lines.append(f"let whole : {tree_now} ≡ tree.{ctor}{number} = search (rules, {fn}_tree-{variant}) in")
+    lines.append(f"let whole : {tree_now} ≡ tree.{ctor}{number} = ap (λ d. {fn}_tree d) c.in-{variant}.is in")
     lines.append(f"let made : tree_in start {shape} ≡ v = tree-{camel(ctor)} start.pools (nodes start){read}{again} ∙ ap (λ d. {WRAP[code]} d) (sym whole) in")
-    lines.append(f"adds-made start start {made}.new.self v {shape} made (adds-self start v) {made}.ensures.only")
-    return f"{function}-returns-in-{variant}-clause-only", lines
+    goal = f"{function}-returns-in-{variant}-clause"
+    return [
+        (f"{goal}-only", lines + [f"adds-made start start {made}.new.self v {shape} made (adds-self start v) {made}.ensures.only"]),
+        (f"{goal}-node", lines + [f"made-as (nodes {made}.new.self) {made}.result (tree_in start {shape}) v made {made}.ensures.node"]),
+        (f"{goal}-grows", [f"{made}.ensures.grows"]),
+    ]
 
 
 def answers():
     arms = [(code, v, ctor, kinds) for code in 'TISFP' for v, ctor, kinds in TYPES[code][3]]
     steps = ', '.join(f"{TYPES[code][2]}_tree-{v}" for code, v, _, _ in arms)
-    shapes = ', '.join(f"tree-{camel(ctor)}" for _, _, ctor, kinds in arms if not any(core(k) == 'L' for k in kinds))
+    shapes = ', '.join(f"fits-{camel(ctor)}, tree-{camel(ctor)}" for _, _, ctor, kinds in arms if not any(core(k) == 'L' for k in kinds))
     out = [ANSWERS.replace('STEPS', steps).replace('SHAPES', shapes)]
     groups = [(code, f"enter_{WORD[code]}", [x for x in TYPES[code][3] if not is_atom(code, x[0])]) for code in 'TISFP']
     groups.append(('P', 'enter_atom', [x for x in TYPES['P'][3] if is_atom('P', x[0])]))
     for code, function, variants in groups:
         calls = Calls()
         for variant, ctor, kinds in variants:
-            if not any(is_part(k) for k in kinds):
-                goal, lines = leaf(code, variant, ctor, kinds, calls, function)
-                out.append(f"pub {goal} :\n    goal.{goal}\n{goal} t c =\n" + ''.join(f"    {line}\n" for line in lines))
-                continue
-            for goal, lines in only(code, variant, ctor, kinds, calls, function):
-                out.append(f"pub {goal} :\n    goal.{goal}\n{goal} t c =\n" + ''.join(f"    {line}\n" for line in lines))
+            of_arm = arm_answers if any(is_part(k) for k in kinds) else leaf
+            for goal, lines in of_arm(code, variant, ctor, kinds, calls, function):
+                opens = f"unfolding {TYPES[code][2]}_tree\n" if any('_tree d) c.in-' in line for line in lines) else ''
+                out.append(f"pub {goal} :\n    goal.{goal}\n{opens}{goal} t c =\n" + ''.join(f"    {line}\n" for line in lines))
     return '\n'.join(out)
 
 
