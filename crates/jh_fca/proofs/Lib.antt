@@ -3,7 +3,7 @@ mod Found
 mod Sound
 mod Everywhere
 mod Shapes
-mod Local
+pub mod Local
 mod Readings
 mod Raisings
 mod Variations

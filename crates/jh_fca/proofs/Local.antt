@@ -210,10 +210,15 @@ turn-local f s true o found h = h
 turn-local f s false None found h = h
 turn-local f s false (Some c) found h = step-local f c s found h
 
+-- the step of a field
+pub step-of-local : (f : Name) (s : SequentTree) → is_local s ≡ true → is_local (step_of f s) ≡ true
+unfolding at_turn
+step-of-local f s h = turn-local f s (is_listed_in f s) (first_for f s.hyps) refl h
+
 steps-local : (fs : List Name) (s : SequentTree) → is_local s ≡ true → is_local (all_steps fs s) ≡ true
-unfolding all_steps at_turn
+unfolding all_steps
 steps-local [] s h = h
-steps-local (f ∷ fs) s h = steps-local fs (step_of f s) (turn-local f s (is_listed_in f s) (first_for f s.hyps) refl h)
+steps-local (f ∷ fs) s h = steps-local fs (step_of f s) (step-of-local f s h)
 
 pub eliminated-has-shape : EliminatedHasShape
 unfolding eliminate

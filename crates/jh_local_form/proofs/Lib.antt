@@ -13,6 +13,6 @@ mod CutShapes
 mod PartsWithin
 mod Spines
 mod AxiomShapes
-mod Shaped
+pub mod Shaped
 mod Examples
 mod Worked

@@ -18,6 +18,8 @@ use Rattle.jh_local_form.specs.Chosen.{chosen}
 use Rattle.jh_local_form.specs.Named.{all_parts, first_turn, is_whole_update, updates}
 use Rattle.jh_set_opening.specs.SetsOpened.{sets_opened}
 use Rattle.jh_cutting.specs.Cut.{cut}
+use Rattle.jh_fca.specs.Eliminated.{eliminate}
+use Rattle.jh_fca.specs.Laws.{EliminatedHasShape}
 use Rattle.jh_local_form.specs.Chains.{is_name, all_differ, has_axioms, place_of, same_list, ChangeTree, change, changes_of, changes, backbone, base_at, led_from, lists_once, lists_in, backbones, reach_axioms}
 use Rattle.jh_local_form.specs.LocalOf.{begun, with_names, cut_down, local_with, local_of}
 use Rattle.jh_local_form.specs.Laws.{LocalHasShape}
@@ -159,13 +161,18 @@ more-shaped : (fs : List FormulaTree) → AllLocal fs → list_all is_shaped (ma
 more-shaped [] h = refl
 more-shaped (a ∷ fs) h = both-true (has_local_shape a) (list_all is_shaped (map (λ b. record { name = None; fact = b }) fs)) h.0 (more-shaped fs h.1)
 
-with-shape : (facts : List FormulaTree) (k : ℕ) (s : SequentTree) → is_local (local_with (updates facts) k s) ≡ true
-with-shape facts k s =
-    let given : SequentTree = cut_down (with_names (updates facts) k s) in
-    both-true (list_all is_shaped (local_with (updates facts) k s).hyps) (has_local_shape given.goal)
-    (shaped-append given.hyps _ (facts-shaped (with_names (updates facts) k s).hyps) (more-shaped (reach_axioms (formulas given) (changes (updates facts) k)) (reach-local facts (formulas given) k)))
-    (goal-local (with_names (updates facts) k s).goal)
+-- what is left after cutting has local shape
+pub cut-local : (s : SequentTree) → is_local (cut_down s) ≡ true
+cut-local s = both-true (list_all is_shaped (cut_down s).hyps) (has_local_shape (cut_down s).goal) (facts-shaped s.hyps) (goal-local s.goal)
 
-pub local-shape : LocalHasShape
+with-shape : EliminatedHasShape → (facts : List FormulaTree) (k : ℕ) (s : SequentTree) → is_local (local_with (updates facts) k s) ≡ true
+with-shape without facts k s =
+    let given : SequentTree = eliminate (cut_down (with_names (updates facts) k s)) in
+    let shaped : is_local given ≡ true = without (cut_down (with_names (updates facts) k s)) (cut-local (with_names (updates facts) k s)) in
+    both-true (list_all is_shaped (local_with (updates facts) k s).hyps) (has_local_shape given.goal)
+    (shaped-append given.hyps _ (both-left (list_all is_shaped given.hyps) (has_local_shape given.goal) shaped) (more-shaped (reach_axioms (formulas given) (changes (updates facts) k)) (reach-local facts (formulas given) k)))
+    (both-right (list_all is_shaped given.hyps) (has_local_shape given.goal) shaped)
+
+pub local-shape : EliminatedHasShape → LocalHasShape
 unfolding local_of
-local-shape s = with-shape (formulas (begun s)) (first_turn (formulas (chosen s))) (begun s)
+local-shape without s = with-shape without (formulas (begun s)) (first_turn (formulas (chosen s))) (begun s)

@@ -20,6 +20,8 @@ use Rattle.jh_dropping.specs.Dropped.{dropped}
 use Rattle.jh_local_form.specs.Named.{turn_after, turn_behind, all_parts, first_turn, is_whole_update, updates, named, update_facts}
 use Rattle.jh_set_opening.specs.SetsOpened.{sets_opened}
 use Rattle.jh_cutting.specs.Cut.{cut}
+use Rattle.jh_fca.specs.Eliminated.{eliminate}
+use Rattle.jh_fca.specs.Laws.{StandsWithout, EliminatedMayStand}
 use Rattle.jh_local_form.specs.Chains.{changes, reach_axioms}
 use Rattle.jh_local_form.specs.LocalOf.{begun, with_names, cut_down, local_with, local_of}
 use Rattle.jh_local_form.specs.Laws.{LocalIsValid}
@@ -115,23 +117,25 @@ cut-goal : (n : Interp) (a : FormulaTree) → truth (cut (sets_opened a) pol.Pos
 cut-goal n a h = sym (opened-means a n []) ∙ goal-cut (sets_opened a) n [] h
 
 -- the steps from a sequent on whose updates get names
-local-with-valid : AxiomsAreTrue → (us : List ValueTree) (k : ℕ) (s : SequentTree) → AllPass (before k) (formulas s) → ((v : ValueTree) → Among v us → IsNamed k v) → IsValid (local_with us k s) → IsValid s
-local-with-valid law us k s passes all valid m inside hold =
+local-with-valid : AxiomsAreTrue → EliminatedMayStand → (us : List ValueTree) (k : ℕ) (s : SequentTree) → AllPass (before k) (formulas s) → ((v : ValueTree) → Among v us → IsNamed k v) → IsValid (local_with us k s) → IsValid s
+local-with-valid law without us k s passes all valid m inside hold =
     let n : Interp = with_updates us k m all in
     let n_inside : InUniverse n = with-inside us k m all inside in
+    let given : SequentTree = cut_down (with_names us k s) in
     let facts : AllTrue (with_names us k s).hyps n = true-both n (over_facts (named us k) s.hyps) _ (named-true us k m all s.hyps s.goal passes hold) (true-facts n (update_facts us k) (update-facts-hold us k m all)) in
-    let less : AllTrue (cut_down (with_names us k s)).hyps n = over-true n n (λ a. cut (sets_opened a) pol.Negative) (cut-true n) (with_names us k s).hyps facts in
-    let more : AllTrue (local_with us k s).hyps n = true-both n (cut_down (with_names us k s)).hyps _ less (true-facts n (reach_axioms (formulas (cut_down (with_names us k s))) (changes us k)) (reach-axioms-hold law us k m all n_inside (formulas (cut_down (with_names us k s))))) in
-    sym (goal-meant us k m all s.hyps s.goal passes) ∙ cut-goal n (named us k s.goal) (valid n n_inside more)
+    let less : AllTrue given.hyps n = over-true n n (λ a. cut (sets_opened a) pol.Negative) (cut-true n) (with_names us k s).hyps facts in
+    let kept : StandsWithout given n = without given n n_inside less in
+    let more : AllTrue (local_with us k s).hyps n = true-both n (eliminate given).hyps _ kept.facts (true-facts n (reach_axioms (formulas (eliminate given)) (changes us k)) (reach-axioms-hold law us k m all n_inside (formulas (eliminate given)))) in
+    sym (goal-meant us k m all s.hyps s.goal passes) ∙ cut-goal n (named us k s.goal) (kept.goal (valid n n_inside more))
 
 begun-valid : (s : SequentTree) → IsValid (begun s) → IsValid s
 begun-valid s valid m inside hold =
     sym (dropped-means s.goal m [])
     ∙ valid m inside (over-true m m dropped (λ a h. dropped-means a m [] ∙ h) (filter (is_chosen s.mark.from) s.hyps) (filter-true m (is_chosen s.mark.from) s.hyps hold))
 
-pub local-valid : AxiomsAreTrue → LocalIsValid
+pub local-valid : AxiomsAreTrue → EliminatedMayStand → LocalIsValid
 unfolding local_of
-local-valid law s valid =
+local-valid law without s valid =
     let k : ℕ = first_turn (formulas (chosen s)) in
     let passes : AllPass (before k) (formulas (begun s)) = dropped-pass (before k) (chosen s).hyps s.goal (turns-before (formulas (chosen s))) in
-    begun-valid s (local-with-valid law (updates (formulas (begun s))) k (begun s) passes (updates-named k (formulas (begun s)) passes) valid)
+    begun-valid s (local-with-valid law without (updates (formulas (begun s))) k (begun s) passes (updates-named k (formulas (begun s)) passes) valid)

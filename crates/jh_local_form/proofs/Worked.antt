@@ -1,5 +1,5 @@
 -- Local forms of worked sequents: those of programs on lists, trees and sets, and small ones made at random. The expected forms are
--- those of a separate implementation. A name says its sort first: o for an object, f a field, s a set, n a number, p a truth; and its
+-- those of a separate implementation, but for the one with a derived field, which is worked by hand from it. A name says its sort first: o for an object, f a field, s a set, n a number, p a truth; and its
 -- turn last, where that isn't 0.
 use Rattle.std.proofs.Common.{◌≡◌, refl, ℕ, pos, List, [], ◌∷◌, ◌++◌, map, Some, None, codes}
 use Rattle.jh_name.specs.declared.naming.Name.{Name}
@@ -8,7 +8,7 @@ use Rattle.jh_tree.specs.declared.mark.MarkKind.TheVariants as kind
 use Rattle.jh_tree.specs.Tree.{TermTree, IntTree, SetTree, FieldTree, FormulaTree}
 use Rattle.jh_tree.specs.Tree as t
 use Rattle.jh_tree.specs.Closed.{is_closed_term, is_closed_int, is_closed_set, is_closed_field, is_closed_value, is_closed_formula, is_closed_fields}
-use Rattle.jh_tree.specs.Passing.{name_equal}
+use Rattle.jh_tree.specs.Passing.{name_equal, term_passes, set_passes, field_passes, formula_passes, fields_passes}
 use Rattle.jh_sequent.specs.Sequents.{HypTree, SequentTree}
 use Rattle.jh_walk.specs.Mapped.{mapped_term, mapped_int, mapped_set, mapped_field, mapped_value, mapped_formula, mapped_fields}
 use Rattle.jh_compare.specs.Compared.{bound_with, free_object_with, null_with, read_object_with, const_with, free_number_with, read_number_with, add_with, sub_with, neg_with, scale_with, card_with, free_set_with, read_set_with, empty_with, univ_with, single_with, union_with, inter_with, diff_with, compl_with, compr_with, free_field_with, update_with, of_object_with, of_number_with, of_truth_with, of_set_with, of_field_with, true_formula_with, false_formula_with, free_truth_with, read_truth_with, negation_with, and_with, or_with, implies_with, iff_with, all_with, ex_with, eq_object_with, eq_number_with, eq_set_with, less_with, less_equal_with, divides_with, member_with, subset_with, reach_with, tree_with, mark_with, none_with, more_with, past, related_term, related_int, related_set, related_field, related_value, related_formula, related_fields}
@@ -26,6 +26,11 @@ use Rattle.jh_local_form.specs.Named.{turn_after, turn_behind, is_whole_update, 
 use Rattle.jh_set_opening.specs.SetsOpened.{body, as_comprehension, is_in, relation, sets_opened}
 use Rattle.jh_cutting.specs.Cut.{is_simple, is_foreign, holds_foreign, two_ways, iffs_opened, instead_of, all_of, ex_of, mark_of, cut_once, cut}
 use Rattle.jh_local_form.specs.Chains.{is_name, are_one, all_differ, has_axioms, place_of, same_list, change, led_from, lists_once, fields_of, list_of}
+use Rattle.jh_fca.specs.Constraints.{other_than, is_name as is_named, is_variable, is_apart, constraint_in}
+use Rattle.jh_fca.specs.Derived.{goes_along, is_listed, is_listed_in, fields_of as constrained_by, names_once, derived, is_of, first_for, without_first}
+use Rattle.jh_fca.specs.Reads.{is_read, holds_read, term_reads, set_reads, field_reads, fields_reads, formula_reads}
+use Rattle.jh_fca.specs.Exchanged.{varied_term, quantified, terms_once, exchanged, atom_exchanged, eliminated}
+use Rattle.jh_fca.specs.Eliminated.{at_turn, step_by, all_steps, eliminate}
 use Rattle.jh_local_form.specs.LocalOf.{local_of}
 
 abbrev own : List ℕ → ℕ → Name
@@ -554,6 +559,10 @@ row_11 q =
     (axioms (f_node_next_1 ∷ [])) ++
     (fact (t.implies (t.and (t.tree (t.more f_node_next t.none)) (t.and (t.eq_object (t.read_object f_node_next t.null) t.null) (t.negation (t.eq_object o_n t.null)))) (t.all (t.all (t.iff (t.reach (t.more f_node_next_1 t.none) v1 v0) (t.or (t.and (t.reach (t.more f_node_next t.none) v1 v0) (t.implies (t.reach (t.more f_node_next t.none) v1 o_n) (t.reach (t.more f_node_next t.none) v0 o_n))) (t.and (t.reach (t.more f_node_next t.none) v1 o_n) (t.and (t.reach (t.more f_node_next t.none) o_stack_first v0) (t.implies (t.reach (t.more f_node_next t.none) o_stack_first o_n) (t.reach (t.more f_node_next t.none) v0 o_n))))))))) ∷ [])) (t.all (t.iff (t.and (t.negation (t.eq_object v0 t.null)) (t.reach (t.more f_node_next_1 t.none) o_n v0)) (t.or (t.and (t.negation (t.eq_object v0 t.null)) (t.reach (t.more f_node_next t.none) o_stack_first v0)) (t.eq_object v0 o_n))))
 
+-- what is said of what prev gave at an object, which is derived, where it stands negatively
+abbrev prev_is : FormulaTree → FormulaTree
+prev_is a = t.ex (t.and (t.and (t.implies (t.or (t.eq_object v1 t.null) (t.all (t.negation (t.eq_object (t.read_object f_node_next v0) v2)))) (t.eq_object v0 t.null)) (t.implies (t.and (t.negation (t.eq_object v1 t.null)) (t.ex (t.eq_object (t.read_object f_node_next v0) v2))) (t.eq_object (t.read_object f_node_next v0) v1))) a)
+
 abbrev row_12 : MethodId → Type 0
 row_12 q =
     local_of (sequent q [] (known w_wf (t.eq_set s_alloc (t.union (t.union s_node s_list) s_object)) ∷
@@ -585,20 +594,19 @@ row_12 q =
     known w_wf (t.or (t.eq_object o_list_first t.null) (t.member o_list_first s_node)) ∷
     known w_wf (t.or (t.eq_object o_n t.null) (t.member o_n s_node)) ∷
     known w_wf (t.all (t.implies (t.member v0 s_node) (t.or (t.eq_object (t.read_object f_node_next v0) t.null) (t.member (t.read_object f_node_next v0) s_node)))) ∷
-    known w_wf (t.all (t.implies (t.member v0 s_node) (t.or (t.eq_object (t.read_object f_node_prev v0) t.null) (t.member (t.read_object f_node_prev v0) s_node)))) ∷
+    known w_wf (t.all (t.implies (t.member v0 s_node) (t.or (prev_is (t.eq_object v0 t.null)) (prev_is (t.member v0 s_node))))) ∷
     known w_wf (t.all (t.implies (t.negation (t.member v0 s_node)) (t.eq_object (t.read_object f_node_next v0) t.null))) ∷
-    known w_wf (t.all (t.implies (t.negation (t.member v0 s_node)) (t.eq_object (t.read_object f_node_prev v0) t.null))) ∷
+    known w_wf (t.all (t.implies (t.negation (t.member v0 s_node)) (prev_is (t.eq_object v0 t.null)))) ∷
     known w_pre (t.negation (t.eq_object o_n t.null)) ∷
     known w_pre (t.negation (t.and (t.negation (t.eq_object o_n t.null)) (t.reach (t.more f_node_next t.none) o_list_first o_n))) ∷
     known w_pre (t.eq_object (t.read_object f_node_next o_n) t.null) ∷
     known w_pre (t.all (t.negation (t.eq_object (t.read_object f_node_next v0) o_n))) ∷
     known w_shape (t.tree (t.more f_node_next t.none)) ∷
     known w_root (t.or (t.eq_object o_list_first t.null) (t.all (t.negation (t.eq_object (t.read_object f_node_next v0) o_list_first)))) ∷
-    known w_back (t.all (t.all (t.implies (t.eq_object (t.read_object f_node_prev v1) v0) (t.and (t.implies (t.or (t.eq_object v1 t.null) (t.all (t.negation (t.eq_object (t.read_object f_node_next v0) v2)))) (t.eq_object v0 t.null)) (t.implies (t.and (t.negation (t.eq_object v1 t.null)) (t.ex (t.eq_object (t.read_object f_node_next v0) v2))) (t.eq_object (t.read_object f_node_next v0) v1)))))) ∷
     known w_cond (t.negation (t.eq_object o_list_first t.null)) ∷
     fact (t.eq_object (t.read_object f_node_prev_3 o_c_1) o_c_2) ∷
     fact (t.or (t.eq_object o_c_1 t.null) (t.all (t.negation (t.eq_object (t.read_object f_node_next_4 v0) o_c_1)))) ∷
-    fact (t.all (t.and (t.implies (t.eq_object v0 o_list_first) (t.eq_object (t.read_object f_node_prev_3 v0) o_n)) (t.implies (t.negation (t.eq_object v0 o_list_first)) (t.eq_object (t.read_object f_node_prev_3 v0) (t.read_object f_node_prev v0))))) ∷
+    fact (t.all (t.and (t.implies (t.eq_object v0 o_list_first) (t.eq_object (t.read_object f_node_prev_3 v0) o_n)) (t.implies (t.negation (t.eq_object v0 o_list_first)) (prev_is (t.eq_object (t.read_object f_node_prev_3 v1) v0))))) ∷
     fact (t.all (t.and (t.implies (t.eq_object v0 o_n) (t.eq_object (t.read_object f_node_next_4 v0) o_list_first)) (t.implies (t.negation (t.eq_object v0 o_n)) (t.eq_object (t.read_object f_node_next_4 v0) (t.read_object f_node_next v0))))) ∷ []) ++
     (axioms (f_node_next ∷ []))) (t.eq_object o_c_2 t.null)
 
@@ -651,9 +659,13 @@ row_13 q =
     (axioms (f_tnode_left_1 ∷ f_tnode_right ∷ [])) ++
     (fact (t.implies (t.and (t.tree (t.more f_tnode_left (t.more f_tnode_right t.none))) (t.and (t.and (t.eq_object (t.read_object f_tnode_left t.null) t.null) (t.eq_object (t.read_object f_tnode_right t.null) t.null)) (t.negation (t.eq_object o_p t.null)))) (t.all (t.all (t.implies (t.negation (t.eq_object v0 t.null)) (t.iff (t.reach (t.more f_tnode_left_1 (t.more f_tnode_right t.none)) v1 v0) (t.or (t.and (t.reach (t.more f_tnode_left (t.more f_tnode_right t.none)) v1 v0) (t.negation (t.and (t.negation (t.eq_object (t.read_object f_tnode_left o_p) t.null)) (t.and (t.reach (t.more f_tnode_left (t.more f_tnode_right t.none)) v1 o_p) (t.reach (t.more f_tnode_left (t.more f_tnode_right t.none)) (t.read_object f_tnode_left o_p) v0))))) (t.and (t.reach (t.more f_tnode_left (t.more f_tnode_right t.none)) v1 o_p) (t.and (t.negation (t.eq_object o_n t.null)) (t.and (t.reach (t.more f_tnode_left (t.more f_tnode_right t.none)) o_n v0) (t.negation (t.and (t.negation (t.eq_object (t.read_object f_tnode_left o_p) t.null)) (t.and (t.reach (t.more f_tnode_left (t.more f_tnode_right t.none)) o_n o_p) (t.reach (t.more f_tnode_left (t.more f_tnode_right t.none)) (t.read_object f_tnode_left o_p) v0))))))))))))) ∷ [])) (t.all (t.iff (t.and (t.negation (t.eq_object v0 t.null)) (t.reach (t.more f_tnode_left_1 (t.more f_tnode_right t.none)) o_t_root v0)) (t.or (t.and (t.negation (t.eq_object v0 t.null)) (t.reach (t.more f_tnode_left (t.more f_tnode_right t.none)) o_t_root v0)) (t.eq_object v0 o_n))))
 
+with_derived : (q : MethodId) → row_12 q
+unfolding local_of eliminate derived names_once constrained_by constraint_in is_variable all_steps dropped without_field_value turned built_term built_int built_set built_field built_value built_formula built_fields turn_after turn_behind term_parts int_parts set_parts field_parts value_parts formula_parts fields_parts is_whole_update is_closed_term is_closed_int is_closed_set is_closed_field is_closed_value is_closed_formula is_closed_fields text_under text_of named object_or number_or truth_or set_or field_or rewritten_term rewritten_int rewritten_set rewritten_field rewritten_value rewritten_formula rewritten_fields update_fact described once place_in named_in name_equal is_in body as_comprehension relation sets_opened mapped_term mapped_int mapped_set mapped_field mapped_value mapped_formula mapped_fields is_simple is_foreign holds_foreign two_ways iffs_opened instead_of all_of ex_of mark_of cut_once cut negation_of and_before and_of or_before or_of implies_before implies_of iff_before iff_of is_name are_one all_differ has_axioms place_of same_list change led_from lists_once fields_of list_of past related_term related_int related_set related_field related_value related_formula related_fields bound_with free_object_with null_with read_object_with const_with free_number_with read_number_with add_with sub_with neg_with scale_with card_with free_set_with read_set_with empty_with univ_with single_with union_with inter_with diff_with compl_with compr_with free_field_with update_with of_object_with of_number_with of_truth_with of_set_with of_field_with true_formula_with false_formula_with free_truth_with read_truth_with negation_with and_with or_with implies_with iff_with all_with ex_with eq_object_with eq_number_with eq_set_with less_with less_equal_with divides_with member_with subset_with reach_with tree_with mark_with none_with more_with at_turn step_by first_for without_first is_of is_listed_in is_listed goes_along is_apart other_than formula_passes term_passes field_passes set_passes fields_passes eliminated atom_exchanged exchanged quantified varied_term terms_once is_read holds_read term_reads set_reads field_reads fields_reads formula_reads is_named
+with_derived q = refl
+
 rows : (q : MethodId) → row_1 q × (row_2 q × (row_3 q × (row_4 q × (row_5 q × (row_6 q × (row_7 q × (row_8 q × (row_9 q × (row_10 q × (row_11 q × (row_12 q × row_13 q)))))))))))
-unfolding local_of dropped without_field_value turned built_term built_int built_set built_field built_value built_formula built_fields turn_after turn_behind term_parts int_parts set_parts field_parts value_parts formula_parts fields_parts is_whole_update is_closed_term is_closed_int is_closed_set is_closed_field is_closed_value is_closed_formula is_closed_fields text_under text_of named object_or number_or truth_or set_or field_or rewritten_term rewritten_int rewritten_set rewritten_field rewritten_value rewritten_formula rewritten_fields update_fact described once place_in named_in name_equal is_in body as_comprehension relation sets_opened mapped_term mapped_int mapped_set mapped_field mapped_value mapped_formula mapped_fields is_simple is_foreign holds_foreign two_ways iffs_opened instead_of all_of ex_of mark_of cut_once cut negation_of and_before and_of or_before or_of implies_before implies_of iff_before iff_of is_name are_one all_differ has_axioms place_of same_list change led_from lists_once fields_of list_of past related_term related_int related_set related_field related_value related_formula related_fields bound_with free_object_with null_with read_object_with const_with free_number_with read_number_with add_with sub_with neg_with scale_with card_with free_set_with read_set_with empty_with univ_with single_with union_with inter_with diff_with compl_with compr_with free_field_with update_with of_object_with of_number_with of_truth_with of_set_with of_field_with true_formula_with false_formula_with free_truth_with read_truth_with negation_with and_with or_with implies_with iff_with all_with ex_with eq_object_with eq_number_with eq_set_with less_with less_equal_with divides_with member_with subset_with reach_with tree_with mark_with none_with more_with
-rows q = (refl, (refl, (refl, (refl, (refl, (refl, (refl, (refl, (refl, (refl, (refl, (refl, refl))))))))))))
+unfolding local_of eliminate derived names_once constrained_by constraint_in is_variable all_steps dropped without_field_value turned built_term built_int built_set built_field built_value built_formula built_fields turn_after turn_behind term_parts int_parts set_parts field_parts value_parts formula_parts fields_parts is_whole_update is_closed_term is_closed_int is_closed_set is_closed_field is_closed_value is_closed_formula is_closed_fields text_under text_of named object_or number_or truth_or set_or field_or rewritten_term rewritten_int rewritten_set rewritten_field rewritten_value rewritten_formula rewritten_fields update_fact described once place_in named_in name_equal is_in body as_comprehension relation sets_opened mapped_term mapped_int mapped_set mapped_field mapped_value mapped_formula mapped_fields is_simple is_foreign holds_foreign two_ways iffs_opened instead_of all_of ex_of mark_of cut_once cut negation_of and_before and_of or_before or_of implies_before implies_of iff_before iff_of is_name are_one all_differ has_axioms place_of same_list change led_from lists_once fields_of list_of past related_term related_int related_set related_field related_value related_formula related_fields bound_with free_object_with null_with read_object_with const_with free_number_with read_number_with add_with sub_with neg_with scale_with card_with free_set_with read_set_with empty_with univ_with single_with union_with inter_with diff_with compl_with compr_with free_field_with update_with of_object_with of_number_with of_truth_with of_set_with of_field_with true_formula_with false_formula_with free_truth_with read_truth_with negation_with and_with or_with implies_with iff_with all_with ex_with eq_object_with eq_number_with eq_set_with less_with less_equal_with divides_with member_with subset_with reach_with tree_with mark_with none_with more_with
+rows q = (refl, (refl, (refl, (refl, (refl, (refl, (refl, (refl, (refl, (refl, (refl, (with_derived q, refl))))))))))))
 
 abbrev small_1 : MethodId → Type 0
 small_1 q =
@@ -861,5 +873,5 @@ small_34 q =
     sequent q [] (fact (t.all (t.implies (t.or (t.eq_object v0 o_c) (t.member v0 s_b)) (t.and (t.member v0 s_a) (t.and (t.member v0 (t.read_set f_s t.null)) (t.negation (t.member v0 (t.read_set f_s o_c))))))) ∷ []) (t.negation (t.eq_object o_b t.null))
 
 smalls : (q : MethodId) → small_1 q × (small_2 q × (small_3 q × (small_4 q × (small_5 q × (small_6 q × (small_7 q × (small_8 q × (small_9 q × (small_10 q × (small_11 q × (small_12 q × (small_13 q × (small_14 q × (small_15 q × (small_16 q × (small_17 q × (small_18 q × (small_19 q × (small_20 q × (small_21 q × (small_22 q × (small_23 q × (small_24 q × (small_25 q × (small_26 q × (small_27 q × (small_28 q × (small_29 q × (small_30 q × (small_31 q × (small_32 q × (small_33 q × small_34 q))))))))))))))))))))))))))))))))
-unfolding local_of dropped without_field_value turned built_term built_int built_set built_field built_value built_formula built_fields turn_after turn_behind term_parts int_parts set_parts field_parts value_parts formula_parts fields_parts is_whole_update is_closed_term is_closed_int is_closed_set is_closed_field is_closed_value is_closed_formula is_closed_fields text_under text_of named object_or number_or truth_or set_or field_or rewritten_term rewritten_int rewritten_set rewritten_field rewritten_value rewritten_formula rewritten_fields update_fact described once place_in named_in name_equal is_in body as_comprehension relation sets_opened mapped_term mapped_int mapped_set mapped_field mapped_value mapped_formula mapped_fields is_simple is_foreign holds_foreign two_ways iffs_opened instead_of all_of ex_of mark_of cut_once cut negation_of and_before and_of or_before or_of implies_before implies_of iff_before iff_of is_name are_one all_differ has_axioms place_of same_list change led_from lists_once fields_of list_of past related_term related_int related_set related_field related_value related_formula related_fields bound_with free_object_with null_with read_object_with const_with free_number_with read_number_with add_with sub_with neg_with scale_with card_with free_set_with read_set_with empty_with univ_with single_with union_with inter_with diff_with compl_with compr_with free_field_with update_with of_object_with of_number_with of_truth_with of_set_with of_field_with true_formula_with false_formula_with free_truth_with read_truth_with negation_with and_with or_with implies_with iff_with all_with ex_with eq_object_with eq_number_with eq_set_with less_with less_equal_with divides_with member_with subset_with reach_with tree_with mark_with none_with more_with
+unfolding local_of eliminate derived names_once constrained_by constraint_in is_variable all_steps dropped without_field_value turned built_term built_int built_set built_field built_value built_formula built_fields turn_after turn_behind term_parts int_parts set_parts field_parts value_parts formula_parts fields_parts is_whole_update is_closed_term is_closed_int is_closed_set is_closed_field is_closed_value is_closed_formula is_closed_fields text_under text_of named object_or number_or truth_or set_or field_or rewritten_term rewritten_int rewritten_set rewritten_field rewritten_value rewritten_formula rewritten_fields update_fact described once place_in named_in name_equal is_in body as_comprehension relation sets_opened mapped_term mapped_int mapped_set mapped_field mapped_value mapped_formula mapped_fields is_simple is_foreign holds_foreign two_ways iffs_opened instead_of all_of ex_of mark_of cut_once cut negation_of and_before and_of or_before or_of implies_before implies_of iff_before iff_of is_name are_one all_differ has_axioms place_of same_list change led_from lists_once fields_of list_of past related_term related_int related_set related_field related_value related_formula related_fields bound_with free_object_with null_with read_object_with const_with free_number_with read_number_with add_with sub_with neg_with scale_with card_with free_set_with read_set_with empty_with univ_with single_with union_with inter_with diff_with compl_with compr_with free_field_with update_with of_object_with of_number_with of_truth_with of_set_with of_field_with true_formula_with false_formula_with free_truth_with read_truth_with negation_with and_with or_with implies_with iff_with all_with ex_with eq_object_with eq_number_with eq_set_with less_with less_equal_with divides_with member_with subset_with reach_with tree_with mark_with none_with more_with
 smalls q = (refl, (refl, (refl, (refl, (refl, (refl, (refl, (refl, (refl, (refl, (refl, (refl, (refl, (refl, (refl, (refl, (refl, (refl, (refl, (refl, (refl, (refl, (refl, (refl, (refl, (refl, (refl, (refl, (refl, (refl, (refl, (refl, (refl, refl)))))))))))))))))))))))))))))))))

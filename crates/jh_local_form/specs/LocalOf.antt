@@ -1,5 +1,4 @@
 -- The local form of a sequent: what the local prover decides in its place. Where the local form is valid, so is the sequent.
--- Derived fields are left in it as yet.
 use Rattle.std.specs.Prelude.{ℕ, List}
 use Rattle.jh_tree.specs.Tree.{ValueTree}
 use Rattle.jh_sequent.specs.Sequents.{SequentTree}
@@ -10,6 +9,7 @@ use Rattle.jh_dropping.specs.Dropped.{dropped}
 use Rattle.jh_local_form.specs.Named.{first_turn, updates, named, update_facts}
 use Rattle.jh_set_opening.specs.SetsOpened.{sets_opened}
 use Rattle.jh_cutting.specs.Cut.{cut}
+use Rattle.jh_fca.specs.Eliminated.{eliminate}
 use Rattle.jh_local_form.specs.Chains.{changes, reach_axioms}
 
 -- the hypotheses that are chosen and the goal, without updates that change nothing
@@ -29,9 +29,10 @@ abbrev pub with_axioms : List ValueTree → ℕ → SequentTree → SequentTree
 with_axioms us k s = with_facts (reach_axioms (formulas s) (changes us k)) s
 
 abbrev pub local_with : List ValueTree → ℕ → SequentTree → SequentTree
-local_with us k s = with_axioms us k (cut_down (with_names us k s))
+local_with us k s = with_axioms us k (eliminate (cut_down (with_names us k s)))
 
--- In this order: hypotheses are chosen, updates named, sets opened, what has no local form cut, axioms added. The names have
+-- In this order: hypotheses are chosen, updates named, sets opened, what has no local form cut, derived fields eliminated, axioms
+-- added. The names have
 -- turns beyond those of all names that stand in the chosen hypotheses and the goal.
 unfoldable pub local_of : SequentTree → SequentTree
 local_of s = local_with (updates (formulas (begun s))) (first_turn (formulas (chosen s))) (begun s)

@@ -1,10 +1,12 @@
-ghost use Rattle.std.specs.Prelude.{◌≡◌, ◌++◌, map, List, IfOk};
+ghost use Rattle.std.specs.Prelude.{◌≡◌, ◌++◌, map, true, List, IfOk};
 ghost use Rattle.jh_tree.specs.Tree.{FormulaTree, ValueTree};
 ghost use Rattle.jh_table.specs.Growth.{Extends};
 ghost use Rattle.jh_sequent.specs.Sequents.{SequentTree};
 ghost use Rattle.jh_reach.specs.Standing.{AreFormulas};
 ghost use Rattle.jh_kept.specs.Asking.{IsAsked};
 ghost use Rattle.jh_dropping.specs.Dropped.{dropped};
+ghost use Rattle.jh_fca.specs.Eliminated.{eliminate};
+ghost use Rattle.jh_split.specs.Local.{is_local};
 ghost use Rattle.jh_local_form.specs.Each.{over_each, formulas};
 ghost use Rattle.jh_local_form.specs.Chosen.{chosen};
 ghost use Rattle.jh_local_form.specs.Named.{first_turn, updates, named, update_facts};
@@ -18,6 +20,7 @@ use crate::each::{all_cut, all_dropped, all_named, cut_one};
 use crate::forming::{LocalForm, joined};
 use jh_chains::{changes, reach_axioms};
 use jh_dropping::dropped;
+use jh_eliminated::eliminate;
 use jh_name::{NoMemory, Row};
 use jh_sequents::NodeHyp;
 use jh_table::Table;
@@ -96,6 +99,19 @@ fn cut_down(table: &mut Table, form: &LocalForm) -> Result<LocalForm, NoMemory>
     })
 }
 
+/// The formulas without derived fields.
+fn without_derived(table: &mut Table, form: &LocalForm) -> Result<LocalForm, NoMemory>
+    requires form { (s : SequentTree) × IsFormed table.old form.now s × (is_local s ≡ true) }
+    ensures form { IfOk result (λ made. (s : SequentTree) → IsFormed table.old form.now s → is_local s ≡ true → IsFormed table.new made (eliminate s)) }
+    ensures grows { Extends table.old table.new }
+{
+    let made = eliminate(table, form.facts.items(), form.goal)?;
+    Ok(LocalForm {
+        facts: made.facts,
+        goal: made.goal,
+    })
+}
+
 /// The axioms of reachability of the formulas.
 fn axioms_for(table: &mut Table, naming: &Naming, form: &LocalForm) -> Result<Vec<usize>, NoMemory>
     requires naming { (us : List ValueTree) × IsNaming table.old naming.now us }
@@ -132,7 +148,8 @@ fn local_from(table: &mut Table, form: &LocalForm, first: u32) -> Result<LocalFo
     let naming = naming_of(table, form, first)?;
     let named = with_names(table, &naming, form)?;
     let left = cut_down(table, &named)?;
-    with_axioms(table, &naming, &left)
+    let without = without_derived(table, &left)?;
+    with_axioms(table, &naming, &without)
 }
 
 /// The local form of formulas.

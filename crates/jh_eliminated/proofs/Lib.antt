@@ -1,0 +1,10 @@
+mod Onces
+mod Standings
+mod Collected
+mod Holding
+mod Shapes
+mod Exchanges
+mod Arms
+mod Composed
+mod Listings
+mod Steps
