@@ -13,12 +13,13 @@ use Rattle.jh_outcome.specs.declared.unreturned.Unreturned.TheVariants as why
 use Rattle.jahob.specs.Refusals.{Spells, method_text}
 use Rattle.jahob.specs.declared.reply.Reply.{Reply}
 use Rattle.jahob.specs.declared.reply.Reply.TheVariants as reply
-use Rattle.jahob.specs.Causes.{FilesSeen, Finding, reported, ran, unreturned, no_job, no_method, refused, mistyped, circular, crowded, file_failed, file_too_long, no_memory, IsRead_in, as_source, as_heap, Comes, Due, due, unreturned_status, unreturned_text, fault_text, Says, IsReply, IsRefusal, by_place, by_rule, by_loop, FitsRefusal, FitsBytes, FitsFault, IsFaultReply, IsUsageReply, IsPageReply, IsUnreturnedReply, FitsFile, FitsOutcome, FitsHeap, FitsMethod, FitsSource, FitsRun, FitsWords, Fits}
+use Rattle.jahob.specs.Causes.{FilesSeen, Finding, reported, summed, unmade, ran, unreturned, no_job, no_method, refused, mistyped, circular, crowded, file_failed, file_too_long, no_memory, IsRead_in, as_source, as_heap, Comes, Due, due, unreturned_status, unreturned_text, fault_text, Says, IsReply, IsSumReply, IsRefusal, IsUnmade, by_place, by_rule, by_loop, FitsRefusal, FitsGen, FitsBytes, FitsFault, IsFaultReply, IsUsageReply, IsPageReply, IsUnreturnedReply, FitsFile, FitsOutcome, FitsHeap, FitsMethod, FitsSource, FitsRun, FitsWords, Fits}
+use Rattle.jahob.specs.Made.{made_source}
 use Rattle.jahob.specs.Run.{IsCalled, IsSource}
 use Rattle.jh_options.specs.declared.Options.{Options}
 use Rattle.jahob.specs.Verify.{Tells, options_of, source_limit}
 use Rattle.jahob.specs.Words.{source_of}
-use Rattle.jh_words.specs.CommandLine.{Job, Run, Verify, job_of, run, verify}
+use Rattle.jh_words.specs.CommandLine.{Gen, Job, Run, Verify, gen, job_of, run, verify}
 use Rattle.jh_words.specs.Usage.{usage_page}
 use Rattle.jahob.proofs.Verifying.{spells-one}
 
@@ -29,6 +30,7 @@ line-due status number text line is same = λ i. record { status = sym is i; on_
 -- a line for a source that is refused
 pub says-refusal : (bytes text : List ℕ) (answer : Reply) → ((line : List ℕ) → line ≡ text → IsRefusal bytes line) → Says 3 text answer → FitsRefusal bytes answer
 says-refusal bytes text (reply.Report line accepted) why h = absurd h
+says-refusal bytes text (reply.Summed line accepted) why h = absurd h
 says-refusal bytes text (reply.Ran line) why h = absurd h
 says-refusal bytes text (reply.Line line status) why h = (h.0, why (string_bytes line) h.1)
 says-refusal bytes text (reply.Usage said) why h = absurd h
@@ -48,6 +50,7 @@ says-fault files file fault.Memory answer rose long says = inr (inr says)
 module _ (p : ProgramTree) (r : Run) (text : List ℕ) where
   says-outcome : (e : Unreturned) (answer : Reply) → IsReason p r.class r.method text r.steps e → Says (unreturned_status e) (unreturned_text e) answer → FitsOutcome p r text answer
   says-outcome e (reply.Report line accepted) reason h = absurd h
+  says-outcome e (reply.Summed line accepted) reason h = absurd h
   says-outcome e (reply.Ran line) reason h = absurd h
   says-outcome e (reply.Line line status) reason h = (e, reason, h.0, h.1)
   says-outcome e (reply.Usage said) reason h = absurd h
@@ -55,6 +58,7 @@ module _ (p : ProgramTree) (r : Run) (text : List ℕ) where
 
   page-outcome : (answer : Reply) → IsReason p r.class r.method text r.steps why.NoMethod → IsPageReply answer → FitsOutcome p r text answer
   page-outcome (reply.Report line accepted) reason h = absurd h
+  page-outcome (reply.Summed line accepted) reason h = absurd h
   page-outcome (reply.Ran line) reason h = absurd h
   page-outcome (reply.Line line status) reason h = absurd h
   page-outcome (reply.Usage said) reason h = (reason, h)
@@ -115,6 +119,7 @@ module _ (holds held : List ℕ → Option (List ℕ)) (before counted after : L
 -- words that ask for nothing
 pub words-fits : (words : List (List ℕ)) (files : FilesSeen) (answer : Reply) → FitsWords words answer → Fits words files answer
 words-fits words files (reply.Report line accepted) h = absurd h
+words-fits words files (reply.Summed line accepted) h = absurd h
 words-fits words files (reply.Ran line) h = absurd h
 words-fits words files (reply.Line line status) h = absurd h
 words-fits words files (reply.Usage text) h = record { finding = no_job text; comes = h; is_due = refl }
@@ -128,6 +133,7 @@ module _ (words : List (List ℕ)) (files : FilesSeen) (job : Job) (asked : job_
   -- a line for a finding
   says-fits : (status : ℕ) (text : List ℕ) (o : Finding) (answer : Reply) → Comes words files o → due o ≡ record { status = status; on_out = false; text = text } → Says status text answer → Fits words files answer
   says-fits status text o (reply.Report line accepted) comes is h = absurd h
+  says-fits status text o (reply.Summed line accepted) comes is h = absurd h
   says-fits status text o (reply.Ran line) comes is h = absurd h
   says-fits status text o (reply.Line line number) comes is h = record { finding = o; comes = comes; is_due = is ∙ line-due status number text (string_bytes line) h.0 h.1 }
   says-fits status text o (reply.Usage said) comes is h = absurd h
@@ -143,15 +149,16 @@ module _ (words : List (List ℕ)) (files : FilesSeen) (job : Job) (asked : job_
         ]
       ]
 
-  module _ (bytes : List ℕ) (told : Tells (files.holds (source_of job)) bytes) (within : length bytes ≤ source_limit) where
+  module _ (file bytes : List ℕ) (reads : source_of job ≡ Some file) (told : Tells (files.holds file) bytes) (within : length bytes ≤ source_limit) where
     -- the finding of a line for a source that is refused
     refusal-found : (text : List ℕ) → IsRefusal bytes text → (o : Finding) × Comes words files o × (due o ≡ record { status = 3; on_out = false; text = text })
-    refusal-found text (by_place n place why is) = (refused n place, record { job = job; asked = asked; bytes = bytes; told = told; within = within; why = why }, λ i. record { status = 3; on_out = false; text = sym is i })
-    refusal-found text (by_rule rule place why is) = (mistyped rule place, record { job = job; asked = asked; bytes = bytes; told = told; within = within; why = why }, λ i. record { status = 3; on_out = false; text = sym is i })
-    refusal-found text (by_loop name why is) = (circular name, record { job = job; asked = asked; bytes = bytes; told = told; within = within; why = why }, λ i. record { status = 3; on_out = false; text = sym is i })
+    refusal-found text (by_place n place why is) = (refused n place, record { job = job; file = file; bytes = bytes; asked = asked; reads = reads; told = told; within = within; why = why }, λ i. record { status = 3; on_out = false; text = sym is i })
+    refusal-found text (by_rule rule place why is) = (mistyped rule place, record { job = job; file = file; bytes = bytes; asked = asked; reads = reads; told = told; within = within; why = why }, λ i. record { status = 3; on_out = false; text = sym is i })
+    refusal-found text (by_loop name why is) = (circular name, record { job = job; file = file; bytes = bytes; asked = asked; reads = reads; told = told; within = within; why = why }, λ i. record { status = 3; on_out = false; text = sym is i })
 
     refusal-fits : (answer : Reply) → FitsRefusal bytes answer → Fits words files answer
     refusal-fits (reply.Report line accepted) h = absurd h
+    refusal-fits (reply.Summed line accepted) h = absurd h
     refusal-fits (reply.Ran line) h = absurd h
     refusal-fits (reply.Line line status) h =
         let found = refusal-found (string_bytes line) h.1 in
@@ -166,6 +173,7 @@ module _ (words : List (List ℕ)) (files : FilesSeen) (v : Verify) (asked : job
     comes = (record { job = v; bytes = bytes; asked = asked; told = told; within = within; spelled = spells; only = λ q other. spells-one bytes q p other spells }, h.judges);
     is_due = λ i. record { status = if sym h.accepted_is i then 0 else 1; on_out = true; text = sym h.text_is i };
   }
+  program-fits bytes p (reply.Summed text accepted) told within spells h = absurd h
   program-fits bytes p (reply.Ran text) told within spells h = absurd h
   program-fits bytes p (reply.Line line status) told within spells h = record {
     finding = crowded (class_text p h.1.id.class) (method_text p h.1.id) h.1.n;
@@ -178,9 +186,9 @@ module _ (words : List (List ℕ)) (files : FilesSeen) (v : Verify) (asked : job
   pub file-fits : (answer : Reply) → FitsFile (options_of v) files v.file answer → Fits words files answer
   file-fits answer fits =
       elim fits [
-        | inl failed ↦ fault-fits words files (verify v) asked v.file answer (as_source (verify v) asked) failed
+        | inl failed ↦ fault-fits words files (verify v) asked v.file answer (as_source (verify v) v.file asked refl) failed
         | inr came ↦ elim came.3 [
-          | inl refusal ↦ refusal-fits words files (verify v) asked came.0 came.1 came.2 answer refusal
+          | inl refusal ↦ refusal-fits words files (verify v) asked v.file came.0 refl came.1 came.2 answer refusal
           | inr there ↦ program-fits came.0 there.0 answer came.1 came.2 there.1 there.2
         ]
       ]
@@ -196,6 +204,7 @@ module _ (words : List (List ℕ)) (files : FilesSeen) (r : Run) (asked : job_of
 
       outcome-fits : (text : List ℕ) → Tells (files.holds r.heap) text → length text ≤ source_limit → (answer : Reply) → FitsOutcome p r text answer → Fits words files answer
       outcome-fits text held short (reply.Report line accepted) h = absurd h
+      outcome-fits text held short (reply.Summed line accepted) h = absurd h
       outcome-fits text held short (reply.Ran printed) h = record {
         finding = ran p (string_bytes printed);
         comes = (record { called = called; text = text; told = held; within = short }, h);
@@ -222,6 +231,7 @@ module _ (words : List (List ℕ)) (files : FilesSeen) (r : Run) (asked : job_of
 
     none-fits : (answer : Reply) → has_method p r.class r.method ≡ false → IsUsageReply answer → Fits words files answer
     none-fits (reply.Report line accepted) none h = absurd h
+    none-fits (reply.Summed line accepted) none h = absurd h
     none-fits (reply.Ran line) none h = absurd h
     none-fits (reply.Line line status) none h = absurd h
     none-fits (reply.Usage said) none h = record { finding = no_method p said; comes = (source, none, h); is_due = refl }
@@ -240,9 +250,45 @@ module _ (words : List (List ℕ)) (files : FilesSeen) (r : Run) (asked : job_of
   pub run-fits : (answer : Reply) → FitsRun files r answer → Fits words files answer
   run-fits answer fits =
       elim fits [
-        | inl failed ↦ fault-fits words files (run r) asked r.file answer (as_source (run r) asked) failed
+        | inl failed ↦ fault-fits words files (run r) asked r.file answer (as_source (run r) r.file asked refl) failed
         | inr came ↦ elim came.3 [
-          | inl refusal ↦ refusal-fits words files (run r) asked came.0 came.1 came.2 answer refusal
+          | inl refusal ↦ refusal-fits words files (run r) asked r.file came.0 refl came.1 came.2 answer refusal
           | inr there ↦ method-fits there.0 came.0 came.1 came.2 there.1 answer there.2
         ]
+      ]
+
+-- a source that is made
+module _ (words : List (List ℕ)) (files : FilesSeen) (g : Gen) (asked : job_of words ≡ Some (gen g)) where
+  -- a line that says why it isn't summed up
+  unmade-fits : (text : List ℕ) → IsUnmade (made_source g) text → (answer : Reply) → Says 3 text answer → Fits words files answer
+  unmade-fits text why answer says = says-fits words files (gen g) asked 3 text (unmade text) answer (g, asked, why) refl says
+
+  refused-fits : (answer : Reply) → FitsRefusal (made_source g) answer → Fits words files answer
+  refused-fits (reply.Report line accepted) h = absurd h
+  refused-fits (reply.Summed line accepted) h = absurd h
+  refused-fits (reply.Ran line) h = absurd h
+  refused-fits (reply.Line line status) h = unmade-fits (string_bytes line) (inl h.1) (reply.Line line status) (h.0, refl)
+  refused-fits (reply.Usage said) h = absurd h
+  refused-fits reply.NoMemory h = memory-fits words files (gen g) asked
+
+  sum-fits : (p : ProgramTree) (answer : Reply) → Spells (made_source g) p → IsSumReply g p answer → Fits words files answer
+  sum-fits p (reply.Report line accepted) spells h = absurd h
+  sum-fits p (reply.Summed text accepted) spells h = record {
+    finding = summed g p h.reported;
+    comes = (asked, spells, h.judges);
+    is_due = λ i. record { status = if sym h.accepted_is i then 0 else 1; on_out = true; text = sym h.text_is i };
+  }
+  sum-fits p (reply.Ran line) spells h = absurd h
+  sum-fits p (reply.Line line status) spells h = unmade-fits (string_bytes line) (inr (p, spells, h.1)) (reply.Line line status) (h.0, refl)
+  sum-fits p (reply.Usage said) spells h = absurd h
+  sum-fits p reply.NoMemory spells h = memory-fits words files (gen g) asked
+
+  pub gen-fits : (answer : Reply) → FitsGen g answer → Fits words files answer
+  gen-fits answer fits =
+      elim fits [
+        | inl made ↦ elim made [
+          | inl refusal ↦ refused-fits answer refusal
+          | inr there ↦ sum-fits there.0 answer there.1 there.2
+        ]
+        | inr short ↦ subst (λ a. Fits words files a) (sym short) (memory-fits words files (gen g) asked)
       ]

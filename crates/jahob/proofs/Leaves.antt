@@ -1,18 +1,18 @@
 -- The budget of a search that words ask for isn't empty.
-use Rattle.std.proofs.Common.{◌≡◌, refl, sym, ap, ◌∙◌, subst, ℕ, ◌≤◌, ◌<◌, nat_le, Bool, true, false, ◌&&◌, if◌then◌else◌, List, [], ◌∷◌, arith}
+use Rattle.std.proofs.Common.{◌≡◌, refl, subst, ℕ, ◌≤◌, ◌<◌, nat_le, Bool, true, false, ◌&&◌, if◌then◌else◌, List, [], ◌∷◌, arith}
 use Rattle.std.proofs.lemmas.Bool.Decides.{nat_tests}
 use Rattle.std.specs.Prelude.{Option, None, Some, option_and_then, codes}
 use Rattle.std.specs.Str.Parse.{digits_value}
 use Rattle.jh_tree.proofs.ClosedLemmas.{both-left}
-use Rattle.jh_words.specs.CommandLine.{Given, Job, Parts, Run, Setting, Verify, Word, are_options, called, called_by, cut_at, is_file, is_name, is_number, is_within, job_by, job_of, leaves, number_for, number_given, number_of, number_within, parts, rounds, run, run_job, run_method, same_word, steps, verified, verify, verify_file, verify_job, workers, value_for}
+use Rattle.jh_words.specs.CommandLine.{Gen, Given, Parts, Run, Setting, Verify, Word, are_options, called, cut_at, gen, gen_job, gen_source, generated, is_file, is_name, is_number, is_within, job_by, job_of, leaves, methods_in, number_given, number_in, number_of, number_within, parts, rounds, run, run_job, same_word, steps, verified, verify, verify_job, workers, value_for}
 
-some-same : {X : Type 0} (x y : X) → Some x ≡ Some y → x ≡ y
+pub some-same : {X : Type 0} (x y : X) → Some x ≡ Some y → x ≡ y
 some-same x y e = cc
 
-none-some : {X P : Type 0} (y : X) → None ≡ Some y → P
+pub none-some : {X P : Type 0} (y : X) → None ≡ Some y → P
 none-some y e = cc
 
-if-some : {X : Type 0} (b : Bool) (o : Option X) (y : X) → (if b then o else None) ≡ Some y → o ≡ Some y
+pub if-some : {X : Type 0} (b : Bool) (o : Option X) (y : X) → (if b then o else None) ≡ Some y → o ≡ Some y
 if-some true o y e = e
 if-some false o y e = none-some y e
 
@@ -67,14 +67,35 @@ run-run (file ∷ method ∷ heap ∷ []) gs v e =
     (if-some (is_file file && is_file heap && are_options (steps.name ∷ []) gs) (called file (cut_at 46 method) heap (number_of steps gs)) (verify v) e)
 run-run (file ∷ method ∷ heap ∷ other ∷ ws) gs v e = none-some (verify v) e
 
-job-leaves : (p : Parts) (v : Verify) (first second : Bool) → (if first then verify_job p.words p.options else (if second then run_job p.words p.options else None)) ≡ Some (verify v) → 0 < v.leaves
-job-leaves p v true second e = verify-leaves p.words p.options v e
-job-leaves p v false true e = run-run p.words p.options v e
-job-leaves p v false false e = none-some (verify v) e
+-- nor is a source that is made
+gen-verify : {P : Type 0} (g : Gen) (v : Verify) → Some (gen g) ≡ Some (verify v) → P
+gen-verify g v e = cc
+
+generated-verify : {P : Type 0} (seed methods : Option ℕ) (v : Verify) → generated seed methods ≡ Some (verify v) → P
+generated-verify None methods v e = none-some (verify v) e
+generated-verify (Some seed) None v e = none-some (verify v) e
+generated-verify (Some seed) (Some methods) v e = gen-verify (record { seed = seed; methods = methods }) v e
+
+source-verify : {P : Type 0} (seed methods : Word) (gs : List Given) (v : Verify) → gen_source seed methods gs ≡ Some (verify v) → P
+source-verify seed methods [] v e = generated-verify (number_in seed) (methods_in methods) v e
+source-verify seed methods (g ∷ gs) v e = none-some (verify v) e
+
+gen-gen : {P : Type 0} (ws : List Word) (gs : List Given) (v : Verify) → gen_job ws gs ≡ Some (verify v) → P
+gen-gen [] gs v e = none-some (verify v) e
+gen-gen (seed ∷ []) gs v e = none-some (verify v) e
+gen-gen (seed ∷ methods ∷ []) gs v e = source-verify seed methods gs v e
+gen-gen (seed ∷ methods ∷ other ∷ ws) gs v e = none-some (verify v) e
+
+job-leaves : (p : Parts) (v : Verify) (first second third : Bool)
+    → (if first then verify_job p.words p.options else (if second then run_job p.words p.options else (if third then gen_job p.words p.options else None))) ≡ Some (verify v) → 0 < v.leaves
+job-leaves p v true second third e = verify-leaves p.words p.options v e
+job-leaves p v false true third e = run-run p.words p.options v e
+job-leaves p v false false true e = gen-gen p.words p.options v e
+job-leaves p v false false false e = none-some (verify v) e
 
 parts-leaves : (command : Word) (o : Option Parts) (v : Verify) → option_and_then (job_by command) o ≡ Some (verify v) → 0 < v.leaves
 parts-leaves command None v e = none-some (verify v) e
-parts-leaves command (Some p) v e = job-leaves p v (same_word command (codes "verify")) (same_word command (codes "run")) e
+parts-leaves command (Some p) v e = job-leaves p v (same_word command (codes "verify")) (same_word command (codes "run")) (same_word command (codes "gen")) e
 
 pub has-leaves : (words : List Word) (v : Verify) → job_of words ≡ Some (verify v) → 0 < v.leaves
 has-leaves [] v e = none-some (verify v) e

@@ -1,9 +1,12 @@
 mod Apart
 mod Endings
 mod Exactness
+mod Few
 mod Findings
 mod Fitting
 mod Jobs
 mod Leaves
+mod Lengths
 mod Judging
+mod Tallies
 mod Verifying

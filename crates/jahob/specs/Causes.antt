@@ -25,9 +25,10 @@ use Rattle.jh_name.specs.declared.place.MethodId.{MethodId}
 use Rattle.jh_name.specs.declared.place.Place.{Place}
 use Rattle.jh_options.specs.declared.Options.{Options}
 use Rattle.jahob.specs.Verify.{Tells, options_of, are_proved_or_spent, IsRead, IsRefused, IsIll, IsLooped, IsOverfull, IsReport, Judges, OwesProvable, source_limit}
+use Rattle.jahob.specs.Made.{default_options, IsSummary, made_source, summary_of}
 use Rattle.jahob.specs.Run.{IsBegun, IsCalled, IsOverflow, IsSource, ending_of, ending_status}
 use Rattle.jahob.specs.Words.{source_of}
-use Rattle.jh_words.specs.CommandLine.{Job, Run, Verify, job_of, run, verify}
+use Rattle.jh_words.specs.CommandLine.{Gen, Job, Run, Verify, gen, job_of, run, verify}
 use Rattle.jh_words.specs.Usage.{IsUsage, usage_page}
 
 -- What there is to see of the files over a call: what they hold, and for each name how many calls had
@@ -48,6 +49,8 @@ pub record SinkSeen : Type 0 where
 -- What a call finds, before anything is written.
 pub data Finding : Type 0 where
   reported : ProgramTree → List Reported → Finding
+  summed : Gen → ProgramTree → List Reported → Finding
+  unmade : List ℕ → Finding
   ran : ProgramTree → List ℕ → Finding
   unreturned : ProgramTree → Unreturned → Finding
   no_job : List ℕ → Finding
@@ -62,14 +65,49 @@ pub data Finding : Type 0 where
 
 -- a file is read: that of the source, and that of the heap where a run's method is there
 pub data IsRead_in (words : List (List ℕ)) (holds : List ℕ → Option (List ℕ)) : List ℕ → Type 0 where
-  as_source : (job : Job) → job_of words ≡ Some job → IsRead_in words holds (source_of job)
+  as_source : (job : Job) (file : List ℕ) → job_of words ≡ Some job → source_of job ≡ Some file → IsRead_in words holds file
   as_heap : (p : ProgramTree) (called : IsCalled words holds p) → IsRead_in words holds called.source.job.heap
 
--- When each finding may come. A program is reported on where the bytes spell it, with right answers for its sequents; what a run comes to is
--- exact; a file fails only where its count rose; what is said where nothing is asked for, or a method isn't there, ends with the page that says what may
+-- the line for a source that is refused with a number, at a place
+abbrev pub refused_text : ℕ → Place → List ℕ
+refused_text number place = codes "refused " ++ (decimal number ++ (codes " at " ++ (decimal place.line ++ (codes ":" ++ (decimal place.column ++ 10 ∷ [])))))
+
+-- the line for a source that breaks a type rule, at a place
+abbrev pub mistyped_text : ℕ → Place → List ℕ
+mistyped_text rule place = codes "refused 11 rule " ++ (decimal rule ++ (codes " at " ++ (decimal place.line ++ (codes ":" ++ (decimal place.column ++ 10 ∷ [])))))
+
+-- the line for a source with a cyclic variable of this name
+abbrev pub circular_text : List ℕ → List ℕ
+circular_text name = codes "refused 8 " ++ (name ++ 10 ∷ [])
+
+-- the line for a method of a class and a name with so many sequents
+abbrev pub crowded_text : List ℕ → List ℕ → ℕ → List ℕ
+crowded_text class name n = codes "refused 12 " ++ (class ++ (codes "." ++ (name ++ (codes " " ++ (decimal n ++ 10 ∷ [])))))
+
+-- a text is the line for bytes that are refused, break a type rule or have a cyclic variable
+pub data IsRefusal (bytes text : List ℕ) : Type 0 where
+  by_place : (number : ℕ) (place : Place) → RefusedAt bytes number place → text ≡ refused_text number place → IsRefusal bytes text
+  by_rule : (rule : ℕ) (place : Place) → IsMistyped bytes rule place → text ≡ mistyped_text rule place → IsRefusal bytes text
+  by_loop : (name : List ℕ) → IsCircular bytes name → text ≡ circular_text name → IsRefusal bytes text
+
+-- there are too many sequents, and a text says so
+pub record IsCrowd (p : ProgramTree) (text : List ℕ) : Type 0 where
+  pub id : MethodId
+  pub n : ℕ
+  pub much : OwesMuch p id n
+  pub text_is : text ≡ crowded_text (class_text p id.class) (method_text p id) n
+
+-- a text says why the bytes of a source spell no program of which each method has few sequents
+abbrev pub IsUnmade : List ℕ → List ℕ → Type 0
+IsUnmade bytes text = IsRefusal bytes text ⊎ ((p : ProgramTree) × Spells bytes p × IsCrowd p text)
+
+-- When each finding may come. A program is reported on where the bytes spell it, with right answers for its sequents, and so is one that is made from a number
+-- summed up; what a run comes to is exact; a file fails only where its count rose; what is said where nothing is asked for, or a method isn't there, ends with the page that says what may
 -- be asked for. Want of memory is free.
 abbrev pub Comes : List (List ℕ) → FilesSeen → Finding → Type 0
 Comes words files (reported p rs) = (read : IsRead words files.holds p) × Judges (options_of read.job) p rs
+Comes words files (summed g p rs) = (job_of words ≡ Some (gen g)) × Spells (made_source g) p × Judges default_options p rs
+Comes words files (unmade text) = (g : Gen) × (job_of words ≡ Some (gen g)) × IsUnmade (made_source g) text
 Comes words files (ran p text) = (begun : IsBegun words files.holds p) × Returns p begun.called.source.job.class begun.called.source.job.method begun.text begun.called.source.job.steps text
 Comes words files (unreturned p e) = (begun : IsBegun words files.holds p) × IsReason p begun.called.source.job.class begun.called.source.job.method begun.text begun.called.source.job.steps e
 Comes words files (no_job text) = (job_of words ≡ None) × IsUsage text
@@ -87,22 +125,6 @@ pub record Due : Type 0 where
   pub status : ℕ
   pub on_out : Bool
   pub text : List ℕ
-
--- the line for a source that is refused with a number, at a place
-abbrev pub refused_text : ℕ → Place → List ℕ
-refused_text number place = codes "refused " ++ (decimal number ++ (codes " at " ++ (decimal place.line ++ (codes ":" ++ (decimal place.column ++ 10 ∷ [])))))
-
--- the line for a source that breaks a type rule, at a place
-abbrev pub mistyped_text : ℕ → Place → List ℕ
-mistyped_text rule place = codes "refused 11 rule " ++ (decimal rule ++ (codes " at " ++ (decimal place.line ++ (codes ":" ++ (decimal place.column ++ 10 ∷ [])))))
-
--- the line for a source with a cyclic variable of this name
-abbrev pub circular_text : List ℕ → List ℕ
-circular_text name = codes "refused 8 " ++ (name ++ 10 ∷ [])
-
--- the line for a method of a class and a name with so many sequents
-abbrev pub crowded_text : List ℕ → List ℕ → ℕ → List ℕ
-crowded_text class name n = codes "refused 12 " ++ (class ++ (codes "." ++ (name ++ (codes " " ++ (decimal n ++ 10 ∷ [])))))
 
 -- the text for a file that fails in some way
 abbrev pub fault_text : List ℕ → List ℕ → List ℕ
@@ -166,6 +188,8 @@ unreturned_text unreturned_by.Memory = no_memory_text
 
 abbrev pub due : Finding → Due
 due (reported p rs) = record { status = if is_accepted rs then 0 else 1; on_out = true; text = report_of rs }
+due (summed g p rs) = record { status = if is_accepted rs then 0 else 1; on_out = true; text = summary_of g rs }
+due (unmade text) = record { status = 3; on_out = false; text = text }
 due (ran p text) = record { status = 0; on_out = true; text = text }
 due (unreturned p e) = record { status = unreturned_status e; on_out = false; text = unreturned_text e }
 due (no_job text) = record { status = 2; on_out = false; text = text }
@@ -218,40 +242,49 @@ IsExcused files file status = ((status ≡ 4) × Rose (files.before file) (files
 abbrev pub IsRunExcused : FilesSeen → Run → ℕ → Type 0
 IsRunExcused files r status = IsExcused files r.file status ⊎ IsExcused files r.heap status
 
+-- The same where no file is read.
+abbrev pub IsWithoutFile : ℕ → Type 0
+IsWithoutFile status = (status ≡ 5) ⊎ (status ≡ 6)
+
 -- a status is that of what a run comes to by the definition of runs, or 14 where something overflows in it
 abbrev pub IsRunStatus : ProgramTree → Run → List ℕ → ℕ → Type 0
 IsRunStatus p r text status = (status ≡ ending_status (ending_of p r.class r.method text r.steps)) ⊎ ((status ≡ 14) × IsOverflow p r.class r.method text r.steps)
 
 -- There are right answers for what a program owes of which one at least is Unproved, and each that is, because the search spent its
 -- budget.
-pub record IsCutShort (v : Verify) (p : ProgramTree) : Type 0 where
+pub record IsCutShort (o : Options) (p : ProgramTree) : Type 0 where
   pub reported : List Reported
-  pub judges : Judges (options_of v) p reported
+  pub judges : Judges o p reported
   pub unproved : is_accepted reported ≡ false
   pub spent : are_proved_or_spent reported ≡ true
 
 -- The answers by their conditions. Without a job it is usage, want of memory aside. Else, for what the file of the source holds where it tells: 4 where it is too long,
 -- 3 where it is refused, breaks a type rule or has a cyclic variable. Of a report: 3 where a method has too many sequents, and else 0 or 1; where
 -- all that is owed is provable, 0, or 1 where the search spent its budget on each sequent that is unproved. Of a run: usage where there is no such method; 4 where the file of the heap is too long; and else the status of what the
--- run comes to by the definition of runs, or 14 where something overflows in it.
+-- run comes to by the definition of runs, or 14 where something overflows in it. Of a source that is made from a number, which no file holds: 3 where it spells no
+-- program of which each method has few sequents, and else 0 or 1; where all that is owed is provable, as of a report.
 pub record Exact (words : List (List ℕ)) (files : FilesSeen) (status : ℕ) : Type 0 where
   pub usage : job_of words ≡ None → (status ≡ 2) ⊎ (status ≡ 5) ⊎ (status ≡ 6)
-  pub too_long : (job : Job) (bytes : List ℕ) → job_of words ≡ Some job → files.holds (source_of job) ≡ Some bytes → source_limit < length bytes → (status ≡ 4) ⊎ IsExcused files (source_of job) status
-  pub refused : (job : Job) (bytes : List ℕ) (number : ℕ) (place : Place) → job_of words ≡ Some job → files.holds (source_of job) ≡ Some bytes → length bytes ≤ source_limit → RefusedAt bytes number place → (status ≡ 3) ⊎ IsExcused files (source_of job) status
-  pub mistyped : (job : Job) (bytes : List ℕ) (rule : ℕ) (place : Place) → job_of words ≡ Some job → files.holds (source_of job) ≡ Some bytes → length bytes ≤ source_limit → IsMistyped bytes rule place → (status ≡ 3) ⊎ IsExcused files (source_of job) status
-  pub circular : (job : Job) (bytes name : List ℕ) → job_of words ≡ Some job → files.holds (source_of job) ≡ Some bytes → length bytes ≤ source_limit → IsCircular bytes name → (status ≡ 3) ⊎ IsExcused files (source_of job) status
+  pub too_long : (job : Job) (file bytes : List ℕ) → job_of words ≡ Some job → source_of job ≡ Some file → files.holds file ≡ Some bytes → source_limit < length bytes → (status ≡ 4) ⊎ IsExcused files file status
+  pub refused : (job : Job) (file bytes : List ℕ) (number : ℕ) (place : Place) → job_of words ≡ Some job → source_of job ≡ Some file → files.holds file ≡ Some bytes → length bytes ≤ source_limit → RefusedAt bytes number place → (status ≡ 3) ⊎ IsExcused files file status
+  pub mistyped : (job : Job) (file bytes : List ℕ) (rule : ℕ) (place : Place) → job_of words ≡ Some job → source_of job ≡ Some file → files.holds file ≡ Some bytes → length bytes ≤ source_limit → IsMistyped bytes rule place → (status ≡ 3) ⊎ IsExcused files file status
+  pub circular : (job : Job) (file bytes name : List ℕ) → job_of words ≡ Some job → source_of job ≡ Some file → files.holds file ≡ Some bytes → length bytes ≤ source_limit → IsCircular bytes name → (status ≡ 3) ⊎ IsExcused files file status
   pub crowded : (v : Verify) (bytes class name : List ℕ) (n : ℕ) → job_of words ≡ Some (verify v) → files.holds v.file ≡ Some bytes → length bytes ≤ source_limit → IsCrowded bytes class name n → (status ≡ 3) ⊎ IsExcused files v.file status
   pub reported : (v : Verify) (bytes : List ℕ) (p : ProgramTree) → job_of words ≡ Some (verify v) → files.holds v.file ≡ Some bytes → length bytes ≤ source_limit → Spells bytes p → OwesLittle p → (status ≡ 0) ⊎ (status ≡ 1) ⊎ IsExcused files v.file status
-  pub proved : (v : Verify) (bytes : List ℕ) (p : ProgramTree) → job_of words ≡ Some (verify v) → files.holds v.file ≡ Some bytes → length bytes ≤ source_limit → Spells bytes p → OwesProvable v.rounds p → (status ≡ 0) ⊎ ((status ≡ 1) × IsCutShort v p) ⊎ IsExcused files v.file status
+  pub proved : (v : Verify) (bytes : List ℕ) (p : ProgramTree) → job_of words ≡ Some (verify v) → files.holds v.file ≡ Some bytes → length bytes ≤ source_limit → Spells bytes p → OwesProvable v.rounds p → (status ≡ 0) ⊎ ((status ≡ 1) × IsCutShort (options_of v) p) ⊎ IsExcused files v.file status
   pub no_method : (r : Run) (bytes : List ℕ) (p : ProgramTree) → job_of words ≡ Some (run r) → files.holds r.file ≡ Some bytes → length bytes ≤ source_limit → Spells bytes p → has_method p r.class r.method ≡ false → (status ≡ 2) ⊎ IsExcused files r.file status
   pub heap_too_long : (r : Run) (bytes text : List ℕ) (p : ProgramTree) → job_of words ≡ Some (run r) → files.holds r.file ≡ Some bytes → length bytes ≤ source_limit → Spells bytes p → has_method p r.class r.method ≡ true →
       files.holds r.heap ≡ Some text → source_limit < length text → (status ≡ 4) ⊎ IsRunExcused files r status
   pub ran : (r : Run) (bytes text : List ℕ) (p : ProgramTree) → job_of words ≡ Some (run r) → files.holds r.file ≡ Some bytes → length bytes ≤ source_limit → Spells bytes p → has_method p r.class r.method ≡ true →
       files.holds r.heap ≡ Some text → length text ≤ source_limit → IsRunStatus p r text status ⊎ IsRunExcused files r status
+  pub unmade : (g : Gen) → job_of words ≡ Some (gen g) → ((p : ProgramTree) → Spells (made_source g) p → OwesLittle p → ⊥) → (status ≡ 3) ⊎ IsWithoutFile status
+  pub summed : (g : Gen) (p : ProgramTree) → job_of words ≡ Some (gen g) → Spells (made_source g) p → OwesLittle p → (status ≡ 0) ⊎ (status ≡ 1) ⊎ IsWithoutFile status
+  pub summed_proved : (g : Gen) (p : ProgramTree) → job_of words ≡ Some (gen g) → Spells (made_source g) p → OwesProvable default_options.rounds p → (status ≡ 0) ⊎ ((status ≡ 1) × IsCutShort default_options p) ⊎ IsWithoutFile status
 
 -- what is due for a reply
 abbrev pub reply_due : Reply → Due
 reply_due (reply.Report text accepted) = record { status = if accepted then 0 else 1; on_out = true; text = string_bytes text }
+reply_due (reply.Summed text accepted) = record { status = if accepted then 0 else 1; on_out = true; text = text.items }
 reply_due (reply.Ran text) = record { status = 0; on_out = true; text = string_bytes text }
 reply_due (reply.Line text status) = record { status = status; on_out = false; text = string_bytes text }
 reply_due (reply.Usage text) = record { status = 2; on_out = false; text = text }
@@ -262,13 +295,6 @@ abbrev pub Says : ℕ → List ℕ → Reply → Type 0
 Says status text (reply.Line line number) = (number ≡ status) × (string_bytes line ≡ text)
 Says status text reply.NoMemory = Unit {0}
 Says status text _ = ⊥
-
--- there are too many sequents, and a text says so
-pub record IsCrowd (p : ProgramTree) (text : List ℕ) : Type 0 where
-  pub id : MethodId
-  pub n : ℕ
-  pub much : OwesMuch p id n
-  pub text_is : text ≡ crowded_text (class_text p id.class) (method_text p id) n
 
 -- why there is no report on a program
 abbrev pub IsUnreported : ProgramTree → Unreported → Type 0
@@ -282,11 +308,12 @@ IsReply o p (reply.Line text status) = (status ≡ 3) × IsCrowd p (string_bytes
 IsReply o p reply.NoMemory = Unit {0}
 IsReply o p _ = ⊥
 
--- a text is the line for bytes that are refused, break a type rule or have a cyclic variable
-pub data IsRefusal (bytes text : List ℕ) : Type 0 where
-  by_place : (number : ℕ) (place : Place) → RefusedAt bytes number place → text ≡ refused_text number place → IsRefusal bytes text
-  by_rule : (rule : ℕ) (place : Place) → IsMistyped bytes rule place → text ≡ mistyped_text rule place → IsRefusal bytes text
-  by_loop : (name : List ℕ) → IsCircular bytes name → text ≡ circular_text name → IsRefusal bytes text
+-- a reply is the summary of what is proved of a program that was made, or says that a method has too many sequents, or is want of memory
+abbrev pub IsSumReply : Gen → ProgramTree → Reply → Type 0
+IsSumReply g p (reply.Summed text accepted) = IsSummary g p text.items accepted
+IsSumReply g p (reply.Line text status) = (status ≡ 3) × IsCrowd p (string_bytes text)
+IsSumReply g p reply.NoMemory = Unit {0}
+IsSumReply g p _ = ⊥
 
 -- A reply is right for the bytes of a source that is refused.
 abbrev pub FitsRefusal : List ℕ → Reply → Type 0
@@ -297,6 +324,14 @@ FitsRefusal bytes _ = ⊥
 -- A reply is right for the bytes of a source that is to be verified.
 abbrev pub FitsBytes : Options → List ℕ → Reply → Type 0
 FitsBytes o bytes answer = FitsRefusal bytes answer ⊎ ((p : ProgramTree) × Spells bytes p × IsReply o p answer)
+
+-- A reply is right for the bytes of a source that is made.
+abbrev pub FitsMade : Gen → List ℕ → Reply → Type 0
+FitsMade g bytes answer = FitsRefusal bytes answer ⊎ ((p : ProgramTree) × Spells bytes p × IsSumReply g p answer)
+
+-- A reply is right for a job that asks for a source that is made, or is want of memory.
+abbrev pub FitsGen : Gen → Reply → Type 0
+FitsGen g answer = FitsMade g (made_source g) answer ⊎ (answer ≡ reply.NoMemory)
 
 -- a reply says how a file fails
 abbrev pub IsFaultReply : List ℕ → FileFault → Reply → Type 0

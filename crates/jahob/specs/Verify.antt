@@ -75,30 +75,36 @@ pub record IsRead (words : List (List ℕ)) (holds : List ℕ → Option (List �
   pub spelled : Spells bytes p
   pub only : (q : ProgramTree) → Spells bytes q → q ≡ p
 
--- The words ask for a job, whose source is refused with a number, at a place.
+-- The words ask for a job, whose source is read from a file and is refused with a number, at a place.
 pub record IsRefused (words : List (List ℕ)) (holds : List ℕ → Option (List ℕ)) (number : ℕ) (place : Place) : Type 0 where
   pub job : Job
+  pub file : List ℕ
   pub bytes : List ℕ
   pub asked : job_of words ≡ Some job
-  pub told : Tells (holds (source_of job)) bytes
+  pub reads : source_of job ≡ Some file
+  pub told : Tells (holds file) bytes
   pub within : length bytes ≤ source_limit
   pub why : RefusedAt bytes number place
 
--- The words ask for a job, whose source spells a tree that breaks a type rule at a place.
+-- The same of a source that spells a tree that breaks a type rule at a place.
 pub record IsIll (words : List (List ℕ)) (holds : List ℕ → Option (List ℕ)) (rule : ℕ) (place : Place) : Type 0 where
   pub job : Job
+  pub file : List ℕ
   pub bytes : List ℕ
   pub asked : job_of words ≡ Some job
-  pub told : Tells (holds (source_of job)) bytes
+  pub reads : source_of job ≡ Some file
+  pub told : Tells (holds file) bytes
   pub within : length bytes ≤ source_limit
   pub why : IsMistyped bytes rule place
 
--- The words ask for a job, whose source spells a tree with a cyclic variable of this name.
+-- The same of a source that spells a tree with a cyclic variable of this name.
 pub record IsLooped (words : List (List ℕ)) (holds : List ℕ → Option (List ℕ)) (name : List ℕ) : Type 0 where
   pub job : Job
+  pub file : List ℕ
   pub bytes : List ℕ
   pub asked : job_of words ≡ Some job
-  pub told : Tells (holds (source_of job)) bytes
+  pub reads : source_of job ≡ Some file
+  pub told : Tells (holds file) bytes
   pub within : length bytes ≤ source_limit
   pub why : IsCircular bytes name
 

@@ -3,10 +3,12 @@
 
 mod error;
 mod laws;
+mod making;
 mod reading;
 mod reply;
 mod reporting;
 mod running;
+mod tallying;
 mod top;
 mod verification;
 

@@ -11,10 +11,12 @@ use jh_name::{Name, NoMemory, Place, Text};
 use std::alloc::Global;
 
 /// What a call comes to, before anything is written.
-#[derive(Debug, Drop)]
+#[derive(Drop)]
 pub enum Reply {
     /// The report, and whether every sequent is proved.
     Report(String, bool),
+    /// The summary of a source that was made, and whether every sequent is proved.
+    Summed(Vec<u8>, bool),
     /// What is printed of a run that returns.
     Ran(String),
     /// A line on the second sink, and the status that goes with it.
@@ -31,6 +33,7 @@ impl Reply {
     {
         match self {
             Reply::Report(_, accepted) => { if *accepted { 0 } else { 1 } }
+            Reply::Summed(_, accepted) => { if *accepted { 0 } else { 1 } }
             Reply::Ran(_) => 0,
             Reply::Line(_, status) => *status,
             Reply::Usage(_) => 2,
@@ -39,15 +42,16 @@ impl Reply {
     }
 
     /// The text that is due.
-    pub fn text(&self) -> &str
+    pub fn text(&self) -> &[u8]
         ensures { result.now ≡ (reply_due self.now).text }
     {
         match self {
-            Reply::Report(text, _) => text.as_str(),
-            Reply::Ran(text) => text.as_str(),
-            Reply::Line(text, _) => text.as_str(),
-            Reply::Usage(text) => text.text(),
-            Reply::NoMemory => "no memory\n",
+            Reply::Report(text, _) => text.as_bytes(),
+            Reply::Summed(text, _) => text.as_slice(),
+            Reply::Ran(text) => text.as_bytes(),
+            Reply::Line(text, _) => text.as_bytes(),
+            Reply::Usage(text) => text.text().as_bytes(),
+            Reply::NoMemory => "no memory\n".as_bytes(),
         }
     }
 
@@ -57,6 +61,7 @@ impl Reply {
     {
         match self {
             Reply::Report(_, _) => true,
+            Reply::Summed(_, _) => true,
             Reply::Ran(_) => true,
             Reply::Line(_, _) => false,
             Reply::Usage(_) => false,

@@ -30,7 +30,7 @@ use jh_unfold::{Parts, Unfolded};
 use std::alloc::Global;
 
 /// A report on a program, and whether every sequent is proved.
-#[derive(Debug, Drop)]
+#[derive(Drop)]
 pub struct Verified {
     pub text: String,
     pub accepted: bool,
@@ -148,7 +148,7 @@ fn crowded_line(alloc: Global, class: &str, name: &str, n: u128) -> Result<Strin
 }
 
 /// Why there is no report on a program.
-fn why_unreported(alloc: Global, program: &Program, fault: LogicError) -> Unreported
+pub(crate) fn why_unreported(alloc: Global, program: &Program, fault: LogicError) -> Unreported
     requires { IsLogicFault (program_tree program.now) fault }
     ensures { IsUnreported (program_tree program.now) result }
 {

@@ -3,11 +3,13 @@
 
 ghost use Rattle.std.specs.Prelude.{◌≡◌, ◌≢◌, ◌⊎◌, ℕ, List, Some, map, string_bytes};
 ghost use Rattle.jahob.specs.Causes.{Answered, Delivered, Exact, Fits, FitsWords, HaveNoFault, Takes, reply_due};
+ghost use Rattle.jahob.specs.Made.{Sums};
 ghost use Rattle.jahob.specs.Run.{Runs};
 ghost use Rattle.jahob.specs.Verify.{Reports, Verifies};
-ghost use Rattle.jh_words.specs.CommandLine.{Run, Verify, job_of, run, verify};
+ghost use Rattle.jh_words.specs.CommandLine.{Gen, Run, Verify, gen, job_of, run, verify};
 ghost use Rattle.jh_words.specs.Usage.{IsRefusal};
 
+use crate::making::sum_source;
 use crate::reading::spelled_source_is_accepted;
 use crate::reply::Reply;
 use crate::running::run_file;
@@ -36,15 +38,16 @@ fn reply_to<F: Files>(alloc: Global, words: &[String], files: &mut F) -> Reply
     match read(alloc, words) {
         Ok(Job::Verify(verify)) => verify_file(alloc, verify.file, verify.options, files),
         Ok(Job::Run(run)) => run_file(alloc, &run, files),
+        Ok(Job::Gen(made)) => sum_source(alloc, made),
         Err(error) => reply_to_words(error),
     }
 }
 
 /// Writes a text, and answers the status that is due with it, or 5 where the sink fails.
-fn written<S: Sink>(sink: &mut S, text: &str, status: u8) -> u8
+fn written<S: Sink>(sink: &mut S, text: &[u8], status: u8) -> u8
     ensures { Takes (record { before = S.written sink.old; after = S.written sink.new; faults_before = S.faults sink.old; faults_after = S.faults sink.new }) text.now status result }
 {
-    match put_all(sink, text.as_bytes()) {
+    match put_all(sink, text) {
         Ok(()) => status,
         Err(_) => 5,
     }
@@ -84,6 +87,9 @@ pub fn jahob<F: Files, O: Sink, E: Sink>(
 
     // Where `run` ends with status 0, the run of the method by the definition returns, and its result and the heap at its end were written whole.
     ensures returned { (r : Run) → job_of (map (λ word. string_bytes word) words.now) ≡ Some (run r) → result ≡ 0 → Runs (map (λ word. string_bytes word) words.now) (F.holds files.old) (O.written out.old) (O.written out.new) }
+
+    // Where `gen` ends with status 0 or 1, the summary of right answers for what the source of the seed owes was written whole, and no answer is Unproved just where it is 0; then the program that the source spells is sound.
+    ensures summed { (g : Gen) → job_of (map (λ word. string_bytes word) words.now) ≡ Some (gen g) → (result ≡ 0) ⊎ (result ≡ 1) → Sums (map (λ word. string_bytes word) words.now) (O.written out.old) (O.written out.new) result }
 
     // Each answer has its cause, and the text that is due with it was written whole, or a front of it by a sink that failed.
     ensures cause { Answered (map (λ word. string_bytes word) words.now)

@@ -1,5 +1,5 @@
 use Rattle.jahob.proofs.Exactness.{answered-exact}
-use Rattle.jahob.proofs.Findings.{answered-by, answered-memory, answered-no-fault, answered-reports, answered-runs, answered-verifies}
+use Rattle.jahob.proofs.Findings.{answered-by, answered-memory, answered-no-fault, answered-reports, answered-runs, answered-sums, answered-verifies}
 use Rattle.jahob.proofs.top.jahob.Goals as goal
 
 pub returns-clause-cause : goal.returns-clause-cause
@@ -13,6 +13,9 @@ returns-clause-report g c = λ v asked low. answered-reports c.spelled_source_is
 
 pub returns-clause-returned : goal.returns-clause-returned
 returns-clause-returned g c = λ r asked zero. answered-runs _ _ _ _ _ (answered-by _ _ _ _ _ c.reply_to-reply.result c.reply_to-reply.ensures.fits c.deliver.ensures) r asked zero
+
+pub returns-clause-summed : goal.returns-clause-summed
+returns-clause-summed g c = λ made asked low. answered-sums c.spelled_source_is_accepted.ensures c.owed_is_sound.ensures c.owed_is_one.ensures c.proved_is_valid.ensures c.provable_is_proved.ensures _ _ _ _ _ (answered-by _ _ _ _ _ c.reply_to-reply.result c.reply_to-reply.ensures.fits c.deliver.ensures) made asked low
 
 pub returns-clause-exact : goal.returns-clause-exact
 returns-clause-exact g c = answered-exact c.too_many_is_exact.ensures.little c.too_many_is_exact.ensures.much c.owed_is_one.ensures c.provable_is_proved.ensures _ _ _ _ _ (answered-by _ _ _ _ _ c.reply_to-reply.result c.reply_to-reply.ensures.fits c.deliver.ensures)

@@ -1,7 +1,8 @@
 use Rattle.std.proofs.Common.{ap, ◌∙◌}
 use Rattle.std.specs.Prelude.{Some, map, string_bytes}
-use Rattle.jh_words.specs.Held.{job_in, run_in, verify_in}
-use Rattle.jahob.proofs.Fitting.{file-fits, run-fits, words-fits}
+use Rattle.jh_words.specs.Held.{gen_in, job_in, run_in, verify_in}
+use Rattle.jahob.proofs.Fitting.{file-fits, gen-fits, run-fits, words-fits}
+use Rattle.jahob.proofs.Few.{has-few}
 use Rattle.jahob.proofs.Leaves.{has-leaves}
 use Rattle.jahob.proofs.top.reply_to.Goals as goal
 
@@ -24,3 +25,12 @@ pub returns-in-Err-clause-fits : goal.returns-in-Err-clause-fits
 returns-in-Err-clause-fits g c =
     let words = map (λ word. string_bytes word) c.args.words.now in
     words-fits words _ c.reply_to_words.result (c.reply_to_words.ensures words c.in-Err.ensures.refusal)
+
+-- src/top.rt
+pub sum_source-requires : goal.sum_source-requires
+sum_source-requires g c = has-few (map (λ word. string_bytes word) c.args.words.now) (gen_in c.in-Ok-Gen.made) (c.in-Ok-Gen.ensures.job ∙ ap (λ j. Some (job_in j)) c.in-Ok-Gen.field-0-is)
+
+-- src/top.rt
+pub returns-in-Ok-Gen-clause-fits : goal.returns-in-Ok-Gen-clause-fits
+returns-in-Ok-Gen-clause-fits g c =
+    gen-fits _ _ (gen_in c.in-Ok-Gen.made) (c.in-Ok-Gen.ensures.job ∙ ap (λ j. Some (job_in j)) c.in-Ok-Gen.field-0-is) c.sum_source.result c.sum_source.ensures

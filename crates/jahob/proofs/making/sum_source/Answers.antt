@@ -1,0 +1,14 @@
+use Rattle.std.proofs.Common.{◌<◌, ◌-◌, ◌^◌, ℕ, List, inl, length, subst, sym, ◌∙◌}
+use Rattle.jh_words.specs.Held.{gen_in}
+use Rattle.jahob.specs.Causes.{FitsMade}
+use Rattle.jahob.proofs.Lengths.{source-short}
+use Rattle.jahob.proofs.making.sum_source.Goals as goal
+
+-- src/making.rt
+pub sum_bytes-requires : goal.sum_bytes-requires
+sum_bytes-requires c =
+    subst (λ (bytes : List ℕ). length bytes < 2 ^ 32 - 1) (sym (c.as_slice.ensures.value ∙ c.in-Ok.ensures.source)) (source-short c.args.job.seed c.args.job.methods c.requires)
+
+-- src/making.rt
+pub returns-in-Ok : goal.returns-in-Ok
+returns-in-Ok c = inl (subst (λ (bytes : List ℕ). FitsMade (gen_in c.args.job) bytes c.sum_bytes.result) (c.as_slice.ensures.value ∙ c.in-Ok.ensures.source) c.sum_bytes.ensures)
