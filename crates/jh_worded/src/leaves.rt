@@ -44,15 +44,43 @@ fn integer(table: &mut Table, word: &str) -> Result<Option<usize>, NoMemory> {
     }
 }
 
+/// The sort of a word for one.
+fn sort_named(word: &str) -> Option<Sort> {
+    match word {
+        "object" => Some(Sort::Obj),
+        "number" => Some(Sort::Int),
+        "truth" => Some(Sort::Bool),
+        "set" => Some(Sort::Set),
+        "field" => Some(Sort::Field),
+        _ => None,
+    }
+}
+
+/// The node of a name behind the word for its sort.
+fn told(table: &mut Table, sort: &str, word: &str) -> Result<Option<usize>, NoMemory> {
+    match sort_named(sort) {
+        Some(sort) => Ok(Some(named(table, word, sort)?)),
+        None => Ok(None),
+    }
+}
+
+/// The node of a name, whose first letter tells its sort.
+fn plain(table: &mut Table, word: &str) -> Result<Option<usize>, NoMemory> {
+    match sort_of(word) {
+        Some(sort) => Ok(Some(named(table, word, sort)?)),
+        None => integer(table, word),
+    }
+}
+
 /// The node of a word without parts: a name, whose first letter tells its sort (objects from a to e and from w to z,
-/// fields from f to h, numbers from i to n, truths from p to s, and capitals for sets), an integer, or `_` and the number
-/// of a bound variable; or none where the word is none of these.
+/// fields from f to h, numbers from i to n, truths from p to s, and capitals for sets), a name behind the word for its sort and
+/// a colon, an integer, or `_` and the number of a bound variable; or none where the word is none of these.
 pub fn leaf(table: &mut Table, word: &str) -> Result<Option<usize>, NoMemory> {
-    if let Some(sort) = sort_of(word) {
-        return Ok(Some(named(table, word, sort)?));
+    if let Some((sort, word)) = word.split_once(':') {
+        return told(table, sort, word);
     }
     match word.strip_prefix("_") {
         Some(number) => variable(table, number),
-        None => integer(table, word),
+        None => plain(table, word),
     }
 }
