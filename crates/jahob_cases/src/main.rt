@@ -1,13 +1,22 @@
-//! Goes through the cases of the tool, over files and sinks in memory. Prints where one comes to something
-//! else than it is to and, in the last line, how many there were; ends with status 1 where one differs, and
-//! with 6 where a file of cases can't be read.
+//! Goes through the cases of the tool, over files and sinks in memory, and through what the libraries below it make
+//! of command lines and of numbers. Prints where one comes to something else than it is to, the page that says what
+//! may be asked for, how many there were of each kind, and then what the files and the writers of the host do; ends
+//! with status 1 where one differs, and with 6 where a file of cases can't be read.
 #![tactic(auto)]
 
+mod asking;
 mod case;
+mod host;
+mod jobs;
+mod making;
 mod reading;
 mod running;
+mod writer;
 
+use asking::{Asked, go_through_lines};
 use case::Case;
+use host::show_all;
+use jh_words::page;
 use reading::cases_of;
 use running::{Outcome, call};
 use std::alloc::Global;
@@ -16,13 +25,15 @@ use std::process::ExitCode;
 use std::{fs, io, str};
 
 /// The files of cases, by what they are about.
-const FILES: [&str; 6] = [
+const FILES: [&str; 8] = [
     "statics.cases",
     "refusals.cases",
+    "types.cases",
     "methods.cases",
     "queries.cases",
     "runs.cases",
     "heaps.cases",
+    "made.cases",
 ];
 
 /// How many cases there were, and how many of them differed.
@@ -107,8 +118,21 @@ fn go_through_file(rt: &HostRuntime, name: &str, count: &mut Count) -> io::Resul
     go_through(rt, alloc, cases.as_mut_slice(), count)
 }
 
+/// Goes through the lines of a file, each with what is to be made of it, and answers whether none differs. Prints how many there
+/// were, by what they are.
+fn are_lines_well(rt: &HostRuntime, asked: Asked, name: &str, what: &str) -> io::Result<bool> {
+    let text = fs::read_to_string(rt, name)?;
+    let mut count = Count {
+        all: 0,
+        differing: 0,
+    };
+    go_through_lines(rt, rt.alloc(), asked, text.as_str(), &mut count)?;
+    println!(rt; "{} {what}, {} of them differ", count.all, count.differing)?;
+    Ok(count.differing == 0)
+}
+
 /// Goes through all files of cases, and answers whether no case differs. Prints how many there were.
-fn is_all_well(rt: &HostRuntime) -> io::Result<bool> {
+fn are_cases_well(rt: &HostRuntime) -> io::Result<bool> {
     let mut count = Count {
         all: 0,
         differing: 0,
@@ -118,6 +142,22 @@ fn is_all_well(rt: &HostRuntime) -> io::Result<bool> {
     }
     println!(rt; "{} cases, {} of them differ", count.all, count.differing)?;
     Ok(count.differing == 0)
+}
+
+/// Goes through all cases and lines, and answers whether none differs.
+fn are_all_well(rt: &HostRuntime) -> io::Result<bool> {
+    let cases = are_cases_well(rt)?;
+    print!(rt; "{}", page())?;
+    let jobs = are_lines_well(rt, Asked::Job, "words.cases", "command lines")?;
+    let texts = are_lines_well(rt, Asked::Text, "texts.cases", "texts")?;
+    Ok(cases && jobs && texts)
+}
+
+/// Goes through all cases and lines, and shows what the host does. Answers whether none differs.
+fn is_all_well(rt: &HostRuntime) -> anyhow::Result<bool> {
+    let well = are_all_well(rt)?;
+    show_all(rt)?;
+    Ok(well)
 }
 
 fn main(rt: HostRuntime) -> ExitCode {

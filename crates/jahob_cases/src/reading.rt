@@ -5,7 +5,7 @@ use jh_words::page;
 use std::alloc::{AllocError, Global};
 
 /// The words of a line; two single quotes are an empty word.
-fn words_of(alloc: Global, line: &str) -> Result<Vec<String>, AllocError> {
+pub fn words_of(alloc: Global, line: &str) -> Result<Vec<String>, AllocError> {
     let mut words = Vec::new(alloc);
     for word in line.split(' ') {
         if word == "''" {

@@ -1,0 +1,3 @@
+mod Formulas
+mod MakingSteps
+mod Marks

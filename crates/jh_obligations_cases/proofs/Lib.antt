@@ -1,2 +1,0 @@
-mod Formulas
-mod Marks
