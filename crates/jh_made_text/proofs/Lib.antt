@@ -1,0 +1,5 @@
+pub mod Digits
+pub mod Fits
+pub mod Passing
+pub mod Shallow
+pub mod Sources
