@@ -1,0 +1,4 @@
+pub mod Declaring
+pub mod Faultless
+pub mod Methods
+pub mod Names
