@@ -1,0 +1,5 @@
+pub mod Bodies
+pub mod Formulas
+pub mod Members
+pub mod Programs
+pub mod Standing
