@@ -1,0 +1,4 @@
+pub mod Cheap
+pub mod Codes
+pub mod Formulas
+pub mod Programs
