@@ -10,7 +10,7 @@ use Rattle.jh_obligations.specs.Sources.{OwesLittle, OwesMuch}
 use Rattle.jh_prove.specs.Laws.{ProvableIsProved}
 use Rattle.jh_report.specs.Report.{Reported, is_accepted}
 use Rattle.jahob.specs.Refusals.{Spells, RefusedAt, IsMistyped, IsCircular, IsCrowded}
-use Rattle.jahob.specs.Causes.{FilesSeen, SinkSeen, Finding, reported, summed, unmade, ran, unreturned, no_job, no_method, refused, mistyped, circular, crowded, file_failed, file_too_long, no_memory, IsRead_in, as_source, as_heap, Comes, due, unreturned_status, Takes, Delivered, Answered, IsExcused, IsWithoutFile, IsRunStatus, IsCutShort, IsRefusal, by_place, by_rule, by_loop, IsUnmade, Exact}
+use Rattle.jahob.specs.Causes.{FilesSeen, SinkSeen, Finding, reported, summed, ran, unreturned, no_job, no_method, refused, mistyped, circular, crowded, file_failed, file_too_long, no_memory, IsRead_in, as_source, as_heap, Comes, due, unreturned_status, Takes, Delivered, Answered, IsExcused, IsWithoutFile, IsRunStatus, IsCutShort, IsRefusal, by_place, by_rule, by_loop, Exact}
 use Rattle.jahob.specs.Made.{default_options, made_source}
 use Rattle.jahob.specs.Run.{IsBegun, IsSource, ending_of, ending_status}
 use Rattle.jh_options.specs.declared.Options.{Options}
@@ -85,7 +85,6 @@ module _ (much : LittleIsNotMuch) (words : List (List ℕ)) (files : FilesSeen) 
       is_reported comes.0.job (one-job (job_of words) job (verify comes.0.job) asked comes.0.asked) (subst (λ (b : List ℕ). length b ≤ source_limit) same comes.0.within) p rs (subst (λ (b : List ℕ). Spells b p) same comes.0.spelled) comes.1
       (due-or files out _ file (if is_accepted rs then 0 else 1) status delivered.0)
   seen (summed g p rs) comes delivered = made-file job g file (one-job (job_of words) job (gen g) asked comes.0) reads
-  seen (unmade text) comes delivered = made-file job comes.0 file (one-job (job_of words) job (gen comes.0) asked comes.1) reads
   seen (ran p printed) comes delivered =
       let r : Run = comes.0.called.source.job in
       begun-seen p comes.0 (ended-as p r comes.0.text 0 (sym (returns-zero p r.class r.method comes.0.text r.steps printed comes.1)) (takes-status out printed 0 status delivered.0))
@@ -239,7 +238,6 @@ is-usage sink text status takes = elim (takes-status sink text 2 status takes) [
 usage-of : (words : List (List ℕ)) (files : FilesSeen) (out err : SinkSeen) (status : ℕ) (o : Finding) → Comes words files o → Delivered (due o) out err status → job_of words ≡ None → (status ≡ 2) ⊎ (status ≡ 5) ⊎ (status ≡ 6)
 usage-of words files out err status (reported p rs) comes delivered none = none-job (job_of words) (verify comes.0.job) none comes.0.asked
 usage-of words files out err status (summed g p rs) comes delivered none = none-job (job_of words) (gen g) none comes.0
-usage-of words files out err status (unmade text) comes delivered none = none-job (job_of words) (gen comes.0) none comes.1
 usage-of words files out err status (ran p text) comes delivered none = none-job (job_of words) (run comes.0.called.source.job) none comes.0.called.source.asked
 usage-of words files out err status (unreturned p e) comes delivered none = none-job (job_of words) (run comes.0.called.source.job) none comes.0.called.source.asked
 usage-of words files out err status (no_job text) comes delivered none = is-usage err text status delivered.0
@@ -255,26 +253,12 @@ usage-of words files out err status no_memory comes delivered none = elim (takes
 -- what is seen of a source that is made
 data MadeSeen (g : Gen) (status : ℕ) : Type 0 where
   made_excused : IsWithoutFile status → MadeSeen g status
-  made_unmade : ((p : ProgramTree) → Spells (made_source g) p → OwesLittle p → ⊥) → (status ≡ 3) ⊎ IsWithoutFile status → MadeSeen g status
   made_summed : (p : ProgramTree) (rs : List Reported) → Spells (made_source g) p → Judges default_options p rs → (status ≡ (if is_accepted rs then 0 else 1)) ⊎ IsWithoutFile status → MadeSeen g status
 
 due-without : (sink : SinkSeen) (text : List ℕ) (d status : ℕ) → Takes sink text d status → (status ≡ d) ⊎ IsWithoutFile status
 due-without sink text d status takes = elim (takes-status sink text d status takes) [ inl is ↦ inl is | inr five ↦ inr (inl five) ]
 
--- where the source spells no program of which each method has few sequents
-unmade-spells : LittleIsNotMuch → (bytes text : List ℕ) → IsUnmade bytes text → (p : ProgramTree) → Spells bytes p → OwesLittle p → ⊥
-unmade-spells much bytes text unmade_by p spells few =
-    elim unmade_by [
-      | inl refusal ↦ refused-none text refusal
-      | inr crowd ↦ much p crowd.2.id crowd.2.n few (subst (λ (t : ProgramTree). OwesMuch t crowd.2.id crowd.2.n) (spells-one bytes crowd.0 p crowd.1 spells) crowd.2.much)
-    ]
-  where
-    refused-none : (line : List ℕ) → IsRefusal bytes line → ⊥
-    refused-none line (by_place n place why is) = refused-parses bytes n place p why spells.parsed
-    refused-none line (by_rule rule place ill is) = ill-spells bytes rule place p ill spells
-    refused-none line (by_loop name loop is) = loop-spells bytes name p loop spells
-
-module _ (much : LittleIsNotMuch) (words : List (List ℕ)) (files : FilesSeen) (out err : SinkSeen) (status : ℕ) (g : Gen) (asked : job_of words ≡ Some (gen g)) where
+module _ (words : List (List ℕ)) (files : FilesSeen) (out err : SinkSeen) (status : ℕ) (g : Gen) (asked : job_of words ≡ Some (gen g)) where
   -- no file is read
   file-none : {P : Type 0} (file : List ℕ) → IsRead_in words files.holds file → P
   file-none file (as_source job f is reads) = made-file job g f (one-job (job_of words) job (gen g) is asked) reads
@@ -288,9 +272,6 @@ module _ (much : LittleIsNotMuch) (words : List (List ℕ)) (files : FilesSeen) 
   made-seen (summed h p rs) comes delivered =
       let same : h ≡ g = one-gen h g (one-job (job_of words) (gen h) (gen g) comes.0 asked) in
       made_summed p rs (subst (λ (k : Gen). Spells (made_source k) p) same comes.1) comes.2 (due-without out _ (if is_accepted rs then 0 else 1) status delivered.0)
-  made-seen (unmade text) comes delivered =
-      let same : comes.0 ≡ g = one-gen comes.0 g (one-job (job_of words) (gen comes.0) (gen g) comes.1 asked) in
-      made_unmade (unmade-spells much (made_source g) text (subst (λ (k : Gen). IsUnmade (made_source k) text) same comes.2)) (due-without err text 3 status delivered.0)
   made-seen (ran p text) comes delivered = apart-run-made (job_of words) comes.0.called.source.job g comes.0.called.source.asked asked
   made-seen (unreturned p e) comes delivered = apart-run-made (job_of words) comes.0.called.source.job g comes.0.called.source.asked asked
   made-seen (no_job text) comes delivered = none-job (job_of words) (gen g) comes.0 asked
@@ -303,24 +284,17 @@ module _ (much : LittleIsNotMuch) (words : List (List ℕ)) (files : FilesSeen) 
   made-seen (file_too_long file) comes delivered = file-none file comes.0
   made-seen no_memory comes delivered = made_excused (elim (takes-status err _ 6 status delivered.0) [ inl six ↦ inr six | inr five ↦ inl five ])
 
-unmade-of : OwedIsLittle → (g : Gen) (status : ℕ) → MadeSeen g status → ((p : ProgramTree) → Spells (made_source g) p → OwesLittle p → ⊥) → (status ≡ 3) ⊎ IsWithoutFile status
-unmade-of little g status (made_excused is) none = inr is
-unmade-of little g status (made_unmade empty is) none = is
-unmade-of little g status (made_summed p rs spells judges is) none = absurd (none p spells (little p judges.owed judges.owes))
-
-summed-of : (g : Gen) (status : ℕ) → MadeSeen g status → (p : ProgramTree) → Spells (made_source g) p → OwesLittle p → (status ≡ 0) ⊎ (status ≡ 1) ⊎ IsWithoutFile status
-summed-of g status (made_excused is) p spells few = inr (inr is)
-summed-of g status (made_unmade empty is) p spells few = absurd (empty p spells few)
-summed-of g status (made_summed q rs spelled judges is) p spells few =
+summed-of : (g : Gen) (status : ℕ) → MadeSeen g status → (status ≡ 0) ⊎ (status ≡ 1) ⊎ IsWithoutFile status
+summed-of g status (made_excused is) = inr (inr is)
+summed-of g status (made_summed q rs spelled judges is) =
     elim is [
       | inl due_is ↦ elim (report-due (is_accepted rs) status due_is) [ inl zero ↦ inl zero | inr one ↦ inr (inl one) ]
       | inr excused ↦ inr (inr excused)
     ]
 
-summed-proved-of : OwedIsLittle → OwedIsOne → ProvableIsProved → (g : Gen) (status : ℕ) → MadeSeen g status → (p : ProgramTree) → Spells (made_source g) p → OwesProvable default_options.rounds p → (status ≡ 0) ⊎ ((status ≡ 1) × IsCutShort default_options p) ⊎ IsWithoutFile status
-summed-proved-of little one provable g status (made_excused is) p spells owes = inr (inr is)
-summed-proved-of little one provable g status (made_unmade empty is) p spells owes = absurd (empty p spells (little p owes.owed owes.owes))
-summed-proved-of little one provable g status (made_summed q rs spelled judges is) p spells owes =
+summed-proved-of : OwedIsOne → ProvableIsProved → (g : Gen) (status : ℕ) → MadeSeen g status → (p : ProgramTree) → Spells (made_source g) p → OwesProvable default_options.rounds p → (status ≡ 0) ⊎ ((status ≡ 1) × IsCutShort default_options p) ⊎ IsWithoutFile status
+summed-proved-of one provable g status (made_excused is) p spells owes = inr (inr is)
+summed-proved-of one provable g status (made_summed q rs spelled judges is) p spells owes =
     let judged : Judges default_options p rs = subst (λ (t : ProgramTree). Judges default_options t rs) (spells-one (made_source g) q p spelled spells) judges in
     elim is [
       | inl due_is ↦ elim (status-provable default_options p rs judged (provable-spent one provable default_options p rs judged owes) (is_accepted rs) refl status due_is) [
@@ -335,7 +309,7 @@ module _ (little : OwedIsLittle) (much : LittleIsNotMuch) (one : OwedIsOne) (pro
   at job file bytes asked reads held = seen much words files out err status job asked file bytes reads held a.finding a.comes a.delivered
 
   made-at : (g : Gen) → job_of words ≡ Some (gen g) → MadeSeen g status
-  made-at g asked = made-seen much words files out err status g asked a.finding a.comes a.delivered
+  made-at g asked = made-seen words files out err status g asked a.finding a.comes a.delivered
 
   run-at : (r : Run) (bytes : List ℕ) (p : ProgramTree) → job_of words ≡ Some (run r) → files.holds r.file ≡ Some bytes → length bytes ≤ source_limit → Spells bytes p → RunSeen files p r status ⊎ IsExcused files r.file status
   run-at r bytes p asked held short spells = run-of files r bytes status (at (run r) r.file bytes asked refl held) p short spells
@@ -362,7 +336,6 @@ module _ (little : OwedIsLittle) (much : LittleIsNotMuch) (one : OwedIsOne) (pro
       | inl is ↦ elim (ended-of files p r status is has text there within) [ inl end ↦ inl end | inr excused ↦ inr (inr excused) ]
       | inr excused ↦ inr (inl excused)
     ];
-    unmade = λ g asked none. unmade-of little g status (made-at g asked) none;
-    summed = λ g p asked spells few. summed-of g status (made-at g asked) p spells few;
-    summed_proved = λ g p asked spells owes. summed-proved-of little one provable g status (made-at g asked) p spells owes;
+    summed = λ g asked. summed-of g status (made-at g asked);
+    summed_proved = λ g p asked spells owes. summed-proved-of one provable g status (made-at g asked) p spells owes;
   }

@@ -14,7 +14,7 @@ use Rattle.jh_prove.specs.Laws.{ProvableIsProved, ProvedIsValid}
 use Rattle.jh_report.specs.Report.{is_accepted}
 use Rattle.jahob.specs.Refusals.{Spells}
 use Rattle.jahob.specs.declared.reply.Reply.{Reply}
-use Rattle.jahob.specs.Causes.{FilesSeen, SinkSeen, Finding, reported, summed, unmade, ran, unreturned, no_job, no_method, refused, mistyped, circular, crowded, file_failed, file_too_long, no_memory, Comes, Due, due, reply_due, unreturned_status, Takes, IsTaken, Delivered, HaveNoFault, Answered, Fits}
+use Rattle.jahob.specs.Causes.{FilesSeen, SinkSeen, Finding, reported, summed, ran, unreturned, no_job, no_method, refused, mistyped, circular, crowded, file_failed, file_too_long, no_memory, Comes, Due, due, reply_due, unreturned_status, Takes, IsTaken, Delivered, HaveNoFault, Answered, Fits}
 use Rattle.jahob.specs.Made.{Sums, default_options, made_source}
 use Rattle.jahob.specs.Run.{Runs}
 use Rattle.jahob.specs.Verify.{Reports, Verifies, options_of}
@@ -71,7 +71,6 @@ module _ (accepted : SpelledIsAccepted) (sound : OwedIsSound) (one : OwedIsOne) 
         | inr front ↦ not-low 5 status (omega arith) (inr front.0) low
       ]
   reports-of words files out err status (summed g p rs) comes delivered v asked low = apart-verify-made (job_of words) v g asked comes.0
-  reports-of words files out err status (unmade text) comes delivered v asked low = apart-verify-made (job_of words) v comes.0 asked comes.1
   reports-of words files out err status (ran p text) comes delivered v asked low = apart-jobs (job_of words) v comes.0.called.source.job asked comes.0.called.source.asked
   reports-of words files out err status (unreturned p e) comes delivered v asked low = apart-jobs (job_of words) v comes.0.called.source.job asked comes.0.called.source.asked
   reports-of words files out err status (no_job text) comes delivered v asked low = high-of words files out err status 2 _ (omega arith) delivered low
@@ -99,7 +98,6 @@ module _ (accepted : SpelledIsAccepted) (sound : OwedIsSound) (one : OwedIsOne) 
         | inl whole ↦ record { program = p; made = record { job = h; asked = comes.0; spelled = comes.1; only = λ q other. spells-one (made_source h) q p other comes.1 }; reported = rs; judges = comes.2; spent = λ owes. provable-spent one provable default_options p rs comes.2 owes; written = whole.1; status_is = whole.0; sound = right-sound proved sound default_options p rs status (accepted (made_source h) p comes.1) comes.2 whole.0 }
         | inr front ↦ not-low 5 status (omega arith) (inr front.0) low
       ]
-  sums-of words files out err status (unmade text) comes delivered g asked low = high-of words files out err status 3 _ (omega arith) delivered low
   sums-of words files out err status (ran p text) comes delivered g asked low = apart-run-made (job_of words) comes.0.called.source.job g comes.0.called.source.asked asked
   sums-of words files out err status (unreturned p e) comes delivered g asked low = apart-run-made (job_of words) comes.0.called.source.job g comes.0.called.source.asked asked
   sums-of words files out err status (no_job text) comes delivered g asked low = high-of words files out err status 2 _ (omega arith) delivered low
@@ -119,7 +117,6 @@ module _ (accepted : SpelledIsAccepted) (sound : OwedIsSound) (one : OwedIsOne) 
 runs-of : (words : List (List ℕ)) (files : FilesSeen) (out err : SinkSeen) (status : ℕ) (o : Finding) → Comes words files o → Delivered (due o) out err status → (r : Run) → job_of words ≡ Some (run r) → status ≡ 0 → Runs words files.holds out.before out.after
 runs-of words files out err status (reported p rs) comes delivered r asked zero = apart-jobs (job_of words) comes.0.job r comes.0.asked asked
 runs-of words files out err status (summed g p rs) comes delivered r asked zero = apart-run-made (job_of words) r g asked comes.0
-runs-of words files out err status (unmade text) comes delivered r asked zero = apart-run-made (job_of words) r comes.0 asked comes.1
 runs-of words files out err status (ran p text) comes delivered r asked zero =
     elim delivered.0 [
       | inl whole ↦ record { program = p; begun = comes.0; printed = text; returns = comes.1; written = whole.1 }
@@ -163,7 +160,6 @@ memory-of words files out err status (summed g p rs) delivered six =
       | inl whole ↦ absurd (report-status (is_accepted rs) (sym whole ∙ six))
       | inr front ↦ absurd (omega (arith, front, six))
     ]
-memory-of words files out err status (unmade text) delivered six = delivered.1.written
 memory-of words files out err status (ran p text) delivered six =
     elim (takes-status out text 0 status delivered.0) [
       | inl whole ↦ absurd (omega (arith, whole, six))

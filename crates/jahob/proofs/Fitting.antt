@@ -13,7 +13,7 @@ use Rattle.jh_outcome.specs.declared.unreturned.Unreturned.TheVariants as why
 use Rattle.jahob.specs.Refusals.{Spells, method_text}
 use Rattle.jahob.specs.declared.reply.Reply.{Reply}
 use Rattle.jahob.specs.declared.reply.Reply.TheVariants as reply
-use Rattle.jahob.specs.Causes.{FilesSeen, Finding, reported, summed, unmade, ran, unreturned, no_job, no_method, refused, mistyped, circular, crowded, file_failed, file_too_long, no_memory, IsRead_in, as_source, as_heap, Comes, Due, due, unreturned_status, unreturned_text, fault_text, Says, IsReply, IsSumReply, IsRefusal, IsUnmade, by_place, by_rule, by_loop, FitsRefusal, FitsGen, FitsBytes, FitsFault, IsFaultReply, IsUsageReply, IsPageReply, IsUnreturnedReply, FitsFile, FitsOutcome, FitsHeap, FitsMethod, FitsSource, FitsRun, FitsWords, Fits}
+use Rattle.jahob.specs.Causes.{FilesSeen, Finding, reported, summed, ran, unreturned, no_job, no_method, refused, mistyped, circular, crowded, file_failed, file_too_long, no_memory, IsRead_in, as_source, as_heap, Comes, Due, due, unreturned_status, unreturned_text, fault_text, Says, IsReply, IsSumReply, IsRefusal, by_place, by_rule, by_loop, FitsRefusal, FitsGen, FitsBytes, FitsFault, IsFaultReply, IsUsageReply, IsPageReply, IsUnreturnedReply, FitsFile, FitsOutcome, FitsHeap, FitsMethod, FitsSource, FitsRun, FitsWords, Fits}
 use Rattle.jahob.specs.Made.{made_source}
 use Rattle.jahob.specs.Run.{IsCalled, IsSource}
 use Rattle.jh_options.specs.declared.Options.{Options}
@@ -259,36 +259,14 @@ module _ (words : List (List ℕ)) (files : FilesSeen) (r : Run) (asked : job_of
 
 -- a source that is made
 module _ (words : List (List ℕ)) (files : FilesSeen) (g : Gen) (asked : job_of words ≡ Some (gen g)) where
-  -- a line that says why it isn't summed up
-  unmade-fits : (text : List ℕ) → IsUnmade (made_source g) text → (answer : Reply) → Says 3 text answer → Fits words files answer
-  unmade-fits text why answer says = says-fits words files (gen g) asked 3 text (unmade text) answer (g, asked, why) refl says
-
-  refused-fits : (answer : Reply) → FitsRefusal (made_source g) answer → Fits words files answer
-  refused-fits (reply.Report line accepted) h = absurd h
-  refused-fits (reply.Summed line accepted) h = absurd h
-  refused-fits (reply.Ran line) h = absurd h
-  refused-fits (reply.Line line status) h = unmade-fits (string_bytes line) (inl h.1) (reply.Line line status) (h.0, refl)
-  refused-fits (reply.Usage said) h = absurd h
-  refused-fits reply.NoMemory h = memory-fits words files (gen g) asked
-
-  sum-fits : (p : ProgramTree) (answer : Reply) → Spells (made_source g) p → IsSumReply g p answer → Fits words files answer
-  sum-fits p (reply.Report line accepted) spells h = absurd h
-  sum-fits p (reply.Summed text accepted) spells h = record {
+  pub gen-fits : (answer : Reply) → FitsGen g answer → Fits words files answer
+  gen-fits (reply.Report line accepted) h = absurd h
+  gen-fits (reply.Summed text accepted) (p, spells, h) = record {
     finding = summed g p h.reported;
     comes = (asked, spells, h.judges);
     is_due = λ i. record { status = if sym h.accepted_is i then 0 else 1; on_out = true; text = sym h.text_is i };
   }
-  sum-fits p (reply.Ran line) spells h = absurd h
-  sum-fits p (reply.Line line status) spells h = unmade-fits (string_bytes line) (inr (p, spells, h.1)) (reply.Line line status) (h.0, refl)
-  sum-fits p (reply.Usage said) spells h = absurd h
-  sum-fits p reply.NoMemory spells h = memory-fits words files (gen g) asked
-
-  pub gen-fits : (answer : Reply) → FitsGen g answer → Fits words files answer
-  gen-fits answer fits =
-      elim fits [
-        | inl made ↦ elim made [
-          | inl refusal ↦ refused-fits answer refusal
-          | inr there ↦ sum-fits there.0 answer there.1 there.2
-        ]
-        | inr short ↦ subst (λ a. Fits words files a) (sym short) (memory-fits words files (gen g) asked)
-      ]
+  gen-fits (reply.Ran line) h = absurd h
+  gen-fits (reply.Line line status) h = absurd h
+  gen-fits (reply.Usage said) h = absurd h
+  gen-fits reply.NoMemory h = memory-fits words files (gen g) asked

@@ -7,6 +7,7 @@ mod Fitting
 mod Jobs
 mod Leaves
 mod Lengths
+mod Summing
 mod Judging
 mod Tallies
 mod Verifying

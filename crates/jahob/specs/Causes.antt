@@ -50,7 +50,6 @@ pub record SinkSeen : Type 0 where
 pub data Finding : Type 0 where
   reported : ProgramTree → List Reported → Finding
   summed : Gen → ProgramTree → List Reported → Finding
-  unmade : List ℕ → Finding
   ran : ProgramTree → List ℕ → Finding
   unreturned : ProgramTree → Unreturned → Finding
   no_job : List ℕ → Finding
@@ -97,17 +96,12 @@ pub record IsCrowd (p : ProgramTree) (text : List ℕ) : Type 0 where
   pub much : OwesMuch p id n
   pub text_is : text ≡ crowded_text (class_text p id.class) (method_text p id) n
 
--- a text says why the bytes of a source spell no program of which each method has few sequents
-abbrev pub IsUnmade : List ℕ → List ℕ → Type 0
-IsUnmade bytes text = IsRefusal bytes text ⊎ ((p : ProgramTree) × Spells bytes p × IsCrowd p text)
-
 -- When each finding may come. A program is reported on where the bytes spell it, with right answers for its sequents, and so is one that is made from a number
 -- summed up; what a run comes to is exact; a file fails only where its count rose; what is said where nothing is asked for, or a method isn't there, ends with the page that says what may
 -- be asked for. Want of memory is free.
 abbrev pub Comes : List (List ℕ) → FilesSeen → Finding → Type 0
 Comes words files (reported p rs) = (read : IsRead words files.holds p) × Judges (options_of read.job) p rs
 Comes words files (summed g p rs) = (job_of words ≡ Some (gen g)) × Spells (made_source g) p × Judges default_options p rs
-Comes words files (unmade text) = (g : Gen) × (job_of words ≡ Some (gen g)) × IsUnmade (made_source g) text
 Comes words files (ran p text) = (begun : IsBegun words files.holds p) × Returns p begun.called.source.job.class begun.called.source.job.method begun.text begun.called.source.job.steps text
 Comes words files (unreturned p e) = (begun : IsBegun words files.holds p) × IsReason p begun.called.source.job.class begun.called.source.job.method begun.text begun.called.source.job.steps e
 Comes words files (no_job text) = (job_of words ≡ None) × IsUsage text
@@ -189,7 +183,6 @@ unreturned_text unreturned_by.Memory = no_memory_text
 abbrev pub due : Finding → Due
 due (reported p rs) = record { status = if is_accepted rs then 0 else 1; on_out = true; text = report_of rs }
 due (summed g p rs) = record { status = if is_accepted rs then 0 else 1; on_out = true; text = summary_of g rs }
-due (unmade text) = record { status = 3; on_out = false; text = text }
 due (ran p text) = record { status = 0; on_out = true; text = text }
 due (unreturned p e) = record { status = unreturned_status e; on_out = false; text = unreturned_text e }
 due (no_job text) = record { status = 2; on_out = false; text = text }
@@ -261,8 +254,8 @@ pub record IsCutShort (o : Options) (p : ProgramTree) : Type 0 where
 -- The answers by their conditions. Without a job it is usage, want of memory aside. Else, for what the file of the source holds where it tells: 4 where it is too long,
 -- 3 where it is refused, breaks a type rule or has a cyclic variable. Of a report: 3 where a method has too many sequents, and else 0 or 1; where
 -- all that is owed is provable, 0, or 1 where the search spent its budget on each sequent that is unproved. Of a run: usage where there is no such method; 4 where the file of the heap is too long; and else the status of what the
--- run comes to by the definition of runs, or 14 where something overflows in it. Of a source that is made from a number, which no file holds: 3 where it spells no
--- program of which each method has few sequents, and else 0 or 1; where all that is owed is provable, as of a report.
+-- run comes to by the definition of runs, or 14 where something overflows in it. Of a source that is made from a number, which no file holds and which is never
+-- refused: 0 or 1; where all that is owed is provable, as of a report.
 pub record Exact (words : List (List ℕ)) (files : FilesSeen) (status : ℕ) : Type 0 where
   pub usage : job_of words ≡ None → (status ≡ 2) ⊎ (status ≡ 5) ⊎ (status ≡ 6)
   pub too_long : (job : Job) (file bytes : List ℕ) → job_of words ≡ Some job → source_of job ≡ Some file → files.holds file ≡ Some bytes → source_limit < length bytes → (status ≡ 4) ⊎ IsExcused files file status
@@ -277,8 +270,7 @@ pub record Exact (words : List (List ℕ)) (files : FilesSeen) (status : ℕ) : 
       files.holds r.heap ≡ Some text → source_limit < length text → (status ≡ 4) ⊎ IsRunExcused files r status
   pub ran : (r : Run) (bytes text : List ℕ) (p : ProgramTree) → job_of words ≡ Some (run r) → files.holds r.file ≡ Some bytes → length bytes ≤ source_limit → Spells bytes p → has_method p r.class r.method ≡ true →
       files.holds r.heap ≡ Some text → length text ≤ source_limit → IsRunStatus p r text status ⊎ IsRunExcused files r status
-  pub unmade : (g : Gen) → job_of words ≡ Some (gen g) → ((p : ProgramTree) → Spells (made_source g) p → OwesLittle p → ⊥) → (status ≡ 3) ⊎ IsWithoutFile status
-  pub summed : (g : Gen) (p : ProgramTree) → job_of words ≡ Some (gen g) → Spells (made_source g) p → OwesLittle p → (status ≡ 0) ⊎ (status ≡ 1) ⊎ IsWithoutFile status
+  pub summed : (g : Gen) → job_of words ≡ Some (gen g) → (status ≡ 0) ⊎ (status ≡ 1) ⊎ IsWithoutFile status
   pub summed_proved : (g : Gen) (p : ProgramTree) → job_of words ≡ Some (gen g) → Spells (made_source g) p → OwesProvable default_options.rounds p → (status ≡ 0) ⊎ ((status ≡ 1) × IsCutShort default_options p) ⊎ IsWithoutFile status
 
 -- what is due for a reply
@@ -329,9 +321,11 @@ FitsBytes o bytes answer = FitsRefusal bytes answer ⊎ ((p : ProgramTree) × Sp
 abbrev pub FitsMade : Gen → List ℕ → Reply → Type 0
 FitsMade g bytes answer = FitsRefusal bytes answer ⊎ ((p : ProgramTree) × Spells bytes p × IsSumReply g p answer)
 
--- A reply is right for a job that asks for a source that is made, or is want of memory.
+-- A reply is right for a job that asks for a source that is made: a summary of what is proved of the program that it spells, or want of memory.
 abbrev pub FitsGen : Gen → Reply → Type 0
-FitsGen g answer = FitsMade g (made_source g) answer ⊎ (answer ≡ reply.NoMemory)
+FitsGen g (reply.Summed text accepted) = (p : ProgramTree) × Spells (made_source g) p × IsSummary g p text.items accepted
+FitsGen g reply.NoMemory = Unit {0}
+FitsGen g _ = ⊥
 
 -- a reply says how a file fails
 abbrev pub IsFaultReply : List ℕ → FileFault → Reply → Type 0

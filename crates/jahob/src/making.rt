@@ -15,6 +15,7 @@ use crate::reading::{read, spelled_source_is_accepted};
 use crate::reply::{Reply, reply_to_refusal};
 use crate::tallying::tally;
 use jh_gen::{Counts, source_of, summary};
+use jh_made::made_is_program;
 use jh_name::NoMemory;
 use jh_options::Options;
 use jh_unfold::Unfolded;
@@ -60,11 +61,12 @@ fn sum_bytes(alloc: Global, job: Gen, bytes: &[u8]) -> Reply
     }
 }
 
-/// What `gen` comes to.
+/// What `gen` comes to: a summary, or want of memory, since no source that is made is refused.
 pub fn sum_source(alloc: Global, job: Gen) -> Reply
     requires { job.methods ≤ 200 }
     ensures { FitsGen (gen_in job) result }
 {
+    made_is_program();
     match source_of(alloc, job.seed, job.methods) {
         Ok(bytes) => sum_bytes(alloc, job, bytes.as_slice()),
         Err(NoMemory) => Reply::NoMemory,

@@ -1,7 +1,8 @@
-use Rattle.std.proofs.Common.{◌<◌, ◌-◌, ◌^◌, ℕ, List, inl, length, subst, sym, ◌∙◌}
+use Rattle.std.proofs.Common.{◌<◌, ◌-◌, ◌^◌, ℕ, List, length, subst, sym, ◌∙◌}
 use Rattle.jh_words.specs.Held.{gen_in}
 use Rattle.jahob.specs.Causes.{FitsMade}
 use Rattle.jahob.proofs.Lengths.{source-short}
+use Rattle.jahob.proofs.Summing.{made-fits}
 use Rattle.jahob.proofs.making.sum_source.Goals as goal
 
 -- src/making.rt
@@ -11,4 +12,6 @@ sum_bytes-requires c =
 
 -- src/making.rt
 pub returns-in-Ok : goal.returns-in-Ok
-returns-in-Ok c = inl (subst (λ (bytes : List ℕ). FitsMade (gen_in c.args.job) bytes c.sum_bytes.result) (c.as_slice.ensures.value ∙ c.in-Ok.ensures.source) c.sum_bytes.ensures)
+returns-in-Ok c =
+    made-fits c.made_is_program.ensures (gen_in c.args.job) c.requires c.sum_bytes.result
+    (subst (λ (bytes : List ℕ). FitsMade (gen_in c.args.job) bytes c.sum_bytes.result) (c.as_slice.ensures.value ∙ c.in-Ok.ensures.source) c.sum_bytes.ensures)
