@@ -10,7 +10,7 @@ ghost use Rattle.jh_instances.specs.Rounds.{put_at};
 ghost use Rattle.jh_witnesses.specs.Standing.{IsFormula, IsTerm};
 
 use jh_name::NoMemory;
-use jh_rewrite::open;
+use jh_opening::open;
 use jh_table::{Shape, Table};
 
 /// The node of a universal with a term for its outermost variable: put at further terms it is what the universal is, put at
