@@ -27,7 +27,7 @@ passed : {X : Type 0} (a c : X) (k d : ℕ) (b : Bool) → nat_lt k d ≡ b → 
 passed a c k d true h le = absurd (let lt : k < d = ltb-true k d h in omega arith)
 passed a c k d false h le = refl
 
-closing-fixes : (ws : List Name) → FixesBound (closing ws)
+pub closing-fixes : (ws : List Name) → FixesBound (closing ws)
 closing-fixes ws = record { object = λ y d. refl; number = λ y d. refl; truth = λ y d. refl; set = λ y d. refl; field = λ y d. refl; bound = λ k d h. taken (t.bound k) (constant_at ws (k - d)) (nat_lt k d) (lt-ltb k d h) }
 
 -- the constants of a list of turns
@@ -82,7 +82,7 @@ lacks-loose ts n d b v ws at h le =
     stays-rewritten ts (leaves_alone (closing ws)) n d v at
     (value-alone (closing ws) v d ∙ value-shut (closing ws) (closing-fixes ws) v d ((λ i. is_closed_value (sym (listed-value (slice_get ts n) v at) i) d) ∙ h.closed d le))
 
-closed-inside : (a : FormulaTree) (o : Option ValueTree) → o ≡ Some (of_truth a) → is_closed_value (the_value o) 0 ≡ true → is_closed_formula a 0 ≡ true
+pub closed-inside : (a : FormulaTree) (o : Option ValueTree) → o ≡ Some (of_truth a) → is_closed_value (the_value o) 0 ≡ true → is_closed_formula a 0 ≡ true
 unfolding is_closed_value the_value
 closed-inside a o e h = ap (λ z. is_closed_value (the_value z) 0) (sym e) ∙ h
 

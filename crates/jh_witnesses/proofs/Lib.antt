@@ -4,3 +4,4 @@ mod Joins
 mod Lifts
 mod Plains
 pub mod Shapes
+mod Grounded

@@ -1,6 +1,6 @@
 #![tactic(auto, using(jh_table::proofs::Listed::growth_steps))]
 
-ghost use Rattle.std.specs.Prelude.{◌≡◌, ◌+◌, [], true, IfOk, slice_get};
+ghost use Rattle.std.specs.Prelude.{◌≡◌, ◌+◌, [], ℕ, true, IfOk, slice_get};
 ghost use Rattle.jh_tree.specs.Tree.{FormulaTree};
 ghost use Rattle.jh_table.specs.Entries.{is_truth};
 ghost use Rattle.jh_table.specs.Growth.{Extends};
@@ -9,6 +9,7 @@ ghost use Rattle.jh_instances.specs.Prenex.{prenex};
 ghost use Rattle.jh_instances.specs.Witnesses.{witnesses, witnessed};
 ghost use Rattle.jh_witnesses.specs.Standing.{IsFormula};
 
+use crate::grounds::is_ground;
 use crate::pulling::prenexed;
 use crate::witnessing::witnessed;
 use jh_name::NoMemory;
@@ -21,6 +22,22 @@ pub struct Settled {
     pub next: u32,
 }
 
+/// Whether a formula has no loose bound variable and no quantifier, so that nothing is to be done.
+fn is_settled(table: &Table, node: usize) -> bool
+    requires there { is_truth (slice_get (nodes table.now) node) ≡ true }
+    ensures node { result ≡ true → (a : FormulaTree) (k : ℕ) → IsFormula table.now node a → prenex (witnessed a [] k) ≡ a }
+    ensures prenex { result ≡ true → (a : FormulaTree) → IsFormula table.now node a → prenex a ≡ a }
+    ensures next { result ≡ true → (a : FormulaTree) → IsFormula table.now node a → witnesses a ≡ 0 }
+{
+    if !table.is_closed(node) {
+        return false;
+    }
+    if !table.is_shallow(node) {
+        return false;
+    }
+    is_ground(table, node)
+}
+
 /// The node of a formula in negation normal form in which each `ex` under no `all` becomes a constant, and each `all` that
 /// is then under no `ex` is in front.
 pub fn settle(table: &mut Table, node: usize, first: u32) -> Result<Settled, NoMemory>
@@ -29,7 +46,13 @@ pub fn settle(table: &mut Table, node: usize, first: u32) -> Result<Settled, NoM
     ensures next { (a : FormulaTree) → IsFormula table.old node a → IfOk result (λ made. made.next ≡ first + witnesses a) }
     ensures grows { Extends table.old table.new }
 {
+    if is_settled(table, node) {
+        return Ok(Settled { node, next: first });
+    }
     let there = witnessed(table, node, first)?;
+    if is_settled(table, there.node) {
+        return Ok(there);
+    }
     let node = prenexed(table, there.node)?;
     Ok(Settled {
         node,
