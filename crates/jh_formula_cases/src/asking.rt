@@ -4,11 +4,10 @@ ghost use Rattle.jh_tree.specs.Meaning.{InUniverse};
 ghost use Rattle.jh_sem.specs.Wide.{AreInside};
 ghost use Rattle.jh_interp.specs.Interps.{interp_of};
 
-use crate::fault::Fault;
 use crate::interps::{Setting, read_interp};
-use crate::stack::{formula_of, number_of, object_of, set_of};
 use crate::words::natural;
 use jh_interp::{Interp, SemError, member, number, object, truth};
+use jh_sequent_text::{Fault, formula_of, number_of, object_of, set_of};
 use jh_table::Table;
 use std::alloc::Global;
 

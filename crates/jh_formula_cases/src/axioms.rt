@@ -3,12 +3,12 @@
 //! are false without their guard.
 
 use crate::backbones::{Case, backbone};
-use crate::fault::Fault;
 use crate::spelling::show;
 use crate::trying::{Tried, look_at_large, look_at_small};
 use crate::worlds::Reading;
 use jh_name::NoMemory;
 use jh_reach::axioms;
+use jh_sequent_text::Fault;
 use jh_tree::Formula;
 use std::alloc::{AllocError, Global};
 use std::io;

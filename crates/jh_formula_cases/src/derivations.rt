@@ -1,14 +1,10 @@
 //! Sequents with derivations, and what comes of their replay.
 
-use crate::adding::add;
-use crate::fault::Fault;
-use crate::reading::nodes_of;
-use crate::sequents::{no_names, sequent};
-use crate::stack::{formula, formula_of};
 use crate::steps::step_of;
 use jh_deriv::{DerivStep, Derivation, Replayed, replay};
 use jh_name::Row;
 use jh_sequent::{Hyp, Sequent};
+use jh_sequent_text::{Fault, add, formula, formula_of, no_names, nodes_of, sequent};
 use jh_table::Table;
 use std::alloc::Global;
 

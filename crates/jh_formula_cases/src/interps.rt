@@ -1,9 +1,9 @@
 //! Interpretations from words.
 
-use crate::fault::Fault;
 use crate::words::{Words, named, natural, next, number, truth, word, words_of};
 use jh_interp::{FieldValue, Interp};
 use jh_name::{Name, Row};
+use jh_sequent_text::Fault;
 use std::alloc::Global;
 
 /// The entries of an interpretation, and the objects for bound variables, as far as they are read.

@@ -1,8 +1,7 @@
 //! Cases that are a line each: a text, and behind an arrow what comes of it.
 
-use crate::count::Count;
-use crate::fault::Fault;
 use crate::{asking, axioms, derivations};
+use jh_sequent_text::{Count, Fault};
 use std::alloc::Global;
 use std::io;
 use std::io::Print;

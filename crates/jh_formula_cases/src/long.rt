@@ -1,8 +1,8 @@
 use crate::derivations::{add_step, sequent_of};
-use crate::fault::Fault;
 use jh_deriv::{DerivStep, Derivation, Replayed, replay};
 use jh_name::Row;
 use jh_sequent::Sequent;
+use jh_sequent_text::Fault;
 use jh_table::Table;
 use std::alloc::Global;
 use std::io;

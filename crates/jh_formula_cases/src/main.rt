@@ -1,34 +1,23 @@
-//! Goes through formulas and terms with interpretations, sequents with their queries and what is said of them, sequents with
-//! derivations, and axioms of reachability, which it also tries in small worlds. Prints each that differs, and how many there
-//! were; ends with status 1 where one differs or is false, and with 6 where a file of cases can't be read. With an argument it
-//! also replays a long derivation, and says how long that took.
+//! Goes through formulas and terms with interpretations, sequents with derivations, and axioms of reachability, which it also tries
+//! in small worlds. Prints each that differs, and how many there were; ends with status 1 where one differs or is false, and with 6
+//! where a file of cases can't be read. With an argument it also replays a long derivation, and says how long that took.
 #![tactic(auto)]
 
-mod adding;
 mod asking;
 mod axioms;
 mod backbones;
-mod count;
 mod derivations;
-mod fault;
 mod interps;
 mod line_cases;
 mod long;
-mod paths;
-mod queries;
-mod reading;
-mod sequent_cases;
-mod sequents;
-mod showing;
 mod spelling;
-mod stack;
 mod steps;
 mod trying;
 mod words;
 mod worlds;
 
 use axioms::try_all;
-use count::{Count, NONE};
+use jh_sequent_text::{Count, NONE};
 use line_cases::Kind;
 use long::time_long;
 use std::io::Print;
@@ -52,14 +41,6 @@ fn are_values_well(rt: &HostRuntime) -> io::Result<bool> {
     is_well(rt, "values", count)
 }
 
-/// Goes through the sequents.
-fn are_sequents_well(rt: &HostRuntime) -> io::Result<bool> {
-    let text = fs::read_to_string(rt, "sequents.cases")?;
-    let mut count = NONE;
-    sequent_cases::go_through(rt, rt.alloc(), &text, &mut count)?;
-    is_well(rt, "sequents", count)
-}
-
 /// Goes through the derivations.
 fn are_derivations_well(rt: &HostRuntime) -> io::Result<bool> {
     let text = fs::read_to_string(rt, "derivations.cases")?;
@@ -81,11 +62,10 @@ fn are_axioms_well(rt: &HostRuntime) -> io::Result<bool> {
 /// Whether nothing differs.
 fn are_all_well(rt: &HostRuntime) -> io::Result<bool> {
     let values = are_values_well(rt)?;
-    let sequents = are_sequents_well(rt)?;
     let derivations = are_derivations_well(rt)?;
     let axioms = are_axioms_well(rt)?;
     let long = env::args(rt)?.count() <= 1 || time_long(rt, rt.alloc())?;
-    Ok(values && sequents && derivations && axioms && long)
+    Ok(values && derivations && axioms && long)
 }
 
 fn main(rt: HostRuntime) -> ExitCode {

@@ -1,8 +1,6 @@
-use crate::fault::Fault;
-use crate::reading::nodes_of;
-use crate::stack::{field, formula, formula_of, object, operand};
 use jh_deriv::DerivStep;
 use jh_name::{Kind, name};
+use jh_sequent_text::{Fault, field, formula, formula_of, nodes_of, object, operand};
 use jh_table::Table;
 use jh_tree::{Formula, Value};
 

@@ -1,7 +1,7 @@
 //! Words of a text, one after another.
 
-use crate::fault::Fault;
 use jh_name::{Name, name};
+use jh_sequent_text::Fault;
 use std::alloc::Global;
 
 /// Words, and the place of the next.

@@ -1,4 +1,4 @@
-use Rattle.jh_formula_cases.proofs.queries.+cond.Given as goal
+use Rattle.jh_sequent_cases.proofs.queries.+cond.Given as goal
 
 abbrev pub decreases-write_two : goal.decreases-write_two
 decreases-write_two l = l.depth

@@ -1,4 +1,4 @@
-use Rattle.jh_formula_cases.proofs.queries.+set.Given as goal
+use Rattle.jh_sequent_cases.proofs.queries.+set.Given as goal
 
 abbrev pub decreases-write_two_sets : goal.decreases-write_two_sets
 decreases-write_two_sets l = l.depth

@@ -1,4 +1,4 @@
-use Rattle.jh_formula_cases.proofs.queries.+number.Given as goal
+use Rattle.jh_sequent_cases.proofs.queries.+number.Given as goal
 
 abbrev pub decreases-write_two_numbers : goal.decreases-write_two_numbers
 decreases-write_two_numbers l = l.depth

@@ -1,7 +1,7 @@
 //! Cases that stand between lines: a sequent, and what is said of it.
 
-use crate::count::Count;
 use crate::showing::shown;
+use jh_sequent_text::Count;
 use std::alloc::Global;
 use std::io;
 use std::io::Print;

@@ -1,12 +1,11 @@
 //! What is said of the sequent of a text.
 
-use crate::fault::Fault;
 use crate::queries::write_query;
-use crate::sequents::sequent_of;
 use jh_name::NoMemory;
 use jh_options::Options;
 use jh_proving::{Answer, BapaCause, bapa_of, prove};
 use jh_sequent::Sequent;
+use jh_sequent_text::{Fault, sequent_of};
 use jh_table::Table;
 use std::alloc::Global;
 
