@@ -1,6 +1,7 @@
 -- Nodes that are carried, while the table into which they are carried grows.
 use Rattle.std.proofs.Common.{◌≡◌, refl, sym, ap, subst, ◌∙◌, ℕ, zero, suc, ◌+◌, ◌≤◌, ◌⊎◌, inl, inr, true, List, [], ◌∷◌, ◌++◌, length, slice_get, Option, Some, None, is_some, Result, Ok, Err, OnOk, take, length-append, add-one, arith}
 use Rattle.std.proofs.lemmas.List.{take_all}
+use Rattle.std.proofs.lemmas.Option.{same_Some}
 use Rattle.jh_tree.specs.Tree.{ValueTree}
 use Rattle.jh_table.specs.Entries.{Pools, Listing}
 use Rattle.jh_table.specs.Growth.{Grows}
@@ -46,6 +47,12 @@ module _ (ts : List ValueTree) where
 
   pub all-whole : (us : List ValueTree) (ps rs : List ℕ) (i : ℕ) → AllCarried ts us (take i ps) rs → length ps ≤ i → AllCarried ts us ps rs
   all-whole us ps rs i h le = subst (λ (xs : List ℕ). AllCarried ts us xs rs) (take_all i ps le) h
+
+  pub all-at : (us : List ValueTree) (ps rs : List ℕ) (i p n : ℕ) → AllCarried ts us ps rs → slice_get ps i ≡ Some p → slice_get rs i ≡ Some n → IsCarried ts us p n
+  all-at us [] rs i p n h e f = absurd (cc)
+  all-at us (q ∷ ps) [] i p n h e f = absurd h
+  all-at us (q ∷ ps) (m ∷ rs) zero p n h e f = subst (λ (k : ℕ). IsCarried ts us k n) (same_Some q p e) (subst (λ (k : ℕ). IsCarried ts us q k) (same_Some m n f) h.0)
+  all-at us (q ∷ ps) (m ∷ rs) (suc i) p n h e f = all-at us ps rs i p n h.1 e f
 
   all-split : (us : List ValueTree) (ps qs fs gs : List ℕ) → AllCarried ts us (ps ++ qs) (fs ++ gs) → length fs ≡ length ps → AllCarried ts us ps fs × AllCarried ts us qs gs
   all-split us [] qs [] gs h c = (tt, h)

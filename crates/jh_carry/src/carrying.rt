@@ -1,4 +1,4 @@
-ghost use Rattle.std.specs.Prelude.{◌≡◌, ◌<◌, ◌≤◌, true, Some, IfOk, OnOk, length, slice_get};
+ghost use Rattle.std.specs.Prelude.{◌≡◌, ◌<◌, ◌≤◌, true, ℕ, Some, IfOk, OnOk, length, slice_get};
 ghost use Rattle.jh_walk.specs.Sizes.{value_depth};
 ghost use Rattle.jh_table.specs.Entries.{the_value};
 ghost use Rattle.jh_table.specs.Growth.{Extends};
@@ -73,4 +73,49 @@ pub fn carry(from: &Table, into: &mut Table, node: usize) -> Result<usize, NoMem
     }
     let mut memo = Memo::new(into.alloc());
     carried(from, into, &mut memo, node)
+}
+
+/// The answer for a node, where answers for others may be known.
+fn carry_next(
+    from: &Table,
+    into: &mut Table,
+    memo: &mut Memo,
+    node: usize,
+) -> Result<usize, NoMemory>
+    requires inside { node < length (nodes from.now) }
+    requires memo { HoldsCarried (nodes from.now) (nodes into.old) (found memo.old.answers) }
+    ensures node { IfOk result (λ made. IsCarried (nodes from.now) (nodes into.new) node made) }
+    ensures grows { Extends into.old into.new }
+    ensures memo { OnOk result (HoldsCarried (nodes from.now) (nodes into.new) (found memo.new.answers)) }
+{
+    if !from.is_shallow(node) {
+        return Err(NoMemory);
+    }
+    carried(from, into, memo, node)
+}
+
+/// The number at a place of a list.
+fn node_at(list: &[usize], place: usize) -> usize
+    requires { place < length list.now }
+    ensures { slice_get list.now place ≡ Some result }
+{
+    list[place]
+}
+
+/// The nodes of one table that are the trees of nodes of another, in their order. What the table held stays in its place, after any
+/// answer. The time is in proportion to the parts of all, each counted once, however often it stands in the trees. The answer is want
+/// of memory where a tree nests deeper than MOST_LEVELS.
+pub fn carry_all(from: &Table, into: &mut Table, list: &[usize]) -> Result<Vec<usize>, NoMemory>
+    requires inside { (place node : ℕ) → slice_get list.now place ≡ Some node → node < length (nodes from.now) }
+    ensures long { IfOk result (λ made. length made.items ≡ length list.now) }
+    ensures each { IfOk result (λ made. (place node answer : ℕ) → slice_get list.now place ≡ Some node → slice_get made.items place ≡ Some answer → slice_get (nodes into.new) answer ≡ slice_get (nodes from.now) node) }
+    ensures grows { Extends into.old into.new }
+{
+    let mut memo = Memo::new(into.alloc());
+    let mut answers = Vec::new(into.alloc());
+    for place in 0..list.len() {
+        let answer = carry_next(from, into, &mut memo, node_at(list, place))?;
+        answers.push(answer)?;
+    }
+    Ok(answers)
 }

@@ -1,4 +1,4 @@
-//! A node carried from one table of formulas into another, without boxing it.
+//! Nodes carried from one table of formulas into another, without boxing them.
 #![tactic(auto)]
 
 mod carrying;
@@ -6,4 +6,4 @@ mod entries;
 mod memo;
 mod placing;
 
-pub use carrying::carry;
+pub use carrying::{carry, carry_all};

@@ -1,4 +1,5 @@
-ghost use Rattle.std.specs.Prelude.{◌≡◌, ◌<◌, ℕ, IfOk, OnOk, Some, length, slice_get, slice_set};
+ghost use Rattle.std.specs.Prelude.{◌≡◌, ◌<◌, ℕ, IfOk, List, Some, length, slice_get, slice_set};
+ghost use Rattle.jh_tree.specs.Tree.{ValueTree};
 ghost use Rattle.jh_closure.specs.Nodes.{Has};
 ghost use Rattle.jh_table.specs.Growth.{Extends};
 ghost use Rattle.jh_table.specs.Nodes.{nodes};
@@ -6,7 +7,7 @@ ghost use Rattle.jh_trail.specs.Occurring.{AreOccurrences};
 ghost use Rattle.jh_trail.specs.Saying.{AreTruths};
 ghost use Rattle.jh_propagating.specs.Problems.{AreNames, AreUnlabelled, IsNamed, IsProblem};
 
-use jh_carry::carry;
+use jh_carry::carry_all;
 use jh_make::{falsehood, truth};
 use jh_name::NoMemory;
 use jh_table::Table;
@@ -34,7 +35,7 @@ impl Problem {
     }
 }
 
-/// An atom of a list.
+/// A number of a list.
 fn atom_at(atoms: &[usize], index: usize) -> usize
     requires { index < length atoms.now }
     ensures { slice_get atoms.now index ≡ Some result }
@@ -45,28 +46,23 @@ fn atom_at(atoms: &[usize], index: usize) -> usize
 /// Gives an atom its name.
 fn give_name(names: &mut Vec<usize>, atom: usize, name: usize)
     requires { atom < length names.old.items }
-    ensures { names.new.items ≡ slice_set names.old.items atom name }
+    ensures named { names.new.items ≡ slice_set names.old.items atom name }
+    ensures long { length names.new.items ≡ length names.old.items }
 {
     names[atom] = name;
 }
 
-/// Makes an atom's node in another table, and gives it as its name.
-fn name_one(
-    table: &Table,
-    into: &mut Table,
-    names: &mut Vec<usize>,
-    atom: usize,
-) -> Result<(), NoMemory>
-    requires inside { atom < length (nodes table.now) }
-    requires long { length names.old.items ≡ length (nodes table.now) }
-    ensures long { OnOk result (length names.new.items ≡ length (nodes table.now)) }
-    ensures here { OnOk result (IsNamed (nodes into.new) (nodes table.now) names.new.items atom) }
-    ensures kept { OnOk result ((k : ℕ) → k < length (nodes table.now) → IsNamed (nodes into.old) (nodes table.now) names.old.items k → IsNamed (nodes into.new) (nodes table.now) names.new.items k) }
-    ensures grows { Extends into.old into.new }
+/// Gives each atom of a list the name at its place in another list.
+fn give_all(names: &mut Vec<usize>, atoms: &[usize], given: &[usize])
+    requires inside { (k : ℕ) → Has atoms.now k → k < length names.old.items }
+    requires long { length given.now ≡ length atoms.now }
+    ensures { (us ts : List ValueTree) → ((place k name : ℕ) → slice_get atoms.now place ≡ Some k → slice_get given.now place ≡ Some name → slice_get us name ≡ slice_get ts k) → (k : ℕ) → Has atoms.now k → IsNamed us ts names.new.items k }
 {
-    let name = carry(table, into, atom)?;
-    give_name(names, atom, name);
-    Ok(())
+    for index in 0..atoms.len() {
+        let atom = atom_at(atoms, index);
+        let name = atom_at(given, index);
+        give_name(names, atom, name);
+    }
 }
 
 /// The names of the atoms of instances: their nodes in another table, which are made there.
@@ -77,9 +73,8 @@ fn names_of(table: &Table, ground: &Ground, into: &mut Table) -> Result<Vec<usiz
 {
     let mut names = vec![in into.alloc(); 0; table.len()]?;
     let atoms = ground.atoms();
-    for index in 0..atoms.len() {
-        name_one(table, into, &mut names, atom_at(atoms, index))?;
-    }
+    let made = carry_all(table, into, atoms)?;
+    give_all(&mut names, atoms, made.as_slice());
     Ok(names)
 }
 
