@@ -5,5 +5,6 @@ pub mod Listed
 pub mod Noting
 pub mod Choosing
 pub mod Seeing
+pub mod Refuted
 pub mod Reasoning
 pub mod Gathering

@@ -2,6 +2,7 @@
 #![tactic(auto)]
 
 mod decided;
+mod falses;
 mod forms;
 mod found;
 mod laws;
@@ -13,6 +14,7 @@ mod trail;
 mod truths;
 
 pub use decided::{Decided, opposite};
+pub use falses::is_false;
 pub use laws::{decided_is_settled, forced_stands, more_say_more, others_say_nothing};
 pub use looking::{Looked, look};
 pub use occurring::Ground;

@@ -17,7 +17,7 @@ use jh_name::{NoMemory, Row};
 use jh_table::Table;
 
 /// Whether the opposite of this literal is the one that is supposed.
-fn is_supposed(except: Option<Decided>, literal: Decided) -> bool
+pub(crate) fn is_supposed(except: Option<Decided>, literal: Decided) -> bool
     ensures { IsTrue result ↔ (except ≡ Some literal) }
 {
     match except {
