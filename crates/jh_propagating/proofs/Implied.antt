@@ -3,17 +3,15 @@ use Rattle.std.proofs.Common.{◌≡◌, sym, ◌∙◌, subst, ℕ, ◌<◌, ar
 use Rattle.std.proofs.lemmas.Bool.{true≢false}
 use Rattle.jh_tree.specs.Tree.{ValueTree}
 use Rattle.jh_table.specs.Nodes.{nodes}
-use Rattle.jh_closure.specs.Nodes.{Has}
 use Rattle.jh_models.specs.Atoms.{is_equality}
-use Rattle.jh_closure.proofs.Having.{has-left, has-last}
-use Rattle.jh_cong.specs.Saying.{Asserted, Entails}
+use Rattle.jh_cong.specs.Saying.{Entails}
 use Rattle.jh_cong.specs.declared.literal.Said.{Said}
 use Rattle.jh_trail.specs.declared.decided.Decided.{Decided}
 use Rattle.jh_trail.specs.Listing.{decided}
 use Rattle.jh_trail.specs.Saying.{truth_at}
 use Rattle.jh_propagating.specs.declared.problem.Problem.{Problem}
 use Rattle.jh_propagating.specs.declared.branch.Branch.{Branch}
-use Rattle.jh_propagating.specs.Branches.{IsEqual, Parts, AreParts, IsUnforced, Moved, left_over, undecided_count}
+use Rattle.jh_propagating.specs.Branches.{IsEqual, Parts, AreParts, Moved, left_over, undecided_count}
 use Rattle.jh_propagating.specs.Speaking.{Speaks, IsTold, MayFollow}
 use Rattle.jh_propagating.proofs.Saids.{meets-told}
 
@@ -36,16 +34,6 @@ implied-equal p busy b h k holds may told = record {
 pub may-both : (trees : List ValueTree) (k : ℕ) (holds : Bool) → is_equality (truth_at trees k) ≡ false → MayFollow trees (decided k holds)
 may-both trees k holds none some = absurd (true≢false (sym some ∙ none))
 
--- what doesn't follow doesn't with more literals in the trail
-pub unforced-more : (p : Problem) (old new : Branch) (more : List Decided) → new.classes ≡ old.classes → new.trail ≡ old.trail ++ more → (k : ℕ) → IsUnforced p old k → IsUnforced p new k
-unforced-more p old new more cs trails k h undecided holds may told =
-    h (λ b g. undecided b (subst (λ (xs : List Decided). Has xs (decided k b)) (sym trails) (has-left old.trail more (decided k b) g))) holds may
-    (subst (λ (a : Asserted). IsTold (nodes a.table) (nodes p.table) a.said (decided k holds)) cs told)
-
--- a literal that was put to the trail is decided
-pub forced-last : (p : Problem) (old new : Branch) (k : ℕ) (holds : Bool) → new.trail ≡ old.trail ++ decided k holds ∷ [] → IsUnforced p new k
-forced-last p old new k holds trails undecided _ may told = undecided holds (subst (λ (xs : List Decided). Has xs (decided k holds)) (sym trails) (has-last old.trail (decided k holds)))
-
 pub moved-twice : (p : Problem) (a b c : Branch) → Moved p a b → Moved p b c → Moved p a c
 moved-twice p a b c (inl e) (inl f) = inl (f.0 ∙ e.0, f.1 ∙ e.1)
 moved-twice p a b c (inl e) (inr f) = inr (subst (λ (xs : List Decided). length xs < length c.trail) e.0 f.0, subst (λ (xs : List Decided). undecided_count p c < left_over (λ k. 1) xs p.ground.atoms) e.0 f.1)
@@ -56,8 +44,3 @@ moved-twice p a b c (inr e) (inr f) =
     let three = e.1 in
     let four = f.1 in
     inr (omega (arith, one, two), omega (arith, three, four))
-
--- what is never so of either truth
-pub by-truth : (P : Bool → Type 0) → (P true → ⊥) → (P false → ⊥) → (b : Bool) → P b → ⊥
-by-truth P f g true h = f h
-by-truth P f g false h = g h

@@ -7,6 +7,7 @@ mod Saids
 mod Talking
 mod Names
 mod Implied
+pub mod Resting
 mod Fixes
 mod Starts
 mod Longer

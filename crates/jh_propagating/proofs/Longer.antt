@@ -28,4 +28,4 @@ module _ (p : Problem) (a b t c : Branch) (classes : b.classes ≡ a.classes) (d
   }
 
   pub more-on : IsMore p t c → IsMore p a c
-  more-on m = record { branch = m.branch; fewer = let one = m.fewer in let same = same-count in omega (arith, one, same, count) }
+  more-on m = record { branch = m.branch; fewer = let one = m.fewer in let same = same-count in omega (arith, one, same, count); rested = m.rested }

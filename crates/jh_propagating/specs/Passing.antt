@@ -11,6 +11,7 @@ use Rattle.jh_propagating.specs.declared.propagating.Passed.TheVariants as passe
 use Rattle.jh_propagating.specs.Problems.{instances_in}
 use Rattle.jh_propagating.specs.Branches.{IsBranch, IsLonger, undecided_count}
 use Rattle.jh_propagating.specs.Closings.{IsCause}
+use Rattle.jh_propagating.specs.Resting.{IsAtRest}
 
 -- the same table and decisions, a trail that goes on, and no more atoms that aren't decided
 pub record GoesOn (p : Problem) (old new : Branch) : Type 0 where
@@ -27,10 +28,12 @@ pub record IsClosed (p : Problem) (new : Branch) (c : Cause) : Type 0 where
 pub record IsMore (p : Problem) (old new : Branch) : Type 0 where
   pub branch : IsBranch p [] new
   pub fewer : undecided_count p new < undecided_count p old
+  pub rested : IsAtRest p new
 
 pub record IsFixed (p : Problem) (new : Branch) : Type 0 where
   pub branch : IsBranch p [] new
   pub over : drop new.head new.waiting.items ≡ []
+  pub rested : IsAtRest p new
   pub fixpoint : IsFixpoint (instances_in (nodes p.table) p) (literals_at (nodes p.table) new.decisions.items) (literals_at (nodes p.table) new.trail)
 
 abbrev pub IsPassed : Problem → Branch → Branch → Passed → Type 0

@@ -4,7 +4,8 @@ ghost use Rattle.jh_table.specs.Nodes.{nodes};
 ghost use Rattle.jh_models.specs.Atoms.{is_equality};
 ghost use Rattle.jh_trail.specs.Listing.{IsUndecided, decided};
 ghost use Rattle.jh_trail.specs.Saying.{truth_at};
-ghost use Rattle.jh_propagating.specs.Branches.{IsBranch, IsLonger, IsUnforced, Moved};
+ghost use Rattle.jh_propagating.specs.Branches.{IsBranch, IsLonger, Moved};
+ghost use Rattle.jh_propagating.specs.Resting.{IsResting, IsUntold};
 ghost use Rattle.jh_propagating.specs.Speaking.{IsTold, MayFollow};
 
 use crate::branch::push;
@@ -19,7 +20,7 @@ fn truth_follows(problem: &Problem, branch: &Branch, atom: usize) -> Option<bool
     requires atom { Has problem.now.ground.atoms atom }
     requires no_equation { is_equality (truth_at (nodes problem.now.table) atom) ≡ false }
     ensures some { IfSome result (λ holds. MayFollow (nodes problem.now.table) (decided atom holds) × IsTold (nodes branch.now.classes.table) (nodes problem.now.table) branch.now.classes.said (decided atom holds)) }
-    ensures none { IfNone result ((holds : Bool) → IsTold (nodes branch.now.classes.table) (nodes problem.now.table) branch.now.classes.said (decided atom holds) → ⊥) }
+    ensures none { IfNone result ((holds : Bool) → IsUntold (nodes branch.now.classes.table) (nodes problem.now.table) branch.now.classes.said (decided atom holds)) }
 {
     let name = problem.name(atom);
     if branch.classes.same(name, problem.yes) {
@@ -36,7 +37,7 @@ fn follows(problem: &Problem, branch: &Branch, atom: usize) -> Option<bool>
     requires branch { IsBranch problem.now [] branch.now }
     requires atom { Has problem.now.ground.atoms atom }
     ensures some { IfSome result (λ holds. MayFollow (nodes problem.now.table) (decided atom holds) × IsTold (nodes branch.now.classes.table) (nodes problem.now.table) branch.now.classes.said (decided atom holds)) }
-    ensures none { IfNone result ((holds : Bool) → MayFollow (nodes problem.now.table) (decided atom holds) → IsTold (nodes branch.now.classes.table) (nodes problem.now.table) branch.now.classes.said (decided atom holds) → ⊥) }
+    ensures none { IfNone result ((holds : Bool) → MayFollow (nodes problem.now.table) (decided atom holds) → IsUntold (nodes branch.now.classes.table) (nodes problem.now.table) branch.now.classes.said (decided atom holds)) }
 {
     match named_sides(branch.classes.table(), problem, atom) {
         Some((left, right)) => {
@@ -56,10 +57,10 @@ fn follow_new(problem: &Problem, branch: &mut Branch, atom: usize) -> Result<(),
     requires atom { Has problem.now.ground.atoms atom }
     requires undecided { IsUndecided branch.old.trail atom }
     ensures branch { OnOk result (IsBranch problem.now [] branch.new) }
-    ensures followed { OnOk result (IsUnforced problem.now branch.new atom) }
+    ensures followed { OnOk result (IsResting problem.now branch.new atom) }
     ensures moved { OnOk result (Moved problem.now branch.old branch.new) }
     ensures longer { OnOk result (IsLonger branch.old branch.new) }
-    ensures kept { OnOk result ((k : ℕ) → IsUnforced problem.now branch.old k → IsUnforced problem.now branch.new k) }
+    ensures kept { OnOk result ((k : ℕ) → IsResting problem.now branch.old k → IsResting problem.now branch.new k) }
     ensures classes { OnOk result (branch.new.classes ≡ branch.old.classes) }
     ensures head { OnOk result (branch.new.head ≡ branch.old.head) }
     ensures decisions { OnOk result (branch.new.decisions.items ≡ branch.old.decisions.items) }
@@ -83,10 +84,10 @@ fn follow_one(problem: &Problem, branch: &mut Branch, atom: usize) -> Result<(),
     requires branch { IsBranch problem.now [] branch.old }
     requires atom { Has problem.now.ground.atoms atom }
     ensures branch { OnOk result (IsBranch problem.now [] branch.new) }
-    ensures followed { OnOk result (IsUnforced problem.now branch.new atom) }
+    ensures followed { OnOk result (IsResting problem.now branch.new atom) }
     ensures moved { OnOk result (Moved problem.now branch.old branch.new) }
     ensures longer { OnOk result (IsLonger branch.old branch.new) }
-    ensures kept { OnOk result ((k : ℕ) → IsUnforced problem.now branch.old k → IsUnforced problem.now branch.new k) }
+    ensures kept { OnOk result ((k : ℕ) → IsResting problem.now branch.old k → IsResting problem.now branch.new k) }
     ensures classes { OnOk result (branch.new.classes ≡ branch.old.classes) }
     ensures head { OnOk result (branch.new.head ≡ branch.old.head) }
     ensures decisions { OnOk result (branch.new.decisions.items ≡ branch.old.decisions.items) }
@@ -109,7 +110,7 @@ fn atom_at(atoms: &[usize], index: usize) -> usize
 pub(crate) fn follow(problem: &Problem, branch: &mut Branch) -> Result<(), NoMemory>
     requires branch { IsBranch problem.now [] branch.old }
     ensures branch { OnOk result (IsBranch problem.now [] branch.new) }
-    ensures followed { OnOk result ((k : ℕ) → Has problem.now.ground.atoms k → IsUnforced problem.now branch.new k) }
+    ensures followed { OnOk result ((k : ℕ) → Has problem.now.ground.atoms k → IsResting problem.now branch.new k) }
     ensures moved { OnOk result (Moved problem.now branch.old branch.new) }
     ensures longer { OnOk result (IsLonger branch.old branch.new) }
     ensures classes { OnOk result (branch.new.classes ≡ branch.old.classes) }

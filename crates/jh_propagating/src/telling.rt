@@ -1,4 +1,4 @@
-ghost use Rattle.std.specs.Prelude.{◌≡◌, [], ℕ, IfNone, IfOk, IfSome, OnOk, drop, length};
+ghost use Rattle.std.specs.Prelude.{◌≡◌, [], ℕ, IfNone, IfOk, IfSome, OnOk, drop, length, take};
 ghost use Rattle.jh_closure.specs.Nodes.{Has};
 ghost use Rattle.jh_table.specs.Nodes.{nodes};
 ghost use Rattle.jh_cong.specs.Saying.{IsUnmet};
@@ -53,6 +53,7 @@ pub(crate) fn tell(problem: &Problem, branch: &mut Branch) -> Result<Option<Row<
     ensures branch { OnOk result (IsBranch problem.now [] branch.new) }
     ensures told { IfOk result (λ found. IfNone found (length branch.new.classes.said ≡ length branch.new.trail)) }
     ensures met { IfOk result (λ found. IfNone found (IsUnmet (nodes branch.new.classes.table) branch.new.classes.said → ⊥)) }
+    ensures grows { IfOk result (λ found. IfNone found (take (length branch.old.classes.said) branch.new.classes.said ≡ branch.old.classes.said)) }
     ensures unmet { IfOk result (λ found. IfSome found (λ places. AreUnmet (nodes problem.now.table) branch.new.trail places)) }
     ensures table { branch.new.classes.table ≡ branch.old.classes.table }
     ensures trail { branch.new.trail ≡ branch.old.trail }

@@ -1,7 +1,7 @@
 use Rattle.std.proofs.Common.{refl, sym, ◌∙◌, subst, ℕ, List, take_all, arith, inl, inr}
 use Rattle.jh_closure.specs.Nodes.{Has}
 use Rattle.jh_closure.proofs.Having.{has-at}
-use Rattle.jh_propagating.specs.Branches.{IsUnforced}
+use Rattle.jh_propagating.specs.Resting.{IsResting}
 use Rattle.jh_propagating.proofs.Quieting.{take-has}
 use Rattle.jh_propagating.proofs.Implied.{moved-twice}
 use Rattle.jh_propagating.proofs.Longer.{longer-same, longer-twice}
@@ -21,7 +21,7 @@ loop-index-preserved c = record {
   branch = c.in_ok-follow_one.ensures.branch;
   followed = λ k h. elim (take-has c.atoms-atoms.result.now c.loop-index.index c.atom_at.result k c.atom_at.ensures h) [
     | inl old ↦ c.in_ok-follow_one.ensures.kept k (c.loop-index.invariant.followed k old)
-    | inr e ↦ subst (IsUnforced c.args.problem.now c.follow_one.new.branch) e c.in_ok-follow_one.ensures.followed
+    | inr e ↦ subst (IsResting c.args.problem.now c.follow_one.new.branch) e c.in_ok-follow_one.ensures.followed
   ];
   moved = moved-twice c.args.problem.now c.args.branch.now c.loop-index.branch c.follow_one.new.branch c.loop-index.invariant.moved c.in_ok-follow_one.ensures.moved;
   longer = longer-twice c.args.branch.now c.loop-index.branch c.follow_one.new.branch c.loop-index.invariant.longer c.in_ok-follow_one.ensures.longer;

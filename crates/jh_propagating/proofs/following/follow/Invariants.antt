@@ -1,12 +1,13 @@
 use Rattle.std.proofs.Common.{◌≡◌, [], ℕ, take}
 use Rattle.jh_closure.specs.Nodes.{Has}
-use Rattle.jh_propagating.specs.Branches.{IsBranch, IsLonger, IsUnforced, Moved}
+use Rattle.jh_propagating.specs.Branches.{IsBranch, IsLonger, Moved}
+use Rattle.jh_propagating.specs.Resting.{IsResting}
 use Rattle.jh_propagating.proofs.following.follow.Given as goal
 
 abbrev pub invariant-loop-index : goal.invariant-loop-index
 invariant-loop-index l = record {
   branch : IsBranch l.problem [] l.branch;
-  followed : (k : ℕ) → Has (take l.index l.atoms) k → IsUnforced l.problem l.branch k;
+  followed : (k : ℕ) → Has (take l.index l.atoms) k → IsResting l.problem l.branch k;
   moved : Moved l.problem l.fn.branch l.branch;
   longer : IsLonger l.fn.branch l.branch;
   classes : l.branch.classes ≡ l.fn.branch.classes;

@@ -3,8 +3,9 @@ use Rattle.std.proofs.lemmas.Bool.{true≢false}
 use Rattle.jh_table.specs.Nodes.{nodes}
 use Rattle.jh_trail.specs.Listing.{decided}
 use Rattle.jh_propagating.specs.Problems.{IsProblem}
-use Rattle.jh_propagating.specs.Speaking.{Speaks, IsTold}
-use Rattle.jh_propagating.proofs.Implied.{entailed-told, told-entailed}
+use Rattle.jh_propagating.specs.Resting.{IsUntold}
+use Rattle.jh_propagating.specs.Speaking.{Speaks}
+use Rattle.jh_propagating.proofs.Implied.{entailed-told}
 use Rattle.jh_propagating.proofs.following.follows.Goals as goal
 
 pub named_sides-requires-clause-problem : goal.named_sides-requires-clause-problem
@@ -25,4 +26,5 @@ returns-else-same-clause-none c =
     let a = c.args.branch.now.classes in
     let ts = nodes c.args.problem.now.table in
     let speaks = subst (λ t. Speaks (nodes t) ts (record { left = c.in-Some.left; right = c.in-Some.right; holds = true }) (decided c.args.atom true)) c.table.ensures (c.in-Some.ensures.speaks true) in
-    λ holds may told. true≢false (sym (c.if-same.ensures.1 (told-entailed (nodes a.table) ts a.said c.in-Some.left c.in-Some.right (decided c.args.atom true) speaks (subst (λ q. IsTold (nodes a.table) ts a.said (decided c.args.atom q)) (may c.in-Some.ensures.equation) told))))
+    λ holds may. subst (λ q. IsUntold (nodes a.table) ts a.said (decided c.args.atom q)) (sym (may c.in-Some.ensures.equation))
+    (record { left = c.in-Some.left; right = c.in-Some.right; speaks = speaks; apart = λ h. true≢false (sym (c.if-same.ensures.1 h)) })

@@ -2,9 +2,10 @@ use Rattle.std.proofs.Common.{refl, sym, true, false}
 use Rattle.std.proofs.lemmas.Bool.{true≢false}
 use Rattle.jh_table.specs.Nodes.{nodes}
 use Rattle.jh_trail.specs.Listing.{decided}
-use Rattle.jh_propagating.specs.Speaking.{IsTold}
-use Rattle.jh_propagating.proofs.Implied.{entailed-told, told-entailed, may-both, by-truth}
+use Rattle.jh_propagating.specs.Resting.{IsUntold}
+use Rattle.jh_propagating.proofs.Implied.{entailed-told, may-both}
 use Rattle.jh_propagating.proofs.Names.{yes-speaks, no-speaks}
+use Rattle.jh_propagating.proofs.Resting.{either-way}
 use Rattle.jh_propagating.proofs.following.truth_follows.Goals as goal
 
 pub same-requires : goal.same-requires
@@ -33,7 +34,6 @@ returns-else-same-2-clause-none c =
     let ts = nodes c.args.problem.now.table in
     let first = yes-speaks a.table c.args.problem.now c.requires.branch.problem c.args.atom c.requires.atom c.name-name.result c.name-name.ensures c.requires.no_equation in
     let second = no-speaks a.table c.args.problem.now c.requires.branch.problem c.args.atom c.requires.atom c.name-name.result c.name-name.ensures c.requires.no_equation in
-    λ holds told. by-truth (λ q. IsTold (nodes a.table) ts a.said (decided c.args.atom q))
-    (λ h. true≢false (sym (c.if-same.ensures.1 (told-entailed (nodes a.table) ts a.said c.name-name.result c.args.problem.now.yes (decided c.args.atom true) first h))))
-    (λ h. true≢false (sym (c.if-same-2.ensures.1 (told-entailed (nodes a.table) ts a.said c.name-name.result c.args.problem.now.no (decided c.args.atom false) second h))))
-    holds told
+    either-way (λ q. IsUntold (nodes a.table) ts a.said (decided c.args.atom q))
+    (record { left = c.name-name.result; right = c.args.problem.now.yes; speaks = first; apart = λ h. true≢false (sym (c.if-same.ensures.1 h)) })
+    (record { left = c.name-name.result; right = c.args.problem.now.no; speaks = second; apart = λ h. true≢false (sym (c.if-same-2.ensures.1 h)) })

@@ -1,8 +1,10 @@
-use Rattle.std.proofs.Common.{◌≡◌, sym, ap, ◌∙◌, subst, arith, [], length, drop}
+use Rattle.std.proofs.Common.{◌≡◌, refl, sym, ap, ◌∙◌, subst, arith, [], length, drop}
 use Rattle.std.proofs.lemmas.Bool.Decides.{nat_tests}
 use Rattle.jh_table.specs.Nodes.{nodes}
 use Rattle.jh_cong.specs.Saying.{Asserted, IsUnmet}
 use Rattle.jh_propagating.proofs.Fixes.{is-fixpoint, not-longer}
+use Rattle.jh_propagating.proofs.Longer.{longer-same}
+use Rattle.jh_propagating.proofs.Resting.{resting-unforced}
 use Rattle.jh_propagating.proofs.propagating.is_fixed.Goals as goal
 
 pub returns-clause-fixed : goal.returns-clause-fixed
@@ -17,5 +19,20 @@ returns-clause-fixed c = λ e.
     record {
       branch = c.in_ok-follow.ensures.branch;
       over = over;
-      fixpoint = is-fixpoint c.args.problem.now new c.in_ok-follow.ensures.branch over told met c.in_ok-follow.ensures.followed;
+      rested = c.in_ok-follow.ensures.followed;
+      fixpoint = is-fixpoint c.args.problem.now new c.in_ok-follow.ensures.branch over told met (λ k at. resting-unforced c.args.problem.now new k (c.in_ok-follow.ensures.followed k at));
+    }
+
+pub returns-then-quiet-clause-goes : goal.returns-then-quiet-clause-goes
+returns-then-quiet-clause-goes c = record { table = refl; decisions = refl; longer = longer-same c.args.branch.now; count = omega arith }
+
+pub returns-then-quiet-clause-fixed : goal.returns-then-quiet-clause-fixed
+returns-then-quiet-clause-fixed c = λ e.
+    let old = c.args.branch.now in
+    let rested = c.requires.quiet c.if-quiet.true in
+    record {
+      branch = c.requires.branch;
+      over = c.requires.over;
+      rested = rested;
+      fixpoint = is-fixpoint c.args.problem.now old c.requires.branch c.requires.over c.requires.told c.requires.met (λ k at. resting-unforced c.args.problem.now old k (rested k at));
     }

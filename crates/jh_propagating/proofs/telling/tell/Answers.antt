@@ -1,4 +1,5 @@
-use Rattle.std.proofs.Common.{◌≡◌, ap, ◌∙◌, subst, ◌<◌, ◌++◌, ℕ, List, length, drop, Err}
+use Rattle.std.proofs.Common.{◌≡◌, refl, ap, ◌∙◌, subst, ◌<◌, ◌++◌, ℕ, List, length, drop, take, Err}
+use Rattle.std.proofs.lemmas.List.{take_at}
 use Rattle.jh_closure.specs.Nodes.{Has}
 use Rattle.jh_table.specs.Nodes.{nodes}
 use Rattle.jh_cong.specs.Saying.{Asserted, IsUnmet}
@@ -23,6 +24,11 @@ returns-in-Ok-clause-told c =
     let b = parts_of c.args.branch.now in
     let e : c.assert.new.self ≡ record { table = b.classes.table; said = b.classes.said ++ c.in_ok-batch.batch.items } = c.in-Ok.ensures.ok ∙ ap (λ (xs : List Said). record { table = b.classes.table; said = b.classes.said ++ xs }) c.as_slice.ensures.value in
     ap (λ (a : Asserted). length a.said) e ∙ whole-long c.args.problem.now b c.requires.branch c.in_ok-batch.batch.items c.in_ok-batch.ensures
+
+pub returns-in-Ok-clause-grows : goal.returns-in-Ok-clause-grows
+returns-in-Ok-clause-grows c =
+    let said = c.args.branch.now.classes.said in
+    ap (λ (a : Asserted). take (length said) a.said) c.in-Ok.ensures.ok ∙ take_at said c.as_slice.result.now (length said) refl
 
 pub returns-in-Err-Conflict-clause-unmet : goal.returns-in-Err-Conflict-clause-unmet
 returns-in-Err-Conflict-clause-unmet c =
