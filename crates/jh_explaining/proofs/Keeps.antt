@@ -1,5 +1,5 @@
 -- One step further through an explanation without a decision.
-use Rattle.std.proofs.Common.{◌≡◌, refl, sym, ap, ◌∙◌, subst, ℕ, ◌+◌, ◌<◌, arith, Bool, true, false, List, [], ◌∷◌, ◌++◌, length, take, take_all, take-append-drop, drop, ◌⊎◌, inl, inr, Some, slice_get, ◌↔◌}
+use Rattle.std.proofs.Common.{◌≡◌, refl, sym, ap, ◌∙◌, subst, ℕ, zero, suc, ◌+◌, ◌<◌, ◌≤◌, add-one, arith, Bool, true, false, List, [], ◌∷◌, ◌++◌, length, take, take_all, take-append-drop, drop, ◌⊎◌, inl, inr, Some, slice_get, ◌↔◌}
 use Rattle.std.proofs.lemmas.Bool.{true≢false}
 use Rattle.std.proofs.lemmas.Option.{slice_get_within}
 use Rattle.jh_tree.specs.Tree.{ValueTree}
@@ -9,7 +9,7 @@ use Rattle.jh_closure.proofs.Having.{has-at, has-pushed}
 use Rattle.jh_cong.proofs.Looking.{take-next}
 use Rattle.jh_table.specs.Growth.{AreDifferent}
 use Rattle.jh_models.specs.Clashes.{Clash}
-use Rattle.jh_models.specs.Explanations.{IsExplanation}
+use Rattle.jh_models.specs.Explanations.{Closes, IsExplanation}
 use Rattle.jh_shortening.specs.Steps.{MayStand, IsMost}
 use Rattle.jh_shortening.specs.Shortened.{IsShortened}
 use Rattle.jh_shortening.specs.Laws.{MostIsKept, ShorteningIsExact}
@@ -21,8 +21,9 @@ use Rattle.jh_propagating.specs.declared.problem.Problem.{Problem}
 use Rattle.jh_propagating.specs.Problems.{IsPosed, instances_in}
 use Rattle.jh_explaining.specs.declared.step.Step.{Step}
 use Rattle.jh_explaining.specs.Steps.{literals_of, trees_of, AreOverAtoms}
-use Rattle.jh_explaining.specs.Keeping.{AreRight, IsMostOf, AreKept, IsWhole, IsShorter, AreTried, MayBeKept, IsKept}
+use Rattle.jh_explaining.specs.Keeping.{AreFollowing, AreRight, IsMostOf, AreKept, IsWhole, IsShorter, AreTried, MayBeKept, IsKept}
 use Rattle.jh_explaining.proofs.Lists.{literals-more, trees-more, trees-both, once-more, listed-stands, same-tree, slice-literal, has-literal, literal-step}
+use Rattle.jh_explaining.proofs.Readiness.{goes-step, item-at}
 
 module _ (ts : List ValueTree) (p : Problem) (problem : IsPosed ts p) (different : AreDifferent ts) where
   atom-truth : (d : Decided) → Has p.ground.atoms d.atom → IsTruth ts d.atom
@@ -40,6 +41,10 @@ module _ (ts : List ValueTree) (p : Problem) (problem : IsPosed ts p) (different
     pub stands-kept : (s : Step) → Has ss s → (had : List Decided) → MayStand (instances_in ts p) (literals_at ts ds) (literals_at ts had) (literal_tree_at ts s.literal) → MayBeKept ts p had s
     stands-kept s there had (inl listed) = inl ((right.marked s there).1 (decision-listed s.literal (right.over.over_atoms s.literal (has-literal ss s there)) listed))
     stands-kept s there had (inr clash) = inr clash
+
+    -- in an explanation each step is a decision, or its opposite clashes with those before it
+    pub following-of : Closes (instances_in ts p) (literals_at ts ds) (trees_of ts ss) → AreFollowing ts p ss
+    following-of closes n s here = stands-kept s (has-at ss n s here) (literals_of (take n ss)) (goes-step ts (instances_in ts p) (literals_at ts ds) [] ss n s closes here)
 
   module _ (law : MostIsKept) (ss : List Step) (over : AreOverAtoms p.ground (literals_of ss)) (out : Decided) (out_over : Has p.ground.atoms out.atom) where
     pub kept-none : AreKept ts p ss out 0 []
@@ -95,6 +100,15 @@ module _ (ts : List ValueTree) (p : Problem) (problem : IsPosed ts p) (different
           reason : (ds : List Decided) → AreRight p ds ss → IsKept ts p (literals_of kept) s out false → (literal_tree_at ts s.literal ≡ literal_tree_at ts out) ⊎ (MayStand (instances_in ts p) (literals_at ts ds) (trees_of ts kept) (literal_tree_at ts s.literal) → ⊥)
           reason ds right (inl same) = inl (ap (literal_tree_at ts) same)
           reason ds right (inr never) = inr (λ stands. never (stands-kept ds ss right s there (literals_of kept) stands))
+
+    -- The first steps are all kept, up to the literal that is taken out.
+    pub kept-first : AreFollowing ts p ss → (count : ℕ) → count ≤ length ss → ((n : ℕ) (s : Step) → n < count → slice_get ss n ≡ Some s → s.literal ≡ out → ⊥) → AreKept ts p ss out count (take count ss)
+    kept-first following zero le other = kept-none
+    kept-first following (suc n) le other =
+        let there = item-at ss n (omega (arith, le)) in
+        let before = kept-first following n (omega (arith, le)) (λ m s lt at. other m s (omega (arith, lt)) at) in
+        subst (λ k. AreKept ts p ss out k (take k ss)) (add-one n)
+        (subst (λ (ks : List Step). AreKept ts p ss out (n + 1) ks) (sym (take-next ss n there.0 there.1)) (kept-more n (take n ss) before there.0 there.1 (other n there.0 (omega arith) there.1, following n there.0 there.1)))
 
     -- all were gone through, or what is kept clashes
     pub whole : (count : ℕ) (kept : List Step) → length ss ≡ count → AreKept ts p ss out count kept → (Clash (instances_in ts p) (trees_of ts kept) → ⊥) → IsWhole ts p ss out

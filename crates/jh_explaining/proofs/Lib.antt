@@ -4,4 +4,5 @@ mod Spoken
 mod Follows
 mod Gathered
 mod Tests
+mod Readiness
 mod Keeps

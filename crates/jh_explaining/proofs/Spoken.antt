@@ -1,5 +1,5 @@
 -- What the classes are told of literals.
-use Rattle.std.proofs.Common.{sym, ◌∙◌, Bool, true, false, not, ℕ, zero, suc, List, [], ◌∷◌, ◌++◌, take, slice_get}
+use Rattle.std.proofs.Common.{◌≡◌, refl, sym, ap, ◌∙◌, Bool, true, false, not, ℕ, zero, suc, List, [], ◌∷◌, ◌++◌, length, take, slice_get}
 use Rattle.jh_tree.specs.Tree.{FormulaTree, ValueTree}
 use Rattle.jh_tree.specs.Tree as t
 use Rattle.jh_structure.specs.Literals.{Says, Denies, MeetsOne, Meets}
@@ -24,6 +24,12 @@ spoken-taken us ts (suc n) [] [] h = tt
 spoken-taken us ts (suc n) [] (f ∷ es) h = absurd h
 spoken-taken us ts (suc n) (c ∷ ds) [] h = absurd h
 spoken-taken us ts (suc n) (c ∷ ds) (f ∷ es) h = (h.0, spoken-taken us ts n ds es h.1)
+
+pub spoken-long : (us ts : List ValueTree) (ds : List Decided) (es : List Said) → AreSpoken us ts ds es → length es ≡ length ds
+spoken-long us ts [] [] h = refl
+spoken-long us ts [] (f ∷ es) h = absurd h
+spoken-long us ts (c ∷ ds) [] h = absurd h
+spoken-long us ts (c ∷ ds) (f ∷ es) h = ap suc (spoken-long us ts ds es h.1)
 
 pub meets-told : (m : NumberStructure) (us ts : List ValueTree) (ds : List Decided) (es : List Said) → AreSpoken us ts ds es → Meets m (literals_at ts ds) → Meets m (literals us es)
 meets-told m us ts [] [] h k = tt

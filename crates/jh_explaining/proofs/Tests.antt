@@ -30,10 +30,6 @@ use Rattle.jh_explaining.proofs.Lists.{all-listed}
 use Rattle.jh_explaining.proofs.Falses.{FalseHere, false-at, at-false}
 use Rattle.jh_explaining.proofs.Spoken.{spoken-more, meets-told, told-meets}
 
--- what a look at an instance says of a literal
-pub looked-false : (ts : List ValueTree) (trail : List Decided) (i : FormulaTree) (l : Decided) → IsFalse (literals_at ts trail) i → IsFalse (literals_at ts (opposite_of l ∷ trail)) i
-looked-false ts trail i l h = false-more (literals_at ts trail) (literals_at ts (opposite_of l ∷ trail)) (all-listed ts (opposite_of l ∷ trail) trail (λ d g. inr g)) i h
-
 module _ (ts : List ValueTree) (p : Problem) (problem : IsPosed ts p) where
   -- an instance is false with the opposite of a literal, where none is without it: the atom stands there
   module _ (law : ForcedStands) (trail : List Decided) (l : Decided) (atom : Has p.ground.atoms l.atom) (none : SomeFalse (instances_in ts p) (literals_at ts trail) → ⊥) where

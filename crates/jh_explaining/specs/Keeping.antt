@@ -1,5 +1,5 @@
 -- What is kept of an explanation while it is gone through without a decision.
-use Rattle.std.specs.Prelude.{◌≡◌, ◌⊎◌, ◌<◌, ℕ, Bool, true, false, List, ◌∷◌, ◌++◌, Option, Some, None, slice_get, take}
+use Rattle.std.specs.Prelude.{◌≡◌, ◌⊎◌, ◌<◌, ℕ, Bool, true, false, List, ◌∷◌, ◌++◌, Option, Some, None, length, slice_get, take}
 use Rattle.std.specs.declared.alloc.Global.{Global}
 use Rattle.std.specs.declared.vec.Vec.{Vec}
 use Rattle.jh_tree.specs.Tree.{ValueTree}
@@ -22,6 +22,10 @@ use Rattle.jh_explaining.specs.Steps.{literals_of, trees_of, AreMarked, AreOverA
 pub record IsQuiet (p : Problem) (classes : Asserted) (trail : List Decided) : Type 0 where
   pub spoken : AreSpoken (nodes classes.table) (nodes p.table) trail classes.said
   pub quiet : Clash (instances_in (nodes p.table) p) (literals_at (nodes p.table) trail) → ⊥
+
+-- The classes were told the first literals of the trail, which don't clash.
+pub record IsReady (p : Problem) (classes : Asserted) (trail : List Decided) : Type 0 where
+  pub first : IsQuiet p classes (take (length classes.said) trail)
 
 -- Steps over atoms, which say whether their literals are decisions; and decisions over atoms.
 pub record AreRight (p : Problem) (ds : List Decided) (ss : List Step) : Type 0 where
@@ -75,3 +79,7 @@ MayBeKept ts p had s = (s.is_decision ≡ true) ⊎ Clash (instances_in ts p) (l
 abbrev pub IsKept : List ValueTree → Problem → List Decided → Step → Decided → Bool → Type 0
 IsKept ts p had s out true = (s.literal ≡ out → ⊥) × MayBeKept ts p had s
 IsKept ts p had s out false = (s.literal ≡ out) ⊎ (MayBeKept ts p had s → ⊥)
+
+-- each step is a decision, or its opposite clashes with those before it
+abbrev pub AreFollowing : List ValueTree → Problem → List Step → Type 0
+AreFollowing ts p ss = (n : ℕ) (s : Step) → slice_get ss n ≡ Some s → MayBeKept ts p (literals_of (take n ss)) s

@@ -1,13 +1,12 @@
-ghost use Rattle.std.specs.Prelude.{◌≡◌, ◌↔◌, ◌<◌, ◌++◌, [], ◌∷◌, ℕ, false, true, IfOk, IsTrue, OnOk, Some, length, slice_get};
+ghost use Rattle.std.specs.Prelude.{◌≡◌, ◌↔◌, ◌<◌, ◌++◌, [], ◌∷◌, false, true, IfOk, IsTrue, OnOk};
 ghost use Rattle.jh_closure.specs.Nodes.{Has};
 ghost use Rattle.jh_table.specs.Nodes.{nodes};
 ghost use Rattle.jh_models.specs.Clashes.{Clash};
-ghost use Rattle.jh_models.specs.Truths.{IsFalse, SomeFalse};
 ghost use Rattle.jh_trail.specs.Listing.{IsUndecided};
 ghost use Rattle.jh_trail.specs.Occurring.{places_in};
-ghost use Rattle.jh_trail.specs.Saying.{IsTruth, literals_at, truth_at};
+ghost use Rattle.jh_trail.specs.Saying.{literals_at};
 ghost use Rattle.jh_propagating.specs.Problems.{IsPosed, IsProblem, instances_in};
-ghost use Rattle.jh_explaining.specs.Keeping.{IsQuiet};
+ghost use Rattle.jh_explaining.specs.Keeping.{IsQuiet, IsReady};
 ghost use Rattle.jh_explaining.specs.Testing.{IsFalseAmong};
 
 use crate::places::{instance_at, place_at};
@@ -16,7 +15,7 @@ use jh_cong::Classes;
 use jh_name::NoMemory;
 use jh_propagating::Problem;
 use jh_table::Table;
-use jh_trail::{Decided, Looked, Trail, look, others_say_nothing};
+use jh_trail::{Decided, Trail, is_false, others_say_nothing};
 
 /// Takes all back.
 pub(crate) fn clear(classes: &mut Classes, trail: &mut Trail)
@@ -25,17 +24,6 @@ pub(crate) fn clear(classes: &mut Classes, trail: &mut Trail)
 {
     classes.undo(0);
     trail.clear();
-}
-
-/// Whether an instance that is a node is false.
-fn is_false(table: &Table, trail: &Trail, instance: usize) -> Result<bool, NoMemory>
-    requires { IsTruth (nodes table.now) instance }
-    ensures { IfOk result (λ yes. IsTrue yes ↔ IsFalse (literals_at (nodes table.now) trail.now) (truth_at (nodes table.now) instance)) }
-{
-    match look(table, trail, instance)? {
-        Looked::False => Ok(true),
-        Looked::Forces(_) => Ok(false),
-    }
 }
 
 /// Whether an instance in which an atom stands is false.
@@ -50,7 +38,12 @@ fn some_false(
 {
     let places = problem.ground.places(atom);
     for index in 0..places.len() {
-        if is_false(table, trail, instance_at(problem, place_at(places, index)))? {
+        if is_false(
+            table,
+            trail,
+            None,
+            instance_at(problem, place_at(places, index)),
+        )? {
             return Ok(true);
         }
     }
@@ -72,6 +65,7 @@ pub(crate) fn keep(
     ensures table { classes.new.table ≡ classes.old.table }
     ensures clash { IfOk result (λ yes. yes ≡ true → Clash (instances_in (nodes problem.now.table) problem.now) (literals_at (nodes problem.now.table) (trail.old ++ literal ∷ []))) }
     ensures quiet { IfOk result (λ yes. yes ≡ false → IsQuiet problem.now classes.new (trail.old ++ literal ∷ [])) }
+    ensures ready { OnOk result (IsReady problem.now classes.new (trail.old ++ literal ∷ [])) }
 {
     others_say_nothing();
     trail.push(literal)?;

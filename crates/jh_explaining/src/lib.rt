@@ -5,6 +5,7 @@ mod explaining;
 mod keeping;
 mod marking;
 mod places;
+mod rewinding;
 mod shortening;
 mod step;
 mod testing;

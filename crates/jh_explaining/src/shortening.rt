@@ -1,18 +1,18 @@
-ghost use Rattle.std.specs.Prelude.{◌≡◌, ◌↔◌, ◌<◌, ◌+◌, ◌++◌, [], ◌∷◌, ℕ, false, true, List, IfOk, IsTrue, OnOk, Some, length, slice_get};
+ghost use Rattle.std.specs.Prelude.{◌≡◌, ◌<◌, ◌≤◌, ◌+◌, ◌++◌, [], ◌∷◌, ℕ, false, true, List, IfOk, OnOk, Some, length, take};
 ghost use Rattle.jh_closure.specs.Nodes.{Has};
 ghost use Rattle.jh_table.specs.Nodes.{nodes};
 ghost use Rattle.jh_models.specs.Clashes.{Clash};
 ghost use Rattle.jh_models.specs.Explanations.{Closes, IsExplanation};
-ghost use Rattle.jh_shortening.specs.Steps.{MayStand};
 ghost use Rattle.jh_trail.specs.Listing.{IsUndecided};
-ghost use Rattle.jh_trail.specs.Saying.{literal_tree_at, literals_at};
+ghost use Rattle.jh_trail.specs.Saying.{literals_at};
 ghost use Rattle.jh_trail.specs.declared.decided.Decided.{Decided};
 ghost use Rattle.jh_propagating.specs.Problems.{IsProblem, instances_in};
-ghost use Rattle.jh_explaining.specs.Keeping.{AreKept, AreRight, IsKept, IsQuiet, IsTried, AreTried, kept_items};
+ghost use Rattle.jh_explaining.specs.Keeping.{AreFollowing, AreKept, AreRight, IsKept, IsQuiet, IsReady, IsTried, AreTried, kept_items};
 ghost use Rattle.jh_explaining.specs.Steps.{AreOverAtoms, literals_of, trees_of};
 
 use crate::Step;
 use crate::keeping::{clear, keep};
+use crate::rewinding::{rewind, steps_before};
 use crate::step::{holds, is_one, literal_at, step_at};
 use crate::testing::clashes;
 use jh_cong::Classes;
@@ -20,6 +20,7 @@ use jh_name::NoMemory;
 use jh_propagating::Problem;
 use jh_shortening::{most_is_kept, shortening_is_exact};
 use jh_trail::{Decided, Trail};
+use std::alloc::Global;
 
 /// Whether a step is kept: it isn't the one that is taken out, and was decided, or follows from what is kept.
 fn is_kept(
@@ -63,6 +64,7 @@ fn keep_step(
     ensures table { classes.new.table ≡ classes.old.table }
     ensures clash { IfOk result (λ yes. yes ≡ true → Clash (instances_in (nodes problem.now.table) problem.now) (trees_of (nodes problem.now.table) (kept.old.items ++ step ∷ []))) }
     ensures quiet { IfOk result (λ yes. yes ≡ false → IsQuiet problem.now classes.new trail.new) }
+    ensures ready { OnOk result (IsReady problem.now classes.new trail.new) }
 {
     kept.push(step)?;
     keep(problem, classes, trail, step.literal)
@@ -90,6 +92,7 @@ fn take(
     ensures kept { OnOk result (AreKept (nodes problem.now.table) problem.now steps.now out (index + 1) kept.new.items) }
     ensures clash { IfOk result (λ yes. yes ≡ true → Clash (instances_in (nodes problem.now.table) problem.now) (trees_of (nodes problem.now.table) kept.new.items)) }
     ensures quiet { IfOk result (λ yes. yes ≡ false → IsQuiet problem.now classes.new trail.new) }
+    ensures ready { OnOk result (IsReady problem.now classes.new trail.new) }
 {
     most_is_kept();
     problem.table.nodes_differ();
@@ -102,7 +105,84 @@ fn take(
     }
 }
 
-/// Of an explanation those steps that still follow without a decision. None comes where they don't clash.
+/// The first so many steps.
+fn first_steps(alloc: Global, steps: &[Step], count: usize) -> Result<Vec<Step>, NoMemory>
+    requires { count ≤ length steps.now }
+    ensures { IfOk result (λ made. made.items ≡ take count steps.now) }
+{
+    Ok(Vec::from_slice(alloc, &steps[..count])?)
+}
+
+/// Keeps the steps from one place up to another, which stands before what is taken out: nothing is asked of them. The answer is whether
+/// what is kept clashes.
+fn keep_first(
+    problem: &Problem,
+    classes: &mut Classes,
+    trail: &mut Trail,
+    steps: &[Step],
+    start: usize,
+    count: usize,
+    kept: &mut Vec<Step>,
+) -> Result<bool, NoMemory>
+    requires problem { IsProblem (nodes classes.old.table) problem.now }
+    requires over { AreOverAtoms problem.now.ground (literals_of steps.now) }
+    requires few { start ≤ count }
+    requires inside { count ≤ length steps.now }
+    requires quiet { IsQuiet problem.now classes.old trail.old }
+    requires trail { trail.old ≡ literals_of kept.old.items }
+    requires kept { kept.old.items ≡ take start steps.now }
+    ensures table { classes.new.table ≡ classes.old.table }
+    ensures trail { OnOk result (trail.new ≡ literals_of kept.new.items) }
+    ensures kept { OnOk result ((end : ℕ) × ((end ≤ count) × (kept.new.items ≡ take end steps.now))) }
+    ensures all { IfOk result (λ yes. yes ≡ false → kept.new.items ≡ take count steps.now) }
+    ensures clash { IfOk result (λ yes. yes ≡ true → Clash (instances_in (nodes problem.now.table) problem.now) (trees_of (nodes problem.now.table) kept.new.items)) }
+    ensures quiet { IfOk result (λ yes. yes ≡ false → IsQuiet problem.now classes.new trail.new) }
+    ensures ready { OnOk result (IsReady problem.now classes.new trail.new) }
+{
+    for index in start..count {
+        let clash = keep_step(problem, classes, trail, step_at(steps, index), kept)?;
+        if clash {
+            return Ok(true);
+        }
+    }
+    Ok(false)
+}
+
+/// Keeps of the steps from a place on those that still follow without a decision. The answer is whether what is kept clashes.
+fn keep_rest(
+    problem: &Problem,
+    classes: &mut Classes,
+    trail: &mut Trail,
+    steps: &[Step],
+    start: usize,
+    out: Decided,
+    kept: &mut Vec<Step>,
+) -> Result<bool, NoMemory>
+    requires problem { IsProblem (nodes classes.old.table) problem.now }
+    requires over { AreOverAtoms problem.now.ground (literals_of steps.now) }
+    requires out { Has problem.now.ground.atoms out.atom }
+    requires inside { start ≤ length steps.now }
+    requires quiet { IsQuiet problem.now classes.old trail.old }
+    requires trail { trail.old ≡ literals_of kept.old.items }
+    requires kept { AreKept (nodes problem.now.table) problem.now steps.now out start kept.old.items }
+    ensures table { classes.new.table ≡ classes.old.table }
+    ensures shorter { IfOk result (λ yes. yes ≡ true → IsTried (nodes problem.now.table) problem.now steps.now out (Some kept.new.items)) }
+    ensures whole { IfOk result (λ yes. yes ≡ false → IsTried (nodes problem.now.table) problem.now steps.now out None) }
+    ensures ready { OnOk result (IsReady problem.now classes.new trail.new) }
+{
+    most_is_kept();
+    problem.table.nodes_differ();
+    for index in start..steps.len() {
+        let clash = take(problem, classes, trail, steps, index, out, kept)?;
+        if clash {
+            return Ok(true);
+        }
+    }
+    Ok(false)
+}
+
+/// Of an explanation those steps that still follow without a decision. None comes where they don't clash. What the trail and the classes
+/// have of the first steps, up to the decision, stays there.
 fn without(
     problem: &Problem,
     classes: &mut Classes,
@@ -113,20 +193,23 @@ fn without(
     requires problem { IsProblem (nodes classes.old.table) problem.now }
     requires over { AreOverAtoms problem.now.ground (literals_of steps.now) }
     requires out { Has problem.now.ground.atoms out.atom }
-    requires quiet { Clash (instances_in (nodes problem.now.table) problem.now) [] → ⊥ }
+    requires following { AreFollowing (nodes problem.now.table) problem.now steps.now }
+    requires ready { IsReady problem.now classes.old trail.old }
     ensures table { classes.new.table ≡ classes.old.table }
     ensures tried { IfOk result (λ found. IsTried (nodes problem.now.table) problem.now steps.now out (kept_items found)) }
+    ensures ready { OnOk result (IsReady problem.now classes.new trail.new) }
 {
     most_is_kept();
     problem.table.nodes_differ();
     let alloc = classes.table().alloc();
-    clear(classes, trail);
-    let mut kept = Vec::new(alloc);
-    for index in 0..steps.len() {
-        let clash = take(problem, classes, trail, steps, index, out, &mut kept)?;
-        if clash {
-            return Ok(Some(kept));
-        }
+    let before = steps_before(steps, out);
+    let count = rewind(problem, classes, trail, steps, before);
+    let mut kept = first_steps(alloc, steps, count)?;
+    if keep_first(problem, classes, trail, steps, count, before, &mut kept)? {
+        return Ok(Some(kept));
+    }
+    if keep_rest(problem, classes, trail, steps, before, out, &mut kept)? {
+        return Ok(Some(kept));
     }
     Ok(None)
 }
@@ -142,8 +225,10 @@ fn taken_out(
     requires problem { IsProblem (nodes classes.old.table) problem.now }
     requires over { AreOverAtoms problem.now.ground (literals_of steps.items) }
     requires out { Has problem.now.ground.atoms out.atom }
-    requires quiet { Clash (instances_in (nodes problem.now.table) problem.now) [] → ⊥ }
+    requires following { AreFollowing (nodes problem.now.table) problem.now steps.items }
+    requires ready { IsReady problem.now classes.old trail.old }
     ensures table { classes.new.table ≡ classes.old.table }
+    ensures ready { OnOk result (IsReady problem.now classes.new trail.new) }
     ensures tries { IfOk result (λ made. (ds tried : List Decided) → AreTried (nodes problem.now.table) problem.now ds tried steps.items → AreTried (nodes problem.now.table) problem.now ds (out ∷ tried) made.items) }
 {
     most_is_kept();
@@ -167,8 +252,10 @@ fn shortened_by(
     requires problem { IsProblem (nodes classes.old.table) problem.now }
     requires over { AreOverAtoms problem.now.ground (literals_of steps.items) }
     requires out { Has problem.now.ground.atoms out.atom }
-    requires quiet { Clash (instances_in (nodes problem.now.table) problem.now) [] → ⊥ }
+    requires following { AreFollowing (nodes problem.now.table) problem.now steps.items }
+    requires ready { IsReady problem.now classes.old trail.old }
     ensures table { classes.new.table ≡ classes.old.table }
+    ensures ready { OnOk result (IsReady problem.now classes.new trail.new) }
     ensures tries { IfOk result (λ made. (ds tried : List Decided) → AreTried (nodes problem.now.table) problem.now ds tried steps.items → AreTried (nodes problem.now.table) problem.now ds (out ∷ tried) made.items) }
 {
     most_is_kept();
@@ -199,8 +286,10 @@ pub fn shortened(
     ensures right { IfOk result (λ made. AreRight problem.now decisions.now made.items) }
     ensures table { classes.new.table ≡ classes.old.table }
 {
+    most_is_kept();
     shortening_is_exact();
     problem.table.nodes_differ();
+    clear(classes, trail);
     let mut steps = steps;
     let count = decisions.len();
     for index in 0..count {

@@ -12,23 +12,18 @@ ghost use Rattle.jh_explaining.specs.Keeping.{IsQuiet};
 ghost use Rattle.jh_explaining.specs.Testing.{IsAsked};
 
 use crate::places::{instance_at, place_at, said_of};
-use crate::step::has;
 use jh_cong::{Classes, CongError};
 use jh_name::NoMemory;
 use jh_propagating::Problem;
 use jh_table::Table;
-use jh_trail::{Decided, Looked, Trail, forced_stands, look, more_say_more, opposite};
+use jh_trail::{Decided, Trail, forced_stands, is_false, opposite};
 
 /// Whether an instance that is a node is false with the opposite of a literal put to the trail.
 fn forces(table: &Table, trail: &Trail, instance: usize, literal: Decided) -> Result<bool, NoMemory>
     requires { IsTruth (nodes table.now) instance }
     ensures { IfOk result (λ yes. IsTrue yes ↔ IsFalse (literals_at (nodes table.now) (opposite_of literal ∷ trail.now)) (truth_at (nodes table.now) instance)) }
 {
-    more_say_more();
-    match look(table, trail, instance)? {
-        Looked::False => Ok(true),
-        Looked::Forces(list) => Ok(has(list.items(), literal)),
-    }
+    is_false(table, trail, Some(literal), instance)
 }
 
 /// Whether some instance is false with the opposite of a literal put to the trail, where none is false without it.

@@ -4,6 +4,7 @@ use Rattle.jh_table.specs.Nodes.{nodes}
 use Rattle.jh_trail.specs.declared.decided.Decided.{Decided}
 use Rattle.jh_trail.specs.Occurring.{places_in}
 use Rattle.jh_explaining.specs.Testing.{IsFalseAmong}
+use Rattle.jh_explaining.proofs.Readiness.{ready-asked, ready-more}
 use Rattle.jh_explaining.proofs.Tests.{among-some, none-longer, kept-clash, kept-quiet}
 use Rattle.jh_explaining.proofs.keeping.keep.Goals as goal
 
@@ -28,3 +29,9 @@ returns-clause-quiet c =
     kept-quiet p c.args.classes.now c.is_met.new.classes c.args.literal c.in_ok-is_met.field-0 c.in_ok-is_met.ensures.asked c.args.trail.now c.requires.quiet.spoken
     (none-longer ts p c.requires.problem.posed c.others_say_nothing.ensures c.args.trail.now c.args.literal c.requires.atom (λ h. c.requires.quiet.quiet (inr h))
     (λ among. true≢false (sym (c.in_ok-some_false.ensures.1 (subst (λ (xs : List Decided). IsFalseAmong ts p xs (places_in p.ground c.args.literal.atom)) (sym c.in_ok-push.ensures.ok) among)) ∙ c.if-branch.false)))
+
+pub returns-then-branch-clause-ready : goal.returns-then-branch-clause-ready
+returns-then-branch-clause-ready c = ready-more c.args.problem.now c.args.classes.now c.args.trail.now c.args.literal c.requires.quiet
+
+pub returns-clause-ready : goal.returns-clause-ready
+returns-clause-ready c = ready-asked c.args.problem.now c.args.classes.now c.is_met.new.classes c.args.literal c.in_ok-is_met.field-0 c.in_ok-is_met.ensures.asked c.args.trail.now c.requires.quiet (returns-clause-quiet c)

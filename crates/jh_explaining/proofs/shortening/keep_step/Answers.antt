@@ -5,9 +5,9 @@ use Rattle.jh_models.specs.Clashes.{Clash}
 use Rattle.jh_trail.specs.declared.decided.Decided.{Decided}
 use Rattle.jh_trail.specs.Saying.{literals_at}
 use Rattle.jh_propagating.specs.Problems.{instances_in}
-use Rattle.jh_explaining.specs.Keeping.{IsQuiet}
+use Rattle.jh_explaining.specs.Keeping.{IsQuiet, IsReady}
 use Rattle.jh_explaining.proofs.Lists.{literals-more}
-use Rattle.jh_explaining.proofs.Tests.{ok-both}
+use Rattle.jh_explaining.proofs.Tests.{ok-both, ok-two}
 use Rattle.jh_explaining.proofs.shortening.keep_step.Goals as goal
 
 pub returns-clause-trail : goal.returns-clause-trail
@@ -23,3 +23,6 @@ returns-clause-clash c =
 
 pub returns-clause-quiet : goal.returns-clause-quiet
 returns-clause-quiet c = ok-both c.keep.result (λ b e f is. subst (IsQuiet c.args.problem.now c.keep.new.classes) (sym e) (f is)) c.keep.ensures.trail c.keep.ensures.quiet
+
+pub returns-clause-ready : goal.returns-clause-ready
+returns-clause-ready c = ok-two c.keep.result (λ e r. subst (IsReady c.args.problem.now c.keep.new.classes) (sym e) r) c.keep.ensures.trail c.keep.ensures.ready

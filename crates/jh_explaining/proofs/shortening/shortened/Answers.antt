@@ -1,14 +1,16 @@
-use Rattle.std.proofs.Common.{◌≡◌, refl, sym, ap, ◌∙◌, subst, ◌<◌, ◌+◌, ◌-◌, ℕ, List, [], ◌∷◌, length, drop, arith}
+use Rattle.std.proofs.Common.{◌≡◌, sym, ap, ◌∙◌, subst, ◌<◌, ◌+◌, ◌-◌, ℕ, List, [], ◌∷◌, length, drop, arith}
 use Rattle.std.proofs.lemmas.List.{drop_all}
 use Rattle.jh_closure.proofs.Having.{has-at}
+use Rattle.jh_cong.specs.Saying.{Asserted}
 use Rattle.jh_table.specs.Nodes.{nodes}
 use Rattle.jh_trail.specs.declared.decided.Decided.{Decided}
 use Rattle.jh_trail.specs.Saying.{literals_at}
 use Rattle.jh_propagating.specs.Problems.{IsProblem, instances_in}
-use Rattle.jh_explaining.specs.Keeping.{AreTried}
+use Rattle.jh_explaining.specs.Keeping.{AreTried, IsQuiet}
 use Rattle.jh_explaining.specs.Steps.{trees_of}
 use Rattle.jh_explaining.proofs.Lists.{drop-next}
-use Rattle.jh_explaining.proofs.Keeps.{all-tried}
+use Rattle.jh_explaining.proofs.Keeps.{all-tried, following-of}
+use Rattle.jh_explaining.proofs.Readiness.{ready-quiet}
 use Rattle.jh_explaining.proofs.shortening.shortened.Goals as goal
 
 down : (n index : ℕ) → index < n → n - (index + 1) ≡ n - 1 - index
@@ -25,7 +27,8 @@ loop-index-init c =
     let whole : length ds - 0 ≡ length ds = omega arith in
     let none : drop (length ds - 0) ds ≡ [] = ap (λ n. drop n ds) whole ∙ drop_all (length ds) ds (omega arith) in
     record {
-      table = refl;
+      table = ap (λ (a : Asserted). a.table) c.clear.ensures.classes;
+      ready = ready-quiet p _ _ (subst (λ X. X) (λ i. IsQuiet p (sym c.clear.ensures.classes i) (sym c.clear.ensures.trail i)) (record { spoken = tt; quiet = c.requires.quiet }));
       tried = subst (λ (xs : List Decided). AreTried ts p ds xs c.args.steps.items) (sym none) (record {
         right = c.requires.right;
         shortened = c.shortening_is_exact.ensures.begins (instances_in ts p) (literals_at ts ds) (trees_of ts c.args.steps.items) c.requires.closes;
@@ -41,8 +44,13 @@ shortened_by-requires-clause-over c = c.loop-index.invariant.tried.right.over
 pub shortened_by-requires-clause-out : goal.shortened_by-requires-clause-out
 shortened_by-requires-clause-out c = c.loop-index.invariant.tried.right.decided_over c.literal_at-decision.result (has-at c.args.decisions.now (length c.args.decisions.now - 1 - c.loop-index.index) c.literal_at-decision.result c.literal_at-decision.ensures)
 
-pub shortened_by-requires-clause-quiet : goal.shortened_by-requires-clause-quiet
-shortened_by-requires-clause-quiet c = c.requires.quiet
+pub shortened_by-requires-clause-following : goal.shortened_by-requires-clause-following
+shortened_by-requires-clause-following c =
+    let tried = c.loop-index.invariant.tried in
+    following-of (nodes c.args.problem.now.table) c.args.problem.now c.requires.problem.posed c.nodes_differ.ensures.different c.args.decisions.now c.loop-index.steps.items tried.right tried.shortened.closes
+
+pub shortened_by-requires-clause-ready : goal.shortened_by-requires-clause-ready
+shortened_by-requires-clause-ready c = c.loop-index.invariant.ready
 
 pub loop-index-preserved : goal.loop-index-preserved
 loop-index-preserved c =
@@ -58,6 +66,7 @@ loop-index-preserved c =
     let now = c.in_ok-made.ensures.tries ds (drop (n - i) ds) before in
     record {
       table = c.shortened_by.ensures.table ∙ c.loop-index.invariant.table;
+      ready = c.in_ok-made.ensures.ready;
       tried = subst (λ (xs : List Decided). AreTried (nodes c.args.problem.now.table) p ds xs made) (sym next) (now);
     }
 

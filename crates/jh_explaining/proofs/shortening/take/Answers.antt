@@ -1,4 +1,4 @@
-use Rattle.std.proofs.Common.{sym, ap, ◌∙◌, subst, true, false, List, ◌+◌}
+use Rattle.std.proofs.Common.{refl, sym, ap, ◌∙◌, subst, true, false, List, ◌+◌}
 use Rattle.jh_closure.proofs.Having.{has-at}
 use Rattle.jh_cong.proofs.Oks.{on-ok}
 use Rattle.jh_table.specs.Nodes.{nodes}
@@ -11,6 +11,7 @@ use Rattle.jh_explaining.specs.Keeping.{IsQuiet, IsKept, AreKept}
 use Rattle.jh_explaining.specs.Steps.{literals_of, trees_of}
 use Rattle.jh_explaining.proofs.Lists.{has-literal}
 use Rattle.jh_explaining.proofs.Keeps.{kept-more, kept-less, new-literal}
+use Rattle.jh_explaining.proofs.Readiness.{ready-quiet}
 use Rattle.jh_explaining.proofs.Tests.{ok-both, ok-two}
 use Rattle.jh_explaining.proofs.shortening.take.Goals as goal
 
@@ -63,3 +64,6 @@ returns-else-keeps-clause-kept c =
 
 pub returns-else-keeps-clause-quiet : goal.returns-else-keeps-clause-quiet
 returns-else-keeps-clause-quiet c = λ e. subst (λ X. X) (λ i. IsQuiet c.args.problem.now (sym c.in_ok-keeps.ensures.classes i) c.args.trail.now) c.requires.quiet
+
+pub returns-else-keeps-clause-ready : goal.returns-else-keeps-clause-ready
+returns-else-keeps-clause-ready c = ready-quiet c.args.problem.now c.is_kept.new.classes c.args.trail.now (returns-else-keeps-clause-quiet c refl)

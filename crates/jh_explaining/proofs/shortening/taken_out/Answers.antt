@@ -1,7 +1,7 @@
 use Rattle.std.proofs.Common.{sym, subst, List}
 use Rattle.jh_table.specs.Nodes.{nodes}
 use Rattle.jh_explaining.specs.declared.step.Step.{Step}
-use Rattle.jh_explaining.specs.Keeping.{IsTried, kept_items}
+use Rattle.jh_explaining.specs.Keeping.{AreFollowing, IsTried, kept_items}
 use Rattle.jh_explaining.specs.Steps.{literals_of, AreOverAtoms}
 use Rattle.jh_explaining.proofs.Keeps.{tries-whole, tries-shorter}
 use Rattle.jh_explaining.proofs.shortening.taken_out.Goals as goal
@@ -24,3 +24,6 @@ returns-in-None-clause-tries c =
     let tried = subst (λ (xs : List Step). IsTried ts p xs c.args.out (kept_items c.in_ok-found.found)) c.as_slice.ensures.value c.in_ok-found.ensures.tried in
     let whole = subst (λ o. IsTried ts p c.args.steps.items c.args.out (kept_items o)) c.in-None.is tried in
     λ ds before h. tries-whole ts p c.requires.problem.posed c.nodes_differ.ensures.different c.shortening_is_exact.ensures c.most_is_kept.ensures ds before c.args.steps.items c.args.out h c.requires.out whole
+
+pub without-requires-clause-following : goal.without-requires-clause-following
+without-requires-clause-following c = subst (λ (xs : List Step). AreFollowing (nodes c.args.problem.now.table) c.args.problem.now xs) (sym c.as_slice.ensures.value) c.requires.following

@@ -2,7 +2,7 @@ use Rattle.std.proofs.Common.{◌≡◌}
 use Rattle.jh_table.specs.Nodes.{nodes}
 use Rattle.jh_explaining.specs.Steps.{literals_of}
 use Rattle.jh_explaining.specs.Keeping.{AreKept, IsQuiet}
-use Rattle.jh_explaining.proofs.shortening.without.Given as goal
+use Rattle.jh_explaining.proofs.shortening.keep_rest.Given as goal
 
 -- What is kept of the first steps stands in the trail, was told to the classes, and doesn't clash.
 abbrev pub invariant-loop-index : goal.invariant-loop-index
