@@ -86,21 +86,61 @@ fn better(
     }
 }
 
-/// The atom to decide next: the heaviest of those that aren't decided and stand in an instance that isn't true yet.
-pub(crate) fn choose(
+/// Whether an atom may be decided next: it isn't decided, and stands in an instance that isn't true yet.
+fn is_choice(problem: &Problem, branch: &Branch, atom: usize) -> Result<bool, NoMemory>
+    requires branch { IsBranch problem.now [] branch.now }
+{
+    match branch.trail.said(atom) {
+        Some(_holds) => Ok(false),
+        None => is_wanted(problem, branch, atom),
+    }
+}
+
+/// The index of the first atom, from an index on, that may be decided next. No earlier one may be once more literals are decided.
+fn first_choice(problem: &Problem, branch: &Branch, start: usize) -> Result<usize, NoMemory>
+    requires branch { IsBranch problem.now [] branch.now }
+{
+    let atoms = problem.ground.atoms();
+    for index in start..atoms.len() {
+        if is_choice(problem, branch, place_at(atoms, index))? {
+            return Ok(index);
+        }
+    }
+    Ok(atoms.len())
+}
+
+/// The atom to decide next, from an index on: the heaviest of those that aren't decided and stand in an instance that isn't true yet.
+fn heaviest(
     problem: &Problem,
     branch: &Branch,
     weights: &Vec<u64>,
+    start: usize,
 ) -> Result<Option<usize>, NoMemory>
     requires branch { IsBranch problem.now [] branch.now }
     ensures { IfOk result (λ found. IfSome found (λ k. Has problem.now.ground.atoms k × IsUndecided branch.now.trail k)) }
 {
     let atoms = problem.ground.atoms();
     let mut best = None;
-    for index in 0..atoms.len() {
+    for index in start..atoms.len() {
         best = better(problem, branch, weights, best, place_at(atoms, index))?;
     }
     Ok(best)
+}
+
+/// The atom to decide next: the heaviest of those that aren't decided and stand in an instance that isn't true yet. Beside the answer
+/// stands the index of the first such atom: while literals are put to the trail and none is taken off, no earlier one becomes one.
+pub(crate) fn choose(
+    problem: &Problem,
+    branch: &Branch,
+    weights: &Vec<u64>,
+    start: &mut usize,
+) -> Result<Option<usize>, NoMemory>
+    requires branch { IsBranch problem.now [] branch.now }
+    ensures { IfOk result (λ found. IfSome found (λ k. Has problem.now.ground.atoms k × IsUndecided branch.now.trail k)) }
+{
+    let first = first_choice(problem, branch, *start)?;
+    *start = first;
+    heaviest(problem, branch, weights, first)
 }
 
 /// The first atom that isn't decided.

@@ -7,6 +7,7 @@ ghost use Rattle.jh_trail.specs.Listing.{IsUndecided};
 ghost use Rattle.jh_trail.specs.Saying.{literals_at};
 ghost use Rattle.jh_propagating.specs.Branches.{IsBranch, IsSaid, undecided_count};
 ghost use Rattle.jh_propagating.specs.Problems.{instances_in};
+ghost use Rattle.jh_propagating.specs.Resting.{IsAtRest};
 ghost use Rattle.jh_search.specs.Searches.{IsAtLeaf, IsSearching};
 
 use crate::deciding::{choose, denied, first_undecided};
@@ -14,19 +15,21 @@ use crate::turn::{Searching, Turn};
 use jh_backjumping::search_goes_on;
 use jh_models::{fixpoint_is_open, whole_fixpoint_is_model};
 use jh_name::NoMemory;
-use jh_propagating::{Branch, Cause, Problem, decide, propagate};
+use jh_propagating::{Branch, Cause, Problem, decide, propagate_on};
 
-/// The atom to decide next, where one isn't decided.
+/// The atom to decide next, where one isn't decided. No atom before the index stands in an instance that isn't true yet, unless it is
+/// decided.
 fn next_atom(
     problem: &Problem,
     branch: &Branch,
     weights: &Vec<u64>,
+    start: &mut usize,
 ) -> Result<Option<usize>, NoMemory>
     requires branch { IsBranch problem.now [] branch.now }
     ensures some { IfOk result (λ found. IfSome found (λ k. Has problem.now.ground.atoms k × IsUndecided branch.now.trail k)) }
     ensures none { IfOk result (λ found. IfNone found ((k : ℕ) → Has problem.now.ground.atoms k → IsSaid branch.now.trail k)) }
 {
-    match choose(problem, branch, weights)? {
+    match choose(problem, branch, weights, start)? {
         Some(atom) => Ok(Some(atom)),
         None => Ok(first_undecided(problem, branch)),
     }
@@ -43,6 +46,7 @@ fn take(problem: &Problem, searching: &mut Searching, atom: usize) -> Result<(),
     ensures table { OnOk result (searching.new.branch.classes.table ≡ searching.old.branch.classes.table) }
     ensures closed { OnOk result (searching.new.closed.items ≡ searching.old.closed.items) }
     ensures count { OnOk result (undecided_count problem.now searching.new.branch < undecided_count problem.now searching.old.branch) }
+    ensures rested { OnOk result (IsAtRest problem.now searching.old.branch → IsAtRest problem.now searching.new.branch) }
 {
     search_goes_on();
     fixpoint_is_open();
@@ -72,13 +76,16 @@ pub(crate) fn descend(
     ensures closed { OnOk result (searching.new.closed.items ≡ searching.old.closed.items) }
 {
     whole_fixpoint_is_model();
+    let mut rested = false;
+    let mut start = 0;
     loop {
-        if let Some(cause) = propagate(problem, &mut searching.branch)? {
+        if let Some(cause) = propagate_on(problem, &mut searching.branch, rested)? {
             return Ok(Some(cause));
         }
-        match next_atom(problem, &searching.branch, &searching.weights)? {
+        match next_atom(problem, &searching.branch, &searching.weights, &mut start)? {
             Some(atom) => take(problem, searching, atom)?,
             None => return Ok(None),
         }
+        rested = true;
     }
 }

@@ -1,9 +1,10 @@
-use Rattle.std.proofs.Common.{refl, sym, ap, subst, false}
+use Rattle.std.proofs.Common.{refl, sym, ap, subst, false, [], ◌∷◌}
 use Rattle.jh_closure.specs.Nodes.{Has}
 use Rattle.jh_table.specs.Nodes.{nodes}
 use Rattle.jh_table.specs.Growth.{AreDifferent}
 use Rattle.jh_cong.specs.Saying.{Asserted}
 use Rattle.jh_trail.specs.Listing.{IsUndecided}
+use Rattle.jh_propagating.proofs.Resting.{resting-more}
 use Rattle.jh_search.specs.declared.turn.Turn.{Turn}
 use Rattle.jh_search.proofs.Descents.{goes-on}
 use Rattle.jh_search.proofs.descending.take.Goals as goal
@@ -23,3 +24,6 @@ returns-clause-searching c =
 
     different : AreDifferent (nodes c.args.problem.now.table)
     different = c.nodes_differ.ensures.different
+
+pub returns-clause-rested : goal.returns-clause-rested
+returns-clause-rested c = λ rest k at. resting-more c.args.problem.now c.args.searching.now.branch c.decide.new.branch (c.denied-literal.result ∷ []) c.in_ok-decide.ensures.classes c.in_ok-decide.ensures.trail k (rest k at)

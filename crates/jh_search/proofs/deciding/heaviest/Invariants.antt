@@ -1,7 +1,7 @@
 use Rattle.std.specs.Prelude.{IfSome}
 use Rattle.jh_closure.specs.Nodes.{Has}
 use Rattle.jh_trail.specs.Listing.{IsUndecided}
-use Rattle.jh_search.proofs.deciding.choose.Given as goal
+use Rattle.jh_search.proofs.deciding.heaviest.Given as goal
 
 abbrev pub invariant-loop-index : goal.invariant-loop-index
 invariant-loop-index l = IfSome l.best (λ k. Has l.problem.ground.atoms k × IsUndecided l.branch.trail k)
