@@ -26,7 +26,7 @@ proofs-count-nothing : (answers : List Answer) → list_all (λ a. eqb (cond (is
 proofs-count-nothing [] = refl
 proofs-count-nothing (answer.Trivial ∷ answers) = proofs-count-nothing answers
 proofs-count-nothing (answer.Bapa q ∷ answers) = proofs-count-nothing answers
-proofs-count-nothing (answer.Local ∷ answers) = proofs-count-nothing answers
+proofs-count-nothing (answer.Local d ∷ answers) = proofs-count-nothing answers
 proofs-count-nothing (answer.Unproved bapa why ∷ answers) = refl
 
 each-proved : (rs : List Reported) → all_proved (all_answers rs) ≡ is_accepted rs

@@ -33,7 +33,7 @@ is_bapa (answer.Bapa query) = true
 is_bapa a = false
 
 abbrev pub is_local : Answer → Bool
-is_local answer.Local = true
+is_local (answer.Local derivation) = true
 is_local a = false
 
 -- how many methods are reported on, with how many sequents, and how many of these have each verdict

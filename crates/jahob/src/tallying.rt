@@ -53,7 +53,7 @@ fn is_local(answer: &Answer) -> bool
     ensures { result ≡ spec.is_local answer.now }
 {
     match answer {
-        Answer::Local => true,
+        Answer::Local(_) => true,
         _ => false,
     }
 }

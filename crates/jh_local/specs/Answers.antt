@@ -1,7 +1,10 @@
 -- What the ground search may say of a sequent of local shape.
-use Rattle.std.specs.Prelude.{◌≡◌, ◌<◌, ◌≤◌, ℕ, List, map}
+use Rattle.std.specs.Prelude.{◌≡◌, ◌<◌, ◌≤◌, ℕ, List, map, Option, None, Some}
 use Rattle.jh_tree.specs.Tree.{FormulaTree}
 use Rattle.jh_sequent.specs.Sequents.{SequentTree}
+use Rattle.jh_steps.specs.Steps.{steps_of}
+use Rattle.jh_steps.specs.Closes.{ClosesSequent}
+use Rattle.jh_deriving.specs.Nesting.{OperandsNestWithin}
 use Rattle.jh_structure.specs.declared.literal.Literal.{Literal}
 use Rattle.jh_structure.specs.Literals.{LiteralTree, literal_tree}
 use Rattle.jh_models.specs.Branches.{ClosedTree}
@@ -40,13 +43,24 @@ pub record AreRefuted (is : List FormulaTree) (many : ℕ) : Type 0 where
   pub few : many ≤ 100000
   pub none : HasNoModel is
 
+-- What comes of a search of them: why they aren't shown to have no ground model, or nothing where they have none.
+abbrev pub IsOutcome : List FormulaTree → ℕ → ℕ → Option LocalCause → Type 0
+IsOutcome is many leaves None = AreRefuted is many
+IsOutcome is many leaves (Some cause) = IsLocalCause is many leaves cause
+
 abbrev pub IsSearchedFor : List FormulaTree → ℕ → ℕ → Searched → Type 0
-IsSearchedFor is many leaves searched.Proved = AreRefuted is many
+IsSearchedFor is many leaves (searched.Proved derivation) = AreRefuted is many
 IsSearchedFor is many leaves (searched.Unproved cause) = IsLocalCause is many leaves cause
 
+-- The derivation of an answer closes the sequent, and no operand of it nests deeper than 4,096 levels.
+abbrev pub IsDerived : SequentTree → Searched → Type 0
+IsDerived s (searched.Proved derivation) = ClosesSequent (steps_of derivation) s × OperandsNestWithin 4096 (steps_of derivation)
+IsDerived s (searched.Unproved cause) = Unit {0}
+
 -- What is said of a sequent is right for the instances that so many rounds make of it, whose constants are numbered from the first
--- number beyond all turns of the sequent.
+-- number beyond all turns of the sequent; and its derivation closes the sequent.
 pub record IsSearched (s : SequentTree) (rounds leaves : ℕ) (a : Searched) : Type 0 where
   pub first : ℕ
   pub is_first : IsFirstFree s first
   pub right : IsSearchedFor (instances s first rounds) (count s first rounds) leaves a
+  pub derived : IsDerived s a

@@ -1,4 +1,5 @@
 use jh_name::Row;
+use jh_steps::Derivation;
 use jh_structure::Literal;
 
 /// Literals of a branch, in the order in which they were found.
@@ -28,15 +29,15 @@ pub enum LocalCause {
 /// What the ground search says of a sequent.
 #[derive(Drop)]
 pub enum Searched {
-    /// The instances have no ground model.
-    Proved,
+    /// The instances have no ground model, and this derivation closes the sequent.
+    Proved(Derivation),
     /// No proof was found.
     Unproved(LocalCause),
 }
 
 fn can_be_shared<T: Send + Sync>(_value: &T) {}
 
-/// What is said of a sequent can be moved to threads and shared by them. It does nothing.
-pub fn searched_can_be_shared(searched: &Searched) {
-    can_be_shared(searched);
+/// Causes can be moved to threads and shared by them. It does nothing.
+pub fn causes_can_be_shared(cause: &LocalCause) {
+    can_be_shared(cause);
 }

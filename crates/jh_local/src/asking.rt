@@ -1,18 +1,20 @@
-ghost use Rattle.std.specs.Prelude.{◌<◌, ◌≤◌, ℕ, IfOk};
+ghost use Rattle.std.specs.Prelude.{◌<◌, ◌≤◌, ℕ, List, IfOk};
 ghost use Rattle.jh_table.specs.Nodes.{nodes};
+ghost use Rattle.jh_tree.specs.Tree.{FormulaTree};
 ghost use Rattle.jh_sequent.specs.Sequents.{SequentTree};
 ghost use Rattle.jh_localized.specs.Forming.{IsFormed};
 ghost use Rattle.jh_propagating.specs.Problems.{IsProblem, instances_in};
 ghost use Rattle.jh_search.specs.Outcomes.{IsFound};
 ghost use Rattle.jh_apart.specs.Standing.{IsPosed};
-ghost use Rattle.jh_local.specs.Answers.{IsSearched, IsSearchedFor};
+ghost use Rattle.jh_local.specs.Answers.{IsDerived, IsOutcome, IsSearched, IsSearchedFor};
 
 use crate::answer::{Branch, LocalCause, Searched};
 use crate::boxing::{boxed_branches, boxed_trail};
 use crate::posing::posed;
 use jh_apart::{Apart, facts_apart};
 use jh_cong::Classes;
-use jh_entries::{InstanceError, entries};
+use jh_deriving::derived;
+use jh_entries::{InstanceError, NodeEntries, entries};
 use jh_localized::LocalForm;
 use jh_name::NoMemory;
 use jh_plain::{instances_are_literals, normal_is_plain};
@@ -20,41 +22,93 @@ use jh_propagating::Problem;
 use jh_search::{Found, Searching, search, start_search};
 use jh_table::Table;
 
-/// What is said where this was found.
-fn answer_of(problem: &Problem, searching: &Searching, found: Found) -> Result<Searched, NoMemory>
+/// Why the instances of a problem aren't shown to have no ground model, where this was found. There is no cause where they have none.
+fn cause_of(
+    problem: &Problem,
+    searching: &Searching,
+    found: Found,
+) -> Result<Option<LocalCause>, NoMemory>
     requires { (leaves : ℕ) × IsFound problem.now leaves searching.now found }
-    ensures { IfOk result (λ made. (leaves many : ℕ) → many ≤ 100000 → IsFound problem.now leaves searching.now found → IsSearchedFor (instances_in (nodes problem.now.table) problem.now) many leaves made) }
+    ensures { IfOk result (λ made. (leaves many : ℕ) → many ≤ 100000 → IsFound problem.now leaves searching.now found → IsOutcome (instances_in (nodes problem.now.table) problem.now) many leaves made) }
 {
     match found {
-        Found::NoModel => Ok(Searched::Proved),
+        Found::NoModel => Ok(None),
         Found::Model => {
             let literals = boxed_trail(&problem.table, &searching.branch.trail)?;
-            Ok(Searched::Unproved(LocalCause::Open(Branch { literals })))
+            Ok(Some(LocalCause::Open(Branch { literals })))
         }
         Found::Spent => {
             let closed = boxed_branches(&problem.table, searching.closed.as_slice())?;
-            Ok(Searched::Unproved(LocalCause::Budget(closed)))
+            Ok(Some(LocalCause::Budget(closed)))
         }
     }
 }
 
-/// Searches a problem with this table of names.
-fn searched(atoms: Table, problem: &Problem, leaves: usize) -> Result<Searched, NoMemory>
+/// Searches a problem with this table of names: what is left of the search, and why it shows nothing, where it doesn't.
+fn searched(
+    atoms: Table,
+    problem: &Problem,
+    leaves: usize,
+) -> Result<(Searching, Option<LocalCause>), NoMemory>
     requires problem { IsProblem (nodes atoms) problem.now }
     requires leaves { 0 < leaves }
-    ensures { IfOk result (λ made. (many : ℕ) → many ≤ 100000 → IsSearchedFor (instances_in (nodes problem.now.table) problem.now) many leaves made) }
+    ensures { IfOk result (λ made. (many : ℕ) → many ≤ 100000 → IsOutcome (instances_in (nodes problem.now.table) problem.now) many leaves made.1) }
 {
     let classes = Classes::new(atoms.alloc(), atoms)?;
     let mut searching = start_search(problem, classes)?;
     let found = search(problem, &mut searching, leaves)?;
-    answer_of(problem, &searching, found)
+    let cause = cause_of(problem, &searching, found)?;
+    Ok((searching, cause))
 }
 
-/// Searches the instances of facts.
-fn answer_for(mut apart: Apart, rounds: u32, leaves: usize) -> Result<Searched, NoMemory>
+/// The answer for a local form, by why a search of its instances shows nothing: where there is no such cause, a derivation is written from
+/// what is left of the search.
+fn answer_of(
+    table: &Table,
+    form: &LocalForm,
+    made: &NodeEntries,
+    problem: Problem,
+    searching: Searching,
+    cause: Option<LocalCause>,
+) -> Result<Searched, NoMemory>
+    ensures right { IfOk result (λ answer. (is : List FormulaTree) (many leaves : ℕ) → IsOutcome is many leaves cause → IsSearchedFor is many leaves answer) }
+    ensures derived { IfOk result (λ answer. (s : SequentTree) → IsFormed table.now form.now s → IsDerived s answer) }
+{
+    match cause {
+        Some(cause) => Ok(Searched::Unproved(cause)),
+        None => Ok(Searched::Proved(derived(table, form, made, problem, searching)?)),
+    }
+}
+
+/// Searches a problem with this table of names, which is posed of the instances among these entries of a local form.
+fn answer_posed(
+    table: &Table,
+    form: &LocalForm,
+    made: &NodeEntries,
+    atoms: Table,
+    problem: Problem,
+    leaves: usize,
+) -> Result<Searched, NoMemory>
+    requires problem { IsProblem (nodes atoms) problem }
+    requires leaves { 0 < leaves }
+    ensures right { IfOk result (λ answer. (many : ℕ) → many ≤ 100000 → IsSearchedFor (instances_in (nodes problem.table) problem) many leaves answer) }
+    ensures derived { IfOk result (λ answer. (s : SequentTree) → IsFormed table.now form.now s → IsDerived s answer) }
+{
+    let (searching, cause) = searched(atoms, &problem, leaves)?;
+    answer_of(table, form, made, problem, searching, cause)
+}
+
+/// Searches the instances of the facts of a local form.
+fn answer_for(
+    table: &Table,
+    form: &LocalForm,
+    mut apart: Apart,
+    rounds: u32,
+    leaves: usize,
+) -> Result<Searched, NoMemory>
     requires posed { (s : SequentTree) × IsPosed apart s }
     requires leaves { 0 < leaves }
-    ensures { IfOk result (λ made. (s : SequentTree) → IsPosed apart s → IsSearched s rounds leaves made) }
+    ensures { IfOk result (λ answer. (s : SequentTree) → IsFormed table.now form.now s → IsPosed apart s → IsSearched s rounds leaves answer) }
 {
     normal_is_plain();
     instances_are_literals();
@@ -66,7 +120,7 @@ fn answer_for(mut apart: Apart, rounds: u32, leaves: usize) -> Result<Searched, 
     ) {
         Ok(made) => {
             let (problem, atoms) = posed(apart.table, &made)?;
-            searched(atoms, &problem, leaves)
+            answer_posed(table, form, &made, atoms, problem, leaves)
         }
         Err(InstanceError::TooMany(count)) => { Ok(Searched::Unproved(LocalCause::TooMany(count))) }
         Err(InstanceError::Memory) => Err(NoMemory),
@@ -74,8 +128,9 @@ fn answer_for(mut apart: Apart, rounds: u32, leaves: usize) -> Result<Searched, 
 }
 
 /// What the ground search says of a sequent of local shape, whose formulas are nodes of a table: of the instances that so many rounds
-/// make, with a budget of so many closed branches. The answer is want of memory where a formula nests deeper than MOST_LEVELS, where
-/// a fact has more than MOST_NODES nodes, each counted where it stands, and where a turn leaves u32.
+/// make, with a budget of so many closed branches. A proof holds a derivation that closes the sequent. The answer is want of memory where
+/// a formula nests deeper than MOST_LEVELS, where a fact or a formula of the derivation has more than MOST_NODES nodes, each counted where
+/// it stands, where a formula of the derivation nests deeper than MOST_NESTED, and where a turn leaves u32.
 pub fn search_instances(
     table: &Table,
     form: &LocalForm,
@@ -86,5 +141,6 @@ pub fn search_instances(
     requires leaves { 0 < leaves }
     ensures { IfOk result (λ made. (s : SequentTree) → IsFormed table.now form.now s → IsSearched s rounds leaves made) }
 {
-    answer_for(facts_apart(table, form)?, rounds, leaves)
+    let apart = facts_apart(table, form)?;
+    answer_for(table, form, apart, rounds, leaves)
 }

@@ -6,6 +6,7 @@ use Rattle.jh_compare.specs.Unmarked.{unmarked_formula}
 use Rattle.jh_sequent.specs.Sequents.{HypTree, SequentTree, AllTrue, IsValid}
 use Rattle.jh_split.specs.Laws.{AllValid}
 use Rattle.jh_steps.proofs.Unmarkings.{truth-unmarked}
+use Rattle.jh_steps.specs.declared.step.Derivation.{Derivation}
 use Rattle.jh_trivial.specs.Laws.{TrivialIsValid}
 use Rattle.jh_trivial.specs.Trivial.{IsTrivial}
 use Rattle.jh_options.specs.declared.Options.{Options}
@@ -88,7 +89,7 @@ module _ (law : TrivialIsValid) (regions : TrueQueryIsValid) (search : LocalProo
   proved-valid o (s ∷ ss) [] h proved = absurd h
   proved-valid o (s ∷ ss) (answer.Trivial ∷ more) h proved = (law s h.0, proved-valid o ss more h.1 proved)
   proved-valid o (s ∷ ss) (answer.Bapa query ∷ more) h proved = (regions s h.0.2.holds, proved-valid o ss more h.1 proved)
-  proved-valid o (s ∷ ss) (answer.Local ∷ more) h proved = (local-valid o.rounds s h.0.2, proved-valid o ss more h.1 proved)
+  proved-valid o (s ∷ ss) (answer.Local d ∷ more) h proved = (local-valid o.rounds s h.0.2, proved-valid o ss more h.1 proved)
   proved-valid o (s ∷ ss) (answer.Unproved bapa why ∷ more) h proved = absurd (wrong proved)
 
 -- constants have one first number
@@ -128,7 +129,7 @@ provable-proved o [] (a ∷ more) h all = absurd h
 provable-proved o (s ∷ ss) [] h all = absurd h
 provable-proved o (s ∷ ss) (answer.Trivial ∷ more) h all = provable-proved o ss more h.1 all.1
 provable-proved o (s ∷ ss) (answer.Bapa query ∷ more) h all = provable-proved o ss more h.1 all.1
-provable-proved o (s ∷ ss) (answer.Local ∷ more) h all = provable-proved o ss more h.1 all.1
+provable-proved o (s ∷ ss) (answer.Local d ∷ more) h all = provable-proved o ss more h.1 all.1
 provable-proved o (s ∷ ss) (answer.Unproved bapa why ∷ more) h all = λ i. provable-spent o s bapa why h.0 all.0 i && provable-proved o ss more h.1 all.1 i
 
 spent-not : (o : Options) (s : SequentTree) (bapa : BapaCause) (why : LocalCause) → Right o s (answer.Unproved bapa why) → IsLocalProof o.rounds s → is_spent (answer.Unproved bapa why) ≡ false → ⊥
@@ -138,24 +139,25 @@ spent-not o s bapa why h p not_spent = not-both (is_spent (answer.Unproved bapa 
 pub one-verdict : (o : Options) (s : SequentTree) (a b : Answer) → Right o s a → Right o s b → is_spent a ≡ false → is_spent b ≡ false → verdict_of a ≡ verdict_of b
 one-verdict o s answer.Trivial answer.Trivial h k m n = refl
 one-verdict o s answer.Trivial (answer.Bapa p) h k m n = absurd (k.0 h)
-one-verdict o s answer.Trivial answer.Local h k m n = absurd (k.0 h)
+one-verdict o s answer.Trivial (answer.Local e) h k m n = absurd (k.0 h)
 one-verdict o s answer.Trivial (answer.Unproved c d) h k m n = absurd (k.0 h)
 one-verdict o s (answer.Bapa q) answer.Trivial h k m n = absurd (h.0 k)
 one-verdict o s (answer.Bapa q) (answer.Bapa p) h k m n = refl
-one-verdict o s (answer.Bapa q) answer.Local h k m n = absurd (k.1 h.2)
+one-verdict o s (answer.Bapa q) (answer.Local e) h k m n = absurd (k.1 h.2)
 one-verdict o s (answer.Bapa q) (answer.Unproved c d) h k m n = absurd (cause-refutes (bapa_of s) c k.1 h.2)
-one-verdict o s answer.Local answer.Trivial h k m n = absurd (h.0 k)
-one-verdict o s answer.Local (answer.Bapa p) h k m n = absurd (h.1 k.2)
-one-verdict o s answer.Local answer.Local h k m n = refl
-one-verdict o s answer.Local (answer.Unproved c d) h k m n = absurd (spent-not o s c d k h.2 n)
+one-verdict o s (answer.Local d) answer.Trivial h k m n = absurd (h.0 k)
+one-verdict o s (answer.Local d) (answer.Bapa p) h k m n = absurd (h.1 k.2)
+one-verdict o s (answer.Local d) (answer.Local e) h k m n = refl
+one-verdict o s (answer.Local d) (answer.Unproved c e) h k m n = absurd (spent-not o s c e k h.2 n)
 one-verdict o s (answer.Unproved c d) answer.Trivial h k m n = absurd (h.0 k)
 one-verdict o s (answer.Unproved c d) (answer.Bapa p) h k m n = absurd (cause-refutes (bapa_of s) c h.1 k.2)
-one-verdict o s (answer.Unproved c d) answer.Local h k m n = absurd (spent-not o s c d h k.2 m)
+one-verdict o s (answer.Unproved c d) (answer.Local e) h k m n = absurd (spent-not o s c d h k.2 m)
 one-verdict o s (answer.Unproved c d) (answer.Unproved e f) h k m n = refl
 
 -- what is said of a sequent that isn't trivial and that regions don't prove
-pub local-right : (o : Options) (s : SequentTree) (bapa : BapaCause) → (IsTrivial s → ⊥) → IsCause (bapa_of s) bapa → IsTried o s searched.Proved → Right o s answer.Local
-local-right o s bapa not_trivial why tried = (not_trivial, (λ proof. cause-refutes (bapa_of s) bapa why proof), record { first = tried.first; is_first = tried.is_first; refuted = tried.right })
+pub local-right : (o : Options) (s : SequentTree) (bapa : BapaCause) (d : Derivation) → (IsTrivial s → ⊥) → IsCause (bapa_of s) bapa → IsTried o s (searched.Proved d) → Right o s (answer.Local d)
+local-right o s bapa d not_trivial why tried =
+    (not_trivial, (λ proof. cause-refutes (bapa_of s) bapa why proof), record { first = tried.first; is_first = tried.is_first; refuted = tried.right }, tried.derived.0, tried.derived.1)
 
 -- what regions and the search said, by the answer in hand
 pub regional-proof : (q : QueryTree) (a : Regional) (query : Query) → a ≡ regional.Proved query → IsRegional q a → (query_tree query ≡ q) × IsProof q

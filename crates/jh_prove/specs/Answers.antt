@@ -10,7 +10,7 @@ use Rattle.jh_prove.specs.declared.answer.Verdict.TheVariants as verdict
 abbrev pub verdict_of : Answer → Verdict
 verdict_of answer.Trivial = verdict.Trivial
 verdict_of (answer.Bapa q) = verdict.Bapa
-verdict_of answer.Local = verdict.Local
+verdict_of (answer.Local derivation) = verdict.Local
 verdict_of (answer.Unproved bapa local) = verdict.Unproved
 
 abbrev pub is_unproved : Answer → Bool

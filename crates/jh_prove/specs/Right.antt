@@ -8,6 +8,9 @@ use Rattle.jh_query.specs.Truth.{Fits, IsTrueQuery, query_true}
 use Rattle.jh_bapa.specs.Within.{IsWithin}
 use Rattle.jh_approx.specs.Regions.{bapa_of, unlabelled}
 use Rattle.jh_sequent.specs.Sequents.{SequentTree}
+use Rattle.jh_steps.specs.Closes.{ClosesSequent}
+use Rattle.jh_steps.specs.Steps.{steps_of}
+use Rattle.jh_deriving.specs.Nesting.{OperandsNestWithin}
 use Rattle.jh_trivial.specs.Trivial.{IsTrivial}
 use Rattle.jh_instances.specs.Instances.{IsFirstFree, instances}
 use Rattle.jh_instances.specs.Count.{count}
@@ -54,12 +57,13 @@ pub record IsLocalProof (rounds : ℕ) (s : SequentTree) : Type 0 where
   pub refuted : AreRefuted (instances (local_form s) first rounds) (count (local_form s) first rounds)
 
 -- An answer is right for a sequent, by these options: Trivial exactly where it is trivial; else Bapa, with its query, where that is
--- within the limits and true; else Local where its instances have no ground model; and else Unproved, with why its query is no proof
--- and why the search for a ground model is none.
+-- within the limits and true; else Local where its instances have no ground model, with a derivation that closes its local form and of
+-- which no operand nests deeper than 4,096 levels; and else Unproved, with why its query is no proof and why the search for a ground
+-- model is none.
 abbrev pub Right : Options → SequentTree → Answer → Type 0
 Right o s answer.Trivial = IsTrivial s
 Right o s (answer.Bapa query) = (IsTrivial s → ⊥) × (query_tree query ≡ bapa_of s) × IsProof (bapa_of s)
-Right o s answer.Local = (IsTrivial s → ⊥) × (IsProof (bapa_of s) → ⊥) × IsLocalProof o.rounds s
+Right o s (answer.Local derivation) = (IsTrivial s → ⊥) × (IsProof (bapa_of s) → ⊥) × IsLocalProof o.rounds s × ClosesSequent (steps_of derivation) (local_form s) × OperandsNestWithin 4096 (steps_of derivation)
 Right o s (answer.Unproved bapa local) = (IsTrivial s → ⊥) × IsCause (bapa_of s) bapa × IsTried o s (searched.Unproved local)
 
 -- right answers for sequents, one for each, in the same order

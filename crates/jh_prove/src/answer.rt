@@ -3,6 +3,7 @@ ghost use Rattle.jh_prove.specs.Answers as spec;
 
 use jh_local::LocalCause;
 use jh_query::{Query, Sizes};
+use jh_steps::Derivation;
 
 /// Why regions don't prove a sequent.
 #[derive(Drop)]
@@ -24,8 +25,8 @@ pub enum Answer {
     Trivial,
     /// This is its query, which is true.
     Bapa(Query),
-    /// The instances of its local form have no ground model.
-    Local,
+    /// The instances of its local form have no ground model, and this derivation closes that form.
+    Local(Derivation),
     /// No proof was found: why not by regions, and why not by the search for a ground model.
     Unproved { bapa: BapaCause, local: LocalCause },
 }
@@ -46,7 +47,7 @@ pub fn verdict_of(answer: &Answer) -> Verdict
     match answer {
         Answer::Trivial => Verdict::Trivial,
         Answer::Bapa(_) => Verdict::Bapa,
-        Answer::Local => Verdict::Local,
+        Answer::Local(_) => Verdict::Local,
         Answer::Unproved { .. } => Verdict::Unproved,
     }
 }

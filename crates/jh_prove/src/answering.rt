@@ -45,7 +45,7 @@ fn answer_over(
     match by_regions(alloc, table, seen, asked)? {
         Regional::Proved(query) => Ok(Answer::Bapa(query)),
         Regional::Unproved(bapa) => match by_search(table, options, asked)? {
-            Searched::Proved => Ok(Answer::Local),
+            Searched::Proved(derivation) => Ok(Answer::Local(derivation)),
             Searched::Unproved(local) => Ok(Answer::Unproved { bapa, local }),
         },
     }

@@ -20,7 +20,7 @@ fn write_answer(out: &mut String, answer: &Answer) -> Result<(), NoMemory> {
     match answer {
         Answer::Trivial => writeln!(out, "trivial")?,
         Answer::Bapa(_) => writeln!(out, "bapa")?,
-        Answer::Local => writeln!(out, "local")?,
+        Answer::Local(_) => writeln!(out, "local")?,
         Answer::Unproved { bapa, .. } => match bapa {
             BapaCause::Refuted(_) => writeln!(out, "refuted")?,
             BapaCause::TooLarge {

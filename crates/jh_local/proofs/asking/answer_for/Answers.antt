@@ -1,15 +1,11 @@
-use Rattle.std.proofs.Common.{◌≤◌, ap, subst, ℕ, List, Err}
-use Rattle.std.proofs.lemmas.Result.{IfOk-weaker}
+use Rattle.std.proofs.Common.{ap, subst, List, Err}
 use Rattle.jh_tree.specs.Tree.{FormulaTree}
-use Rattle.jh_table.specs.Nodes.{nodes}
-use Rattle.jh_sequent.specs.Sequents.{SequentTree}
 use Rattle.jh_instances.specs.Count.{count}
 use Rattle.jh_instances.specs.Instances.{made, normal_facts}
-use Rattle.jh_propagating.specs.Problems.{instances_in}
-use Rattle.jh_apart.specs.Standing.{IsPosed}
-use Rattle.jh_local.specs.Answers.{IsSearched, IsSearchedFor}
+use Rattle.jh_local.specs.Answers.{IsSearchedFor}
 use Rattle.jh_local.proofs.Facts.{facts-stand}
 use Rattle.jh_local.proofs.Locals.{facts-plain}
+use Rattle.jh_local.proofs.Made.{both-made}
 use Rattle.jh_local.proofs.asking.answer_for.Goals as goal
 
 pub entries-requires : goal.entries-requires
@@ -30,24 +26,23 @@ posed-requires c =
 pub returns-in-Ok : goal.returns-in-Ok
 returns-in-Ok c =
     let x = c.args.apart in
-    IfOk-weaker
-    c.searched.result
-    (λ found. (many : ℕ) → many ≤ 100000 → IsSearchedFor (instances_in (nodes c.in_ok-problem-in-Ok.problem.table) c.in_ok-problem-in-Ok.problem) many c.args.leaves found)
-    (λ found. (s : SequentTree) → IsPosed x s → IsSearched s c.args.rounds c.args.leaves found)
-    (λ found h s posed.
+    both-made c.answer_posed.result
+    (λ found h derived s formed posed.
     let facts = facts-stand x s c.as_slice.result.now c.as_slice.ensures.value posed in
     record {
       first = x.first;
       is_first = posed.first;
       right = subst (λ (is : List FormulaTree). IsSearchedFor is (count s x.first c.args.rounds) c.args.leaves found) (c.in_ok-problem-in-Ok.ensures.instances (made s x.first c.args.rounds) (c.in-Ok.ensures.made (normal_facts s) facts))
           (h (count s x.first c.args.rounds) (c.in-Ok.ensures.few (normal_facts s) facts));
+      derived = derived s formed;
     })
-    c.searched.ensures
+    c.answer_posed.ensures.right c.answer_posed.ensures.derived
 
 pub returns-in-Err-TooMany : goal.returns-in-Err-TooMany
-returns-in-Err-TooMany c = λ s posed.
+returns-in-Err-TooMany c = λ s formed posed.
     let x = c.args.apart in record {
       first = x.first;
       is_first = posed.first;
       right = c.in-Err-TooMany.ensures.too_many (normal_facts s) c.in-Err-TooMany.count (facts-stand x s c.as_slice.result.now c.as_slice.ensures.value posed) (ap (λ e. Err e) c.in-Err-TooMany.field-0-is);
+      derived = tt;
     }

@@ -34,8 +34,8 @@ by_search-requires-clause-sequent c =
     let s = c.requires.sequent.0 in
     (s, asked-stays c.args.table.now c.by_regions.new.table c.by_regions.ensures.grows a.hyps.now a.label a.facts.now a.goal (unlabelled s) c.requires.sequent.1)
 
-pub returns-in_err-by_search-in-Unproved-clause-grows : goal.returns-in_err-by_search-in-Unproved-clause-grows
-returns-in_err-by_search-in-Unproved-clause-grows c = extends-trans c.args.table.now c.by_regions.new.table c.by_search.new.table c.by_regions.ensures.grows c.by_search.ensures.grows
+pub returns-in_err-derivation-in-Unproved-clause-grows : goal.returns-in_err-derivation-in-Unproved-clause-grows
+returns-in_err-derivation-in-Unproved-clause-grows c = extends-trans c.args.table.now c.by_regions.new.table c.by_search.new.table c.by_regions.ensures.grows c.by_search.ensures.grows
 
 pub returns-in-Proved-clause-right : goal.returns-in-Proved-clause-right
 returns-in-Proved-clause-right c = λ s h.
@@ -52,11 +52,11 @@ returns-in-Proved-2-clause-right c = λ s h.
     let t = c.args.table.now in
     let u = c.by_regions.new.table in
     let a = c.args.asked in
-    local-right c.args.options s c.in-Unproved.bapa
+    local-right c.args.options s c.in-Unproved.bapa c.in-Proved-2.derivation
     (λ trivial. not-both c.is_trivial.result (c.is_trivial.ensures.1 (subst (λ (P : Type 0). P) (sym (trivial-over t a.facts.now a.goal s (asked-bare t a.hyps.now a.label a.facts.now a.goal s h))) trivial)) c.if-is_trivial.false)
     (regional-cause (bapa_of s) c.in_ok-query.field-0 c.in-Unproved.bapa c.in-Unproved.is (c.in_ok-query.ensures.decided s h))
-    (tried-as c.args.options s c.in_ok-by_search-in-Unproved.field-0 searched.Proved c.in-Proved-2.is
-    (c.in_ok-by_search-in-Unproved.ensures.tried s (asked-stays t u c.by_regions.ensures.grows a.hyps.now a.label a.facts.now a.goal (unlabelled s) h)))
+    (tried-as c.args.options s c.in_ok-derivation-in-Unproved.field-0 (searched.Proved c.in-Proved-2.derivation) c.in-Proved-2.is
+    (c.in_ok-derivation-in-Unproved.ensures.tried s (asked-stays t u c.by_regions.ensures.grows a.hyps.now a.label a.facts.now a.goal (unlabelled s) h)))
 
 pub returns-in-Proved-2-clause-seen : goal.returns-in-Proved-2-clause-seen
 returns-in-Proved-2-clause-seen c = mentions-grow (nodes c.by_regions.new.table) (nodes c.by_search.new.table) c.by_search.ensures.grows.nodes c.by_regions.new.seen c.in_ok-query.ensures.seen
@@ -71,8 +71,8 @@ returns-in-Unproved-2-clause-right c = λ s h.
     let a = c.args.asked in (
       (λ trivial. not-both c.is_trivial.result (c.is_trivial.ensures.1 (subst (λ (P : Type 0). P) (sym (trivial-over t a.facts.now a.goal s (asked-bare t a.hyps.now a.label a.facts.now a.goal s h))) trivial)) c.if-is_trivial.false),
       regional-cause (bapa_of s) c.in_ok-query.field-0 c.in-Unproved.bapa c.in-Unproved.is (c.in_ok-query.ensures.decided s h),
-      tried-as c.args.options s c.in_ok-by_search-in-Unproved.field-0 (searched.Unproved c.in-Unproved-2.local) c.in-Unproved-2.is
-          (c.in_ok-by_search-in-Unproved.ensures.tried s (asked-stays t u c.by_regions.ensures.grows a.hyps.now a.label a.facts.now a.goal (unlabelled s) h)),
+      tried-as c.args.options s c.in_ok-derivation-in-Unproved.field-0 (searched.Unproved c.in-Unproved-2.local) c.in-Unproved-2.is
+          (c.in_ok-derivation-in-Unproved.ensures.tried s (asked-stays t u c.by_regions.ensures.grows a.hyps.now a.label a.facts.now a.goal (unlabelled s) h)),
     )
 
 pub returns-in-Unproved-2-clause-seen : goal.returns-in-Unproved-2-clause-seen

@@ -6,7 +6,7 @@ use Rattle.jh_search.specs.declared.turn.ClosedBranch.{ClosedBranch}
 use Rattle.jh_search.specs.declared.turn.Found.{Found}
 use Rattle.jh_local.specs.Standing.{EachFormulas}
 use Rattle.jh_local.proofs.Found.{model-formulas, spent-formulas}
-use Rattle.jh_local.proofs.asking.answer_of.Goals as goal
+use Rattle.jh_local.proofs.asking.cause_of.Goals as goal
 
 pub boxed_trail-requires : goal.boxed_trail-requires
 boxed_trail-requires c =
