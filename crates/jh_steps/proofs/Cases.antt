@@ -2,16 +2,19 @@
 use Rattle.std.proofs.Common.{◌≡◌, refl, ℕ, pos, true, false, List, [], ◌∷◌, inl, inr, None, Some}
 use Rattle.jh_name.specs.declared.naming.Name.{Name}
 use Rattle.jh_name.specs.declared.place.Kind.TheVariants as kind
-use Rattle.jh_tree.specs.Tree.{TermTree, IntTree, SetTree, FieldTree, ValueTree, FormulaTree}
+use Rattle.jh_tree.specs.Tree.{TermTree, IntTree, SetTree, FieldTree, FieldTrees, ValueTree, FormulaTree}
 use Rattle.jh_tree.specs.Tree as t
 use Rattle.jh_walk.specs.Mapped.{mapped_formula}
 use Rattle.jh_tree.specs.Closed.{is_closed_formula}
 use Rattle.jh_tree.specs.Passing.{formula_passes, name_equal}
+use Rattle.jh_compare.specs.Compared.{related_value, free_field_with, update_with, free_object_with, of_object_with, of_field_with}
 use Rattle.jh_compare.specs.Exchanged.{Exchanged}
 use Rattle.jh_compare.specs.Related as r
+use Rattle.jh_reach.specs.Axioms.{BaseTree, reach_itself, ways_join, ways_on, ways_up, one_parent, axiom_of_update}
+use Rattle.jh_steps.specs.Cited.{members, all_differ, has_axioms, is_closed_base}
 use Rattle.jh_steps.specs.Steps.{StepTree}
 use Rattle.jh_steps.specs.Steps as s
-use Rattle.jh_steps.specs.Rules.{rule, equation, reads_equal, pushed, at_each, described, member_opened, relation_opened, negated, fact_opened, rule_adds, rule_from, rule_from_two, conjunction_rule, disjunction_rule, implication_rule, equivalence_rule, negation_rule, instance_rule, witness_rule, update_rule, rule_of, is_closed_step, IsRefuted, IsFresh, Meets}
+use Rattle.jh_steps.specs.Rules.{rule, equation, reads_equal, pushed, at_each, leads_as, described, member_opened, relation_opened, negated, fact_opened, rule_adds, rule_from, rule_from_two, conjunction_rule, disjunction_rule, implication_rule, equivalence_rule, negation_rule, instance_rule, witness_rule, update_rule, base_needs, base_rule, numbered_rule, axiom_rule, rule_of, is_closed_step, IsRefuted, IsFresh, Meets}
 use Rattle.jh_steps.specs.Closes.{Closes, step, none, more, FailsAt}
 
 -- names without text, told apart by their turns
@@ -231,10 +234,101 @@ update-field : rule_of (s.updating (t.update f a (t.of_field f))) ≡ None
 unfolding rule_of update_rule rule_adds described
 update-field = refl
 
--- No axiom is at hand.
-axiom-rule : rule_of (s.axiom_of 1 (t.more f t.none) None) ≡ None
-unfolding rule_of
-axiom-rule = refl
+-- An axiom by its number, 1 to 9, of a list without a base.
+abbrev g : FieldTree
+g = t.free_field (named 9)
+
+abbrev one_field : FieldTrees
+one_field = t.more f t.none
+
+axiom-first : rule_of (s.axiom_of 1 one_field None) ≡ rule [] ((t.all (t.reach one_field (t.bound 0) (t.bound 0)) ∷ []) ∷ [])
+unfolding rule_of axiom_rule numbered_rule base_rule base_needs rule_adds members has_axioms all_differ related_value free_field_with update_with free_object_with of_object_with of_field_with name_equal
+axiom-first = refl
+
+axiom-joins : rule_of (s.axiom_of 5 (t.more f (t.more g t.none)) None) ≡ rule [] ((ways_join (f ∷ g ∷ []) ∷ []) ∷ [])
+unfolding rule_of axiom_rule numbered_rule base_rule base_needs rule_adds members has_axioms all_differ related_value free_field_with update_with free_object_with of_object_with of_field_with name_equal
+axiom-joins = refl
+
+-- The sixth is another for one field than for several.
+axiom-on : rule_of (s.axiom_of 6 one_field None) ≡ rule [] ((ways_on (f ∷ []) ∷ []) ∷ [])
+unfolding rule_of axiom_rule numbered_rule base_rule base_needs rule_adds members has_axioms all_differ related_value free_field_with update_with free_object_with of_object_with of_field_with name_equal
+axiom-on = refl
+
+axiom-up : rule_of (s.axiom_of 6 (t.more f (t.more g t.none)) None) ≡ rule [] ((ways_up (f ∷ g ∷ []) ∷ []) ∷ [])
+unfolding rule_of axiom_rule numbered_rule base_rule base_needs rule_adds members has_axioms all_differ related_value free_field_with update_with free_object_with of_object_with of_field_with name_equal
+axiom-up = refl
+
+axiom-last : rule_of (s.axiom_of 9 one_field None) ≡ rule [] ((one_parent (f ∷ []) ∷ []) ∷ [])
+unfolding rule_of axiom_rule numbered_rule base_rule base_needs rule_adds members has_axioms all_differ related_value free_field_with update_with free_object_with of_object_with of_field_with name_equal
+axiom-last = refl
+
+-- No axiom has the number 0 or 11, nor 10 without a base.
+axiom-zero : rule_of (s.axiom_of 0 one_field None) ≡ None
+unfolding rule_of axiom_rule numbered_rule base_rule base_needs rule_adds members has_axioms all_differ related_value free_field_with update_with free_object_with of_object_with of_field_with name_equal
+axiom-zero = refl
+
+axiom-without-base : rule_of (s.axiom_of 10 one_field None) ≡ None
+unfolding rule_of axiom_rule numbered_rule base_rule base_needs rule_adds members has_axioms all_differ related_value free_field_with update_with free_object_with of_object_with of_field_with name_equal
+axiom-without-base = refl
+
+axiom-eleven : rule_of (s.axiom_of 11 one_field None) ≡ None
+unfolding rule_of axiom_rule numbered_rule base_rule base_needs rule_adds members has_axioms all_differ related_value free_field_with update_with free_object_with of_object_with of_field_with name_equal
+axiom-eleven = refl
+
+-- No axiom is cited of no field, of five, or of one that is written twice.
+axiom-of-none : rule_of (s.axiom_of 1 t.none None) ≡ None
+unfolding rule_of axiom_rule numbered_rule base_rule base_needs rule_adds members has_axioms all_differ related_value free_field_with update_with free_object_with of_object_with of_field_with name_equal
+axiom-of-none = refl
+
+abbrev field : ℕ → FieldTree
+field k = t.free_field (named k)
+
+axiom-of-four : rule_of (s.axiom_of 1 (t.more (field 1) (t.more (field 2) (t.more (field 3) (t.more (field 4) t.none)))) None) ≡ rule [] ((reach_itself (field 1 ∷ field 2 ∷ field 3 ∷ field 4 ∷ []) ∷ []) ∷ [])
+unfolding rule_of axiom_rule numbered_rule base_rule base_needs rule_adds members has_axioms all_differ related_value free_field_with update_with free_object_with of_object_with of_field_with name_equal
+axiom-of-four = refl
+
+axiom-of-five : rule_of (s.axiom_of 1 (t.more (field 1) (t.more (field 2) (t.more (field 3) (t.more (field 4) (t.more (field 5) t.none))))) None) ≡ None
+unfolding rule_of axiom_rule numbered_rule base_rule base_needs rule_adds members has_axioms all_differ related_value free_field_with update_with free_object_with of_object_with of_field_with name_equal
+axiom-of-five = refl
+
+axiom-twice : rule_of (s.axiom_of 1 (t.more f (t.more g (t.more f t.none))) None) ≡ None
+unfolding rule_of axiom_rule numbered_rule base_rule base_needs rule_adds members has_axioms all_differ related_value free_field_with update_with free_object_with of_object_with of_field_with name_equal
+axiom-twice = refl
+
+-- The axiom of an update, of which the member is that update itself, or a name.
+abbrev base : BaseTree
+base = record { place = 0; field = f; at = a; value = b }
+
+axiom-of-update : rule_of (s.axiom_of 10 (t.more (t.update f a (o b)) t.none) (Some base)) ≡ rule [] ((axiom_of_update (t.update f a (o b) ∷ []) base ∷ []) ∷ [])
+unfolding rule_of axiom_rule numbered_rule base_rule base_needs rule_adds members has_axioms all_differ related_value free_field_with update_with free_object_with of_object_with of_field_with name_equal
+axiom-of-update = refl
+
+axiom-of-name : rule_of (s.axiom_of 10 (t.more g t.none) (Some base)) ≡ rule (leads_as g f a b ∷ []) ((axiom_of_update (g ∷ []) base ∷ []) ∷ [])
+unfolding rule_of axiom_rule numbered_rule base_rule base_needs rule_adds members has_axioms all_differ related_value free_field_with update_with free_object_with of_object_with of_field_with name_equal
+axiom-of-name = refl
+
+-- The list before the update may have a field twice: here it is f and f.
+axiom-before-twice : rule_of (s.axiom_of 10 (t.more (t.update f a (o b)) (t.more f t.none)) (Some base)) ≡ rule [] ((axiom_of_update (t.update f a (o b) ∷ f ∷ []) base ∷ []) ∷ [])
+unfolding rule_of axiom_rule numbered_rule base_rule base_needs rule_adds members has_axioms all_differ related_value free_field_with update_with free_object_with of_object_with of_field_with name_equal
+axiom-before-twice = refl
+
+-- A base whose place is past the list, and one beside another axiom.
+axiom-past-list : rule_of (s.axiom_of 10 (t.more g t.none) (Some (record { place = 1; field = f; at = a; value = b }))) ≡ None
+unfolding rule_of axiom_rule numbered_rule base_rule base_needs rule_adds members has_axioms all_differ related_value free_field_with update_with free_object_with of_object_with of_field_with name_equal
+axiom-past-list = refl
+
+axiom-beside-base : rule_of (s.axiom_of 1 (t.more g t.none) (Some base)) ≡ None
+unfolding rule_of axiom_rule numbered_rule base_rule base_needs rule_adds members has_axioms all_differ related_value free_field_with update_with free_object_with of_object_with of_field_with name_equal
+axiom-beside-base = refl
+
+-- Operands without loose bound variables, and a base with one.
+axiom-closed : is_closed_step (s.axiom_of 10 (t.more g t.none) (Some base)) ≡ true
+unfolding is_closed_step is_closed_base is_closed_formula
+axiom-closed = refl
+
+axiom-loose : is_closed_step (s.axiom_of 10 (t.more g t.none) (Some (record { place = 0; field = f; at = t.bound 0; value = b }))) ≡ false
+unfolding is_closed_step is_closed_base is_closed_formula
+axiom-loose = refl
 
 -- Relations of sets, opened once, under a negation too; membership in a name isn't opened.
 equal-opened : fact_opened (t.eq_set A B) ≡ Some (t.all (t.iff (t.member (t.bound 0) A) (t.member (t.bound 0) B)))

@@ -3,5 +3,6 @@ mod Cases
 mod Truths
 mod Equations
 mod Openings
+mod Citing
 mod Soundness
 pub mod Trees

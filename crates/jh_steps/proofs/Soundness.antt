@@ -1,10 +1,10 @@
 -- A step that meets its rule from facts that are true together leads to a branch whose facts are.
-use Rattle.std.proofs.Common.{◌≡◌, refl, sym, subst, ◌∙◌, ℕ, suc, ◌<◌, Bool, true, false, not, ◌&&◌, if◌then◌else◌, List, [], ◌∷◌, ◌++◌, ◌⊎◌, inl, inr, Option, Some, None}
+use Rattle.std.proofs.Common.{◌≡◌, refl, sym, subst, ◌∙◌, ℕ, zero, suc, ◌<◌, ◌==◌, Bool, true, false, not, ◌&&◌, if◌then◌else◌, List, [], ◌∷◌, ◌++◌, ◌⊎◌, inl, inr, Option, Some, None, slice_get}
 use Rattle.std.proofs.lemmas.Bool.{true≢false, eqb-true}
 use Rattle.jh_name.specs.declared.naming.Name.{Name}
 use Rattle.jh_tree.specs.Tree.{TermTree, FieldTree, ValueTree, FormulaTree}
 use Rattle.jh_tree.specs.Tree as t
-use Rattle.jh_tree.specs.Closed.{is_closed_term, is_closed_value, is_closed_formula}
+use Rattle.jh_tree.specs.Closed.{is_closed_term, is_closed_value, is_closed_formula, is_closed_fields}
 use Rattle.jh_tree.specs.Passing.{formula_passes, name_equal}
 use Rattle.jh_tree.specs.Agreement.{AgreeOn}
 use Rattle.jh_tree.specs.Assigned.{assigned}
@@ -15,14 +15,19 @@ use Rattle.jh_tree.proofs.Names.{name_equal-same}
 use Rattle.jh_tree.proofs.Universes.{term_inside}
 use Rattle.jh_subst.specs.Opened.{opened}
 use Rattle.jh_subst.proofs.Openings.{truth-opened}
+use Rattle.jh_compare.proofs.Equalities.{equal_trees-true}
 use Rattle.jh_compare.proofs.ExchangeMeanings.{exchange-keeps}
+use Rattle.jh_reach.specs.Axioms.{BaseTree, axioms_of_list}
+use Rattle.jh_reach.specs.Truths.{AreClosed, AxiomsAreTrue}
+use Rattle.jh_steps.specs.Cited.{members, are_one, has_axioms, update_of, is_closed_base}
 use Rattle.jh_steps.specs.Steps.{StepTree}
 use Rattle.jh_steps.specs.Steps as s
-use Rattle.jh_steps.specs.Rules.{Rule, equation, pushed, described, fact_opened, rule_adds, rule_from, rule_from_two, conjunction_rule, disjunction_rule, implication_rule, equivalence_rule, negation_rule, instance_rule, witness_rule, update_rule, rule_of, is_closed_step, Has, HasAll, IsFresh, Suits, Meets}
+use Rattle.jh_steps.specs.Rules.{Rule, equation, pushed, leads_as, described, fact_opened, rule_adds, rule_from, rule_from_two, conjunction_rule, disjunction_rule, implication_rule, equivalence_rule, negation_rule, instance_rule, witness_rule, update_rule, base_needs, base_rule, numbered_rule, axiom_rule, rule_of, is_closed_step, Has, HasAll, IsFresh, Suits, Meets}
 use Rattle.jh_steps.specs.Closes.{AllHold, Clash}
 use Rattle.jh_steps.proofs.Truths.{true-or-false, both-true, either-true, implies-true, agree-either, not-true, not-false, some-found, every-at}
 use Rattle.jh_steps.proofs.Equations.{Holds, HoldsIf, inside-none, equation-same, same-equation, same-sym, same-trans, reads-true, refuted-false}
 use Rattle.jh_steps.proofs.Openings.{pushed-true, described-true, opened-true}
+use Rattle.jh_steps.proofs.Citing.{LeadsThere, members-closed, holds-if, is-update-leads, leads-as-told, listed-true, update-true}
 
 pub hold-has : (m : Interp) (fs : List FormulaTree) (a : FormulaTree) → AllHold m fs → Has fs a → truth a m [] ≡ true
 hold-has m [] a h has = absurd has
@@ -96,6 +101,33 @@ unfolding update_rule
 update-sound m (t.update f a v) = adds-sound m [] (described (t.update f a v) f a v) (λ hold. described-true m f a v)
 update-sound m (t.free_field x) = tt
 
+-- the axioms of reachability that steps cite
+if-sound : (m : Interp) (c : Bool) (r : Option Rule) → Sound m r → Sound m (if c then r else None)
+if-sound m true r h = h
+if-sound m false r h = tt
+
+module _ (m : Interp) (inside : InUniverse m) (truths : AxiomsAreTrue) (fs : List FieldTree) (closed : AreClosed fs) where
+  -- where what the axiom needs is true, the member leads where the update leads
+  needs-lead : (u : BaseTree) (g : FieldTree) → slice_get fs u.place ≡ Some g → is_closed_base (Some u) ≡ true → (same : Bool) → are_one g (update_of u) ≡ same →
+      AllHold m (if same then [] else leads_as g u.field u.at u.value ∷ []) → LeadsThere m g u
+  needs-lead u g e base true is hold = is-update-leads m g u (equal_trees-true (t.of_field g) (t.of_field (update_of u)) is)
+  needs-lead u g e base false is hold = leads-as-told m fs u g closed e base hold.0
+
+  base-sound : (u : BaseTree) → is_closed_base (Some u) ≡ true → (o : Option FieldTree) → slice_get fs u.place ≡ o → Sound m (base_rule fs u o)
+  unfolding base_rule base_needs
+  base-sound u base None e = tt
+  base-sound u base (Some g) e = λ hold. inl (update-true m inside truths fs closed u g e base (needs-lead u g e base (are_one g (update_of u)) refl hold), tt)
+
+  numbered-sound : (n : ℕ) (base : Option BaseTree) → is_closed_base base ≡ true → Sound m (numbered_rule n fs base)
+  unfolding numbered_rule
+  numbered-sound zero base h = tt
+  numbered-sound (suc k) None h = adds-sound m [] (slice_get (axioms_of_list fs) k) (λ hold. holds-if m (slice_get (axioms_of_list fs) k) (listed-true m inside truths fs closed k))
+  numbered-sound (suc k) (Some u) h = if-sound m (k == 9) (base_rule fs u (slice_get fs u.place)) (base-sound u h (slice_get fs u.place) refl)
+
+  axiom-sound : (n : ℕ) (base : Option BaseTree) → is_closed_base base ≡ true → Sound m (axiom_rule n fs base)
+  unfolding axiom_rule
+  axiom-sound n base h = if-sound m (has_axioms fs) (numbered_rule n fs base) (numbered-sound n base h)
+
 cut-sound : (m : Interp) (a : FormulaTree) → AllHold m (a ∷ []) ⊎ (AllHold m (t.negation a ∷ []) ⊎ ⊥)
 cut-sound m a = elim (true-or-false (truth a m [])) [ inl l ↦ inl (l, tt) | inr r ↦ inr (inl (not-false (truth a m []) r, tt)) ]
 
@@ -113,31 +145,32 @@ abbrev IsPlain : StepTree → Type 0
 IsPlain (s.witness a x) = ⊥
 IsPlain _ = Unit {0}
 
-plain-sound : (m : Interp) → InUniverse m → (fs : List FormulaTree) (x : StepTree) → IsPlain x → is_closed_step x ≡ true → Suits fs x → Sound m (rule_of x)
+plain-sound : AxiomsAreTrue → (m : Interp) → InUniverse m → (fs : List FormulaTree) (x : StepTree) → IsPlain x → is_closed_step x ≡ true → Suits fs x → Sound m (rule_of x)
 unfolding rule_of is_closed_step
-plain-sound m inside fs s.absurdity plain closed suits = λ hold. true≢false (sym hold.0)
-plain-sound m inside fs (s.pair a) plain closed suits = λ hold. not-true (truth a m []) hold.1.0 hold.0
-plain-sound m inside fs (s.reflexive a) plain closed suits = λ hold. refuted-false m a suits hold.0
-plain-sound m inside fs (s.symmetric v w) plain closed suits =
+plain-sound truths m inside fs s.absurdity plain closed suits = λ hold. true≢false (sym hold.0)
+plain-sound truths m inside fs (s.pair a) plain closed suits = λ hold. not-true (truth a m []) hold.1.0 hold.0
+plain-sound truths m inside fs (s.reflexive a) plain closed suits = λ hold. refuted-false m a suits hold.0
+plain-sound truths m inside fs (s.symmetric v w) plain closed suits =
     from-sound m (equation v w) [] (equation w v) (λ h hold. same-equation m w v (same-sym m.last (datum v m []) (datum w m []) (equation-same m v w h)))
-plain-sound m inside fs (s.transitive v w x) plain closed suits =
+plain-sound truths m inside fs (s.transitive v w x) plain closed suits =
     two-sound m (equation v w) (equation w x) (equation v x)
     (λ h k. same-equation m v x (same-trans m.last (datum v m []) (datum w m []) (datum x m []) (equation-same m v w h) (equation-same m w x k)))
-plain-sound m inside fs (s.reading k f a b) plain closed suits = λ hold. inl (reads-true m k f a b (equal-terms m a b hold.0), tt)
-plain-sound m inside fs (s.replacing a b v w) plain closed suits =
+plain-sound truths m inside fs (s.reading k f a b) plain closed suits = λ hold. inl (reads-true m k f a b (equal-terms m a b hold.0), tt)
+plain-sound truths m inside fs (s.replacing a b v w) plain closed suits =
     from-sound m (equation v w) (a ∷ []) (Some b)
     (λ h hold. sym (exchange-keeps a b v w suits (closed-third a b v w closed) (closed-fourth a b v w closed) m inside (equation-same m v w h) [] (inside-none m.last)) ∙ hold.0)
-plain-sound m inside fs (s.conjuncts a) plain closed suits = conjunction-sound m a
-plain-sound m inside fs (s.disjuncts a) plain closed suits = disjunction-sound m a
-plain-sound m inside fs (s.implication a) plain closed suits = implication-sound m a
-plain-sound m inside fs (s.equivalence a) plain closed suits = equivalence-sound m a
-plain-sound m inside fs (s.inward a) plain closed suits = negation-sound m a
-plain-sound m inside fs (s.instance_at a b) plain closed suits = instance-sound m inside a b (both-right (is_closed_formula a 0) (is_closed_term b 0) closed)
-plain-sound m inside fs (s.witness a x) plain closed suits = absurd plain
-plain-sound m inside fs (s.cut a) plain closed suits = λ hold. cut-sound m a
-plain-sound m inside fs (s.updating f) plain closed suits = update-sound m f
-plain-sound m inside fs (s.axiom_of n gs b) plain closed suits = tt
-plain-sound m inside fs (s.relation a) plain closed suits = adds-sound m (a ∷ []) (fact_opened a) (λ hold. opened-true m a closed hold.0)
+plain-sound truths m inside fs (s.conjuncts a) plain closed suits = conjunction-sound m a
+plain-sound truths m inside fs (s.disjuncts a) plain closed suits = disjunction-sound m a
+plain-sound truths m inside fs (s.implication a) plain closed suits = implication-sound m a
+plain-sound truths m inside fs (s.equivalence a) plain closed suits = equivalence-sound m a
+plain-sound truths m inside fs (s.inward a) plain closed suits = negation-sound m a
+plain-sound truths m inside fs (s.instance_at a b) plain closed suits = instance-sound m inside a b (both-right (is_closed_formula a 0) (is_closed_term b 0) closed)
+plain-sound truths m inside fs (s.witness a x) plain closed suits = absurd plain
+plain-sound truths m inside fs (s.cut a) plain closed suits = λ hold. cut-sound m a
+plain-sound truths m inside fs (s.updating f) plain closed suits = update-sound m f
+plain-sound truths m inside fs (s.axiom_of n gs base) plain closed suits =
+    axiom-sound m inside truths (members gs) (members-closed gs (both-left (is_closed_fields gs 0) (is_closed_base base) closed)) n base (both-right (is_closed_fields gs 0) (is_closed_base base) closed)
+plain-sound truths m inside fs (s.relation a) plain closed suits = adds-sound m (a ∷ []) (fact_opened a) (λ hold. opened-true m a closed hold.0)
 
 -- A witness: the interpretation with an object for the name makes the old facts and the new one true.
 fresh-holds : (m n : Interp) (fs : List FormulaTree) (x : Name) → AgreeOn (λ y u. not (name_equal y x)) m n → IsFresh fs x → AllHold m fs → AllHold n fs
@@ -197,9 +230,9 @@ some-clash m fs [] inside hold clash found = found
 some-clash m fs (added ∷ rest) inside hold clash (inl here) = clash.0 m inside (hold-append m fs added hold here)
 some-clash m fs (added ∷ rest) inside hold clash (inr later) = some-clash m fs rest inside hold clash.1 later
 
-plain-clash : (fs : List FormulaTree) (x : StepTree) (r : Rule) → IsPlain x → Meets fs x r → BranchesClash fs r.adds → Clash fs
-plain-clash fs x r plain meets clash m inside hold =
-    let sound : Sound m (Some r) = subst (λ (o : Option Rule). Sound m o) meets.form (plain-sound m inside fs x plain meets.closed meets.suits) in
+plain-clash : AxiomsAreTrue → (fs : List FormulaTree) (x : StepTree) (r : Rule) → IsPlain x → Meets fs x r → BranchesClash fs r.adds → Clash fs
+plain-clash truths fs x r plain meets clash m inside hold =
+    let sound : Sound m (Some r) = subst (λ (o : Option Rule). Sound m o) meets.form (plain-sound truths m inside fs x plain meets.closed meets.suits) in
     some-clash m fs r.adds inside hold clash (sound (hold-all m fs r.needs hold meets.facts))
 
 -- the rule of a witness, where its formula is existential
@@ -218,6 +251,6 @@ taken-clash fs a x r meets clash =
     let taken : IsWitness fs a x (Some r) = subst (λ (o : Option Rule). IsWitness fs a x o) meets.form (witness-rule fs a x) in
     taken meets.facts clash meets.suits
 
-pub step-clash : (fs : List FormulaTree) (x : StepTree) (r : Rule) → Meets fs x r → BranchesClash fs r.adds → Clash fs
-step-clash fs (s.witness a x) r meets clash = taken-clash fs a x r meets clash
-step-clash fs x r meets clash = plain-clash fs x r tt meets clash
+pub step-clash : AxiomsAreTrue → (fs : List FormulaTree) (x : StepTree) (r : Rule) → Meets fs x r → BranchesClash fs r.adds → Clash fs
+step-clash truths fs (s.witness a x) r meets clash = taken-clash fs a x r meets clash
+step-clash truths fs x r meets clash = plain-clash truths fs x r tt meets clash

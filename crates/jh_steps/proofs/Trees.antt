@@ -6,6 +6,7 @@ use Rattle.jh_tree.specs.Tree as t
 use Rattle.jh_tree.specs.Meaning.{Interp, truth}
 use Rattle.jh_compare.specs.Unmarked.{unmarked_formula}
 use Rattle.jh_sequent.specs.Sequents.{HypTree, SequentTree, AllTrue, IsValid}
+use Rattle.jh_reach.specs.Truths.{AxiomsAreTrue}
 use Rattle.jh_steps.specs.Steps.{StepTree, bare_step}
 use Rattle.jh_steps.specs.Rules.{Rule, Meets}
 use Rattle.jh_steps.specs.Closes.{Closes, AllClose, step, none, more, after, Runs, FailsAt, AllHold, Clash, ClosesSequent, facts_of}
@@ -14,22 +15,22 @@ use Rattle.jh_steps.proofs.Unmarkings.{truth-unmarked}
 use Rattle.jh_steps.proofs.Soundness.{BranchesClash, step-clash, hold-append}
 
 mutual
-  pub closes-clash : (fs : List FormulaTree) (ss : List StepTree) → Closes fs ss → Clash fs
-  closes-clash _ _ (step fs s r ss meets rest) = step-clash fs s r meets (all-clash fs r.adds ss rest)
+  pub closes-clash : AxiomsAreTrue → (fs : List FormulaTree) (ss : List StepTree) → Closes fs ss → Clash fs
+  closes-clash truths _ _ (step fs s r ss meets rest) = step-clash truths fs s r meets (all-clash truths fs r.adds ss rest)
 
-  all-clash : (fs : List FormulaTree) (adds : List (List FormulaTree)) (ss : List StepTree) → AllClose fs adds ss → BranchesClash fs adds
-  all-clash _ _ _ (none fs) = tt
-  all-clash _ _ _ (more fs added rest ss later here behind) = (closes-clash (fs ++ added) ss here, all-clash fs rest later behind)
+  all-clash : AxiomsAreTrue → (fs : List FormulaTree) (adds : List (List FormulaTree)) (ss : List StepTree) → AllClose fs adds ss → BranchesClash fs adds
+  all-clash truths _ _ _ (none fs) = tt
+  all-clash truths _ _ _ (more fs added rest ss later here behind) = (closes-clash truths (fs ++ added) ss here, all-clash truths fs rest later behind)
 
 hyps-hold : (m : Interp) (hs : List HypTree) → AllTrue hs m → AllHold m (map (λ (h : HypTree). unmarked_formula h.fact) hs)
 hyps-hold m [] h = tt
 hyps-hold m (x ∷ hs) h = (truth-unmarked x.fact m [] ∙ h.0, hyps-hold m hs h.1)
 
-pub closes-valid : (steps : List StepTree) (s : SequentTree) → ClosesSequent steps s → IsValid s
-closes-valid steps s closes m inside all =
+pub closes-valid : AxiomsAreTrue → (steps : List StepTree) (s : SequentTree) → ClosesSequent steps s → IsValid s
+closes-valid truths steps s closes m inside all =
     elim (true-or-false (truth s.goal m [])) [
       | inl holds ↦ holds
-      | inr fails ↦ absurd (closes-clash (facts_of s) (map bare_step steps) closes m inside
+      | inr fails ↦ absurd (closes-clash truths (facts_of s) (map bare_step steps) closes m inside
           (hold-append m (map (λ (h : HypTree). unmarked_formula h.fact) s.hyps) (t.negation (unmarked_formula s.goal) ∷ []) (hyps-hold m s.hyps all)
           (not-false (truth (unmarked_formula s.goal) m []) (truth-unmarked s.goal m [] ∙ fails), tt)))
     ]

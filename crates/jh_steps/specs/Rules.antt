@@ -1,16 +1,18 @@
 -- The rules of derivations. A step has the formulas that have to be facts, and the branches that it leads to, each
 -- with the facts that it adds. It meets its rule where its operands have the rule's form and no loose bound variable,
 -- what it needs are facts, and what else its rule asks for is so. All trees here are without labels.
-use Rattle.std.specs.Prelude.{◌≡◌, Bool, true, not, ◌&&◌, List, [], ◌∷◌, ◌⊎◌, Option, None, Some}
+use Rattle.std.specs.Prelude.{◌≡◌, ℕ, zero, suc, Bool, true, not, ◌&&◌, ◌==◌, if◌then◌else◌, List, [], ◌∷◌, ◌⊎◌, Option, None, Some, slice_get}
 use Rattle.jh_name.specs.declared.naming.Name.{Name}
 use Rattle.jh_name.specs.declared.place.Kind.{Kind}
 use Rattle.jh_name.specs.declared.place.Kind.TheVariants as kind
 use Rattle.jh_tree.specs.Tree.{TermTree, FieldTree, SetTree, ValueTree, FormulaTree}
 use Rattle.jh_tree.specs.Tree as t
-use Rattle.jh_tree.specs.Closed.{is_closed_term, is_closed_field, is_closed_value, is_closed_formula}
+use Rattle.jh_tree.specs.Closed.{is_closed_term, is_closed_field, is_closed_value, is_closed_formula, is_closed_fields}
 use Rattle.jh_tree.specs.Passing.{formula_passes, name_equal}
 use Rattle.jh_subst.specs.Opened.{opened}
 use Rattle.jh_compare.specs.Exchanged.{Exchanged}
+use Rattle.jh_reach.specs.Axioms.{BaseTree, axioms_of_list, axiom_of_update}
+use Rattle.jh_steps.specs.Cited.{members, are_one, has_axioms, update_of, is_closed_base}
 use Rattle.jh_steps.specs.Steps.{StepTree}
 use Rattle.jh_steps.specs.Steps as s
 
@@ -55,10 +57,14 @@ pushed _ = None
 abbrev pub at_each : TermTree → FormulaTree → FormulaTree → FormulaTree
 at_each a this that = t.all (t.and (t.implies (t.eq_object (t.bound 0) a) this) (t.implies (t.negation (t.eq_object (t.bound 0) a)) that))
 
--- What an update gives at each object: its value at its own object, and elsewhere what the updated field gives. An
--- update whose value is a field has no such formula.
+-- What an update by an object gives at each object, said of the field g: the value at the update's own object, and
+-- elsewhere what the updated field f gives.
+abbrev pub leads_as : FieldTree → FieldTree → TermTree → TermTree → FormulaTree
+leads_as g f a v = at_each a (t.eq_object (t.read_object g (t.bound 0)) v) (t.eq_object (t.read_object g (t.bound 0)) (t.read_object f (t.bound 0)))
+
+-- The same of an update by any value. An update whose value is a field has no such formula.
 unfoldable pub described : FieldTree → FieldTree → TermTree → ValueTree → Option FormulaTree
-described g f a (t.of_object v) = Some (at_each a (t.eq_object (t.read_object g (t.bound 0)) v) (t.eq_object (t.read_object g (t.bound 0)) (t.read_object f (t.bound 0))))
+described g f a (t.of_object v) = Some (leads_as g f a v)
 described g f a (t.of_number v) = Some (at_each a (t.eq_number (t.read_number g (t.bound 0)) v) (t.eq_number (t.read_number g (t.bound 0)) (t.read_number f (t.bound 0))))
 described g f a (t.of_truth v) = Some (at_each a (t.iff (t.read_truth g (t.bound 0)) v) (t.iff (t.read_truth g (t.bound 0)) (t.read_truth f (t.bound 0))))
 described g f a (t.of_set v) = Some (at_each a (t.eq_set (t.read_set g (t.bound 0)) v) (t.eq_set (t.read_set g (t.bound 0)) (t.read_set f (t.bound 0))))
@@ -139,7 +145,28 @@ unfoldable pub update_rule : FieldTree → Option Rule
 update_rule (t.update f a v) = rule_adds [] (described (t.update f a v) f a v)
 update_rule (t.free_field x) = None
 
--- What a step needs and where it leads to, by the form of its operands. No axiom is at hand yet.
+-- What the axiom of an update needs, of the member at the base's place: nothing where that member is the update itself,
+-- else what the update gives at each object, said of the member.
+unfoldable pub base_needs : FieldTree → BaseTree → List FormulaTree
+base_needs g u = if are_one g (update_of u) then [] else leads_as g u.field u.at u.value ∷ []
+
+-- the rule that adds the axiom of an update, where the list has such a member
+unfoldable pub base_rule : List FieldTree → BaseTree → Option FieldTree → Option Rule
+base_rule fs u (Some g) = rule (base_needs g u) ((axiom_of_update fs u ∷ []) ∷ [])
+base_rule fs u None = None
+
+-- The rule that adds an axiom of reachability, by its number: 1 to 9 are those of a list without a base, in their order,
+-- and 10 is that of the update that a base tells of. A base goes with no other number, and 10 with none but a base.
+unfoldable pub numbered_rule : ℕ → List FieldTree → Option BaseTree → Option Rule
+numbered_rule zero fs base = None
+numbered_rule (suc k) fs None = rule_adds [] (slice_get (axioms_of_list fs) k)
+numbered_rule (suc k) fs (Some u) = if k == 9 then base_rule fs u (slice_get fs u.place) else None
+
+-- the same, where the list is one of those that have axioms
+unfoldable pub axiom_rule : ℕ → List FieldTree → Option BaseTree → Option Rule
+axiom_rule n fs base = if has_axioms fs then numbered_rule n fs base else None
+
+-- What a step needs and where it leads to, by the form of its operands.
 unfoldable pub rule_of : StepTree → Option Rule
 rule_of s.absurdity = rule (t.false_formula ∷ []) []
 rule_of (s.pair a) = rule (a ∷ t.negation a ∷ []) []
@@ -157,7 +184,7 @@ rule_of (s.instance_at a b) = instance_rule a b
 rule_of (s.witness a x) = witness_rule a x
 rule_of (s.cut a) = rule [] ((a ∷ []) ∷ (t.negation a ∷ []) ∷ [])
 rule_of (s.updating f) = update_rule f
-rule_of (s.axiom_of n fs b) = None
+rule_of (s.axiom_of n fs base) = axiom_rule n (members fs) base
 rule_of (s.relation a) = rule_adds (a ∷ []) (fact_opened a)
 
 -- The operands have no loose bound variable. The term of an instance and the name of a witness count.
@@ -178,7 +205,7 @@ is_closed_step (s.instance_at a b) = is_closed_formula a 0 && is_closed_term b 0
 is_closed_step (s.witness a x) = is_closed_formula a 0
 is_closed_step (s.cut a) = is_closed_formula a 0
 is_closed_step (s.updating f) = is_closed_field f 0
-is_closed_step (s.axiom_of n fs b) = true
+is_closed_step (s.axiom_of n fs base) = is_closed_fields fs 0 && is_closed_base base
 is_closed_step (s.relation a) = is_closed_formula a 0
 
 -- no structure meets it: something isn't itself, or two different constants are equal

@@ -5,16 +5,11 @@ use Rattle.jh_name.specs.declared.place.Kind.{Kind}
 use Rattle.jh_tree.specs.Tree.{TermTree, FieldTree, FieldTrees, ValueTree, FormulaTree}
 use Rattle.jh_tree.specs.Bare.{term_tree, field_tree, value_tree, formula_tree, list_tree}
 use Rattle.jh_compare.specs.Unmarked.{unmarked_term, unmarked_field, unmarked_fields, unmarked_value, unmarked_formula}
+use Rattle.jh_reach.specs.Axioms.{BaseTree}
 use Rattle.jh_steps.specs.declared.step.Base.{Base}
 use Rattle.jh_steps.specs.declared.step.DerivStep.{DerivStep}
 use Rattle.jh_steps.specs.declared.step.DerivStep.TheVariants as d
 use Rattle.jh_steps.specs.declared.step.Derivation.{Derivation}
-
-pub record BaseTree : Type 0 where
-  pub place : ℕ
-  pub field : FieldTree
-  pub at : TermTree
-  pub value : TermTree
 
 pub data StepTree : Type 0 where
   absurdity : StepTree
