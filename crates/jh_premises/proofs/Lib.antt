@@ -6,3 +6,5 @@ pub mod Others
 pub mod Ruling
 pub mod Forms
 pub mod Describing
+pub mod Members
+pub mod Cited

@@ -2,9 +2,11 @@
 use Rattle.std.specs.Prelude.{◌≡◌, ℕ, List, [], ◌∷◌, Option, Some, None, Result, Ok, Err, slice_get}
 use Rattle.jh_name.specs.declared.naming.Name.{Name}
 use Rattle.jh_name.specs.declared.memory.NoMemory.{NoMemory}
-use Rattle.jh_tree.specs.Tree.{TermTree, IntTree, FieldTree, SetTree, ValueTree, FormulaTree, of_object, of_number, of_truth, of_set, of_field}
+use Rattle.jh_tree.specs.Tree.{TermTree, IntTree, FieldTree, FieldTrees, SetTree, ValueTree, FormulaTree, of_object, of_number, of_truth, of_set, of_field}
 use Rattle.jh_tree.specs.Tree as t
 pub use Rattle.jh_closing.specs.Standing.{formula_at, term_at, field_at, number_at, set_at, value_at, IsFormula, IsTerm, IsField, IsNumber, IsSet, IsValue}
+use Rattle.jh_reach.specs.Axioms.{BaseTree}
+use Rattle.jh_steps.specs.Cited.{update_of}
 use Rattle.jh_steps.specs.Steps.{StepTree}
 use Rattle.jh_steps.specs.Steps as s
 use Rattle.jh_steps.specs.Rules.{Rule}
@@ -75,6 +77,36 @@ name_of _ = record { text = []; turn = 0 }
 abbrev pub IsName : List ValueTree → ℕ → Type 0
 IsName ts k = slice_get ts k ≡ Some (of_object (t.free_object (name_of (term_at ts k))))
 
+-- the fields of a formula that says that they are a forest
+unfoldable pub forest_fields : FormulaTree → FieldTrees
+forest_fields (t.tree fs) = fs
+forest_fields _ = t.none
+
+-- the node says that some fields are a forest
+abbrev pub IsForest : List ValueTree → ℕ → Type 0
+IsForest ts k = slice_get ts k ≡ Some (of_truth (t.tree (forest_fields (formula_at ts k))))
+
+-- the parts of an update by an object
+unfoldable pub changed_field : FieldTree → FieldTree
+changed_field (t.update f a v) = f
+changed_field (t.free_field x) = t.free_field x
+
+unfoldable pub changed_at : FieldTree → TermTree
+changed_at (t.update f a v) = a
+changed_at (t.free_field x) = t.null
+
+unfoldable pub changed_value : FieldTree → TermTree
+changed_value (t.update f a (of_object v)) = v
+changed_value _ = t.null
+
+-- the base of which the update at a node tells, for the member at a place
+abbrev pub base_at : List ValueTree → ℕ → ℕ → BaseTree
+base_at ts place k = record { place = place; field = changed_field (field_at ts k); at = changed_at (field_at ts k); value = changed_value (field_at ts k) }
+
+-- an update by an object stands at the node
+abbrev pub IsUpdate : List ValueTree → ℕ → Type 0
+IsUpdate ts k = slice_get ts k ≡ Some (of_field (update_of (base_at ts 0 k)))
+
 -- the step that nodes stand for
 unfoldable pub step_at : List ValueTree → NodeStep → StepTree
 step_at ts d.Absurd = s.absurdity
@@ -93,6 +125,8 @@ step_at ts (d.Instance x y) = s.instance_at (formula_at ts x) (term_at ts y)
 step_at ts (d.Witness x y) = s.witness (formula_at ts x) (name_of (term_at ts y))
 step_at ts (d.Cut x) = s.cut (formula_at ts x)
 step_at ts (d.Updating f) = s.updating (field_at ts f)
+step_at ts (d.Axiom n x) = s.axiom_of n (forest_fields (formula_at ts x)) None
+step_at ts (d.BasedAxiom n x place u) = s.axiom_of n (forest_fields (formula_at ts x)) (Some (base_at ts place u))
 step_at ts (d.Relation x) = s.relation (formula_at ts x)
 
 -- its nodes are of their sorts
@@ -113,4 +147,6 @@ AreOperands ts (d.Instance x y) = IsFormula ts x × IsTerm ts y
 AreOperands ts (d.Witness x y) = IsFormula ts x × IsName ts y
 AreOperands ts (d.Cut x) = IsFormula ts x
 AreOperands ts (d.Updating f) = IsField ts f
+AreOperands ts (d.Axiom n x) = IsForest ts x
+AreOperands ts (d.BasedAxiom n x place u) = IsForest ts x × IsUpdate ts u
 AreOperands ts (d.Relation x) = IsFormula ts x

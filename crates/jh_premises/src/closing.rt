@@ -1,13 +1,32 @@
 #![tactic(auto, unfolding(crate::specs::Nodes::step_at, crate::specs::Nodes::AreOperands, jh_steps::specs::Rules::is_closed_step))]
 
-ghost use Rattle.std.specs.Prelude.{◌≡◌};
+ghost use Rattle.std.specs.Prelude.{◌≡◌, ◌&&◌, ℕ, None, Some};
+ghost use Rattle.jh_tree.specs.Closed.{is_closed_fields};
 ghost use Rattle.jh_table.specs.Nodes.{nodes};
+ghost use Rattle.jh_steps.specs.Cited.{is_closed_base};
 ghost use Rattle.jh_steps.specs.Rules.{is_closed_step};
-ghost use Rattle.jh_premises.specs.Nodes.{step_at, AreOperands};
+ghost use Rattle.jh_premises.specs.Nodes.{formula_at, base_at, forest_fields, step_at, AreOperands, IsForest, IsUpdate};
 
 use crate::nodes::NodeStep;
 use jh_closing::{field, formula, reading, replacing, three, values, with_term};
 use jh_table::Table;
+
+/// Whether the fields of which a node says that they are a forest have no loose bound variable.
+fn listed(table: &Table, list: usize) -> bool
+    requires { IsForest (nodes table.now) list }
+    ensures { result ≡ (is_closed_fields (forest_fields (formula_at (nodes table.now) list)) 0 && is_closed_base None) }
+{
+    formula(table, list)
+}
+
+/// Whether they and the base of which an update tells have none.
+fn based(table: &Table, list: usize, update: usize) -> bool
+    requires list { IsForest (nodes table.now) list }
+    requires update { IsUpdate (nodes table.now) update }
+    ensures { (place : ℕ) → result ≡ (is_closed_fields (forest_fields (formula_at (nodes table.now) list)) 0 && is_closed_base (Some (base_at (nodes table.now) place update))) }
+{
+    formula(table, list) && field(table, update)
+}
 
 /// Whether no operand of a step has a loose bound variable. It takes no memory.
 pub fn is_closed(table: &Table, step: NodeStep) -> bool
@@ -31,6 +50,8 @@ pub fn is_closed(table: &Table, step: NodeStep) -> bool
         NodeStep::Witness(node, _) => formula(table, node),
         NodeStep::Cut(node) => formula(table, node),
         NodeStep::Updating(node) => field(table, node),
+        NodeStep::Axiom(_, list) => listed(table, list),
+        NodeStep::BasedAxiom(_, list, _, update) => based(table, list, update),
         NodeStep::Relation(node) => formula(table, node),
     }
 }

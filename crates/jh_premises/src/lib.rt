@@ -2,8 +2,10 @@
 #![tactic(auto)]
 
 mod adding;
+mod citing;
 mod closing;
 mod equations;
+mod fields;
 mod forming;
 mod making;
 mod nodes;

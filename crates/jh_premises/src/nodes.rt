@@ -42,5 +42,9 @@ pub enum NodeStep {
     Witness(usize, usize),
     Cut(usize),
     Updating(usize),
+    /// The number of an axiom of reachability, and the node of that its fields are a forest.
+    Axiom(u8, usize),
+    /// The same with a base: the place of a member, and the update that it is or stands for.
+    BasedAxiom(u8, usize, u32, usize),
     Relation(usize),
 }

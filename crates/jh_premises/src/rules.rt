@@ -13,7 +13,7 @@ use crate::making::negation;
 use crate::nodes::{Adds, NodeRule, NodeStep, Nodes};
 use crate::opening::fact_opened;
 use crate::updates::updating;
-use crate::{forming, parting};
+use crate::{citing, forming, parting};
 use jh_name::{Kind, NoMemory};
 use jh_table::{Shape, Table};
 
@@ -163,6 +163,10 @@ pub fn rule_of(table: &mut Table, step: NodeStep) -> Result<Option<NodeRule>, No
         NodeStep::Witness(node, name) => forming::witness(table, node, name),
         NodeStep::Cut(node) => cut(table, node),
         NodeStep::Updating(field) => updating(table, field),
+        NodeStep::Axiom(number, list) => citing::listed(table, number, list),
+        NodeStep::BasedAxiom(number, list, place, update) => {
+            citing::based(table, number, list, place, update)
+        }
         NodeStep::Relation(node) => relation(table, node),
     }
 }
