@@ -1,5 +1,6 @@
 pub mod Opens
 pub mod Following
 pub mod Operands
+pub mod Bares
 pub mod Sights
 pub mod Turning

@@ -1,7 +1,9 @@
 -- Branches that are open, over nodes, and what a turn of the replay does.
 use Rattle.std.specs.Prelude.{◌≡◌, ◌≤◌, ℕ, Bool, true, false, List, [], ◌∷◌, ◌++◌, map, Option, Some, None, Result, Ok, Err, length}
 use Rattle.jh_name.specs.declared.memory.NoMemory.{NoMemory}
-use Rattle.jh_tree.specs.Tree.{ValueTree, IntTree, FormulaTree}
+use Rattle.jh_tree.specs.declared.form.FieldTerm.{FieldTerm}
+use Rattle.jh_tree.specs.Tree.{FieldTree, ValueTree, IntTree, FormulaTree}
+use Rattle.jh_tree.specs.Bare.{field_tree}
 use Rattle.jh_sequent.specs.Sequents.{HypTree, hyp_tree}
 use Rattle.jh_sequent.specs.declared.sequent.Hyp.{Hyp}
 use Rattle.jh_steps.specs.Steps.{StepTree, step_tree, bare_step}
@@ -10,7 +12,7 @@ use Rattle.jh_tree.specs.Tree as t
 use Rattle.jh_steps.specs.Steps as s
 use Rattle.jh_steps.specs.Rules.{Rule, rule_of, is_closed_step, IsRefuted, IsFresh, Meets}
 use Rattle.jh_compare.specs.Exchanged.{Exchanged}
-use Rattle.jh_compare.specs.Unmarked.{unmarked_formula}
+use Rattle.jh_compare.specs.Unmarked.{unmarked_field, unmarked_formula}
 use Rattle.jh_steps.specs.Closes.{after, Runs, FailsAt}
 use Rattle.jh_premises.specs.declared.nodes.NodeRule.{NodeRule}
 use Rattle.jh_premises.specs.declared.nodes.NodeStep.{NodeStep}
@@ -47,10 +49,13 @@ abbrev pub SuitsFacts : List FormulaTree → StepTree → Type 0
 SuitsFacts fs (s.witness a x) = IsFresh fs x
 SuitsFacts fs _ = Unit {0}
 
--- The nodes stand for a step without labels; there are none for a step that meets no rule.
-abbrev pub Enters : List ValueTree → StepTree → Result (Option NodeStep) NoMemory → Type 0
-Enters ts step (Ok (Some made)) = (step_at ts made ≡ step) × AreOperands ts made
-Enters ts step (Ok None) = rule_of step ≡ None
+-- some fields without labels
+abbrev pub bare_list : List FieldTerm → List FieldTree
+bare_list fs = map (λ f. unmarked_field (field_tree f)) fs
+
+-- The nodes stand for a step without labels.
+abbrev pub Enters : List ValueTree → StepTree → Result NodeStep NoMemory → Type 0
+Enters ts step (Ok made) = (step_at ts made ≡ step) × AreOperands ts made
 Enters ts step (Err e) = Unit {0}
 
 -- The rule is that of the step, whatever the facts; where there is none, the step meets none from any facts.

@@ -148,10 +148,8 @@ pub fn found(table: &mut Table, step: &DerivStep) -> Result<Option<NodeRule>, No
     ensures rule { Finds (nodes table.new) (bare_step (step_tree step.now)) result }
     ensures grows { Extends table.old table.new }
 {
-    match entered(table, step)? {
-        Some(made) => checked(table, made),
-        None => Ok(None),
-    }
+    let made = entered(table, step)?;
+    checked(table, made)
 }
 
 /// Whether a name stands nowhere free in a node.

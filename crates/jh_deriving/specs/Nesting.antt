@@ -3,7 +3,8 @@ use Rattle.std.specs.Prelude.{◌≤◌, ℕ, List, [], ◌∷◌, Option, None,
 use Rattle.jh_tree.specs.Tree.{FieldTrees, ValueTree, of_object, of_field, of_truth}
 use Rattle.jh_tree.specs.Tree as t
 use Rattle.jh_walk.specs.Sizes.{value_depth}
-use Rattle.jh_steps.specs.Steps.{BaseTree, StepTree}
+use Rattle.jh_reach.specs.Axioms.{BaseTree}
+use Rattle.jh_steps.specs.Steps.{StepTree}
 use Rattle.jh_steps.specs.Steps as s
 
 abbrev pub listed : FieldTrees → List ValueTree → List ValueTree

@@ -43,6 +43,8 @@ fn weight_of_step(table: &Table, step: NodeStep) -> u64 {
         NodeStep::Witness(fact, name) => weight_of_two(table, fact, name),
         NodeStep::Cut(fact) => weight(table, fact),
         NodeStep::Updating(field) => weight(table, field),
+        NodeStep::Axiom(_, forest) => weight(table, forest),
+        NodeStep::BasedAxiom(_, forest, _, base) => weight_of_two(table, forest, base),
         NodeStep::Relation(fact) => weight(table, fact),
     }
 }

@@ -168,7 +168,7 @@ fn over_fact(step: NodeStep, fact: Formula) -> DerivStep {
     }
 }
 
-/// A step with several operands, or none, boxed. The answer is want of memory where it has one formula.
+/// A step with several operands, or none, boxed. The answer is want of memory where it has one formula, or cites an axiom of reachability: the steps written here cite none.
 fn over_several(table: &Table, step: NodeStep) -> Result<DerivStep, NoMemory> {
     match step {
         NodeStep::Absurd => Ok(DerivStep::Absurd),
