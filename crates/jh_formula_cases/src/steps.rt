@@ -1,8 +1,8 @@
-use jh_deriv::DerivStep;
-use jh_name::{Kind, name};
-use jh_sequent_text::{Fault, field, formula, formula_of, nodes_of, object, operand};
+use jh_deriv::{Base, DerivStep};
+use jh_name::{Kind, Row, name};
+use jh_sequent_text::{Fault, add, field, formula, formula_of, nodes_of, object, operand};
 use jh_table::Table;
-use jh_tree::{Formula, Value};
+use jh_tree::{FieldTerm, Formula, Value};
 
 /// The rules whose steps name one fact.
 #[derive(Clone, Copy)]
@@ -18,7 +18,7 @@ enum FactRule {
     Open,
 }
 
-/// The rules, but the one of a witness.
+/// The rules, but the ones of a witness and of an axiom.
 #[derive(Clone, Copy)]
 enum Rule {
     Absurd,
@@ -147,6 +147,93 @@ fn witness(table: &mut Table, text: &str) -> Result<DerivStep, Fault> {
     Ok(DerivStep::Exists(exists, witness))
 }
 
+/// Adds the field that was made last to a list.
+fn add_field(
+    table: &Table,
+    stack: &mut Vec<usize>,
+    fields: &mut Vec<FieldTerm>,
+) -> Result<(), Fault> {
+    let last = field(table, stack)?;
+    add(fields, last)
+}
+
+/// The fields that are left.
+fn fields_left(table: &Table, stack: &mut Vec<usize>) -> Result<Row<FieldTerm>, Fault> {
+    let mut fields = Vec::new(table.alloc());
+    for _field in 0..stack.len() {
+        add_field(table, stack, &mut fields)?;
+    }
+    Ok(Row::of(fields))
+}
+
+/// A word, and what is written behind it.
+fn parted(text: &str) -> (&str, &str) {
+    match text.split_once(' ') {
+        Some(parts) => parts,
+        None => (text, ""),
+    }
+}
+
+/// The number of an axiom.
+fn number_of(word: &str) -> Result<u8, Fault> {
+    match word.parse::<u8>() {
+        Ok(number) => Ok(number),
+        Err(_) => Err(Fault::Text),
+    }
+}
+
+/// The place of a field in a list.
+fn place_of(word: &str) -> Result<u32, Fault> {
+    match word.parse::<u32>() {
+        Ok(place) => Ok(place),
+        Err(_) => Err(Fault::Text),
+    }
+}
+
+/// The step for an axiom, which is written as its number and the fields of its list.
+fn axiom(table: &mut Table, text: &str) -> Result<DerivStep, Fault> {
+    let (word, rest) = parted(text);
+    let number = number_of(word)?;
+    let mut stack = nodes_of(table, rest)?;
+    let fields = fields_left(table, &mut stack)?;
+    Ok(DerivStep::Axiom(number, fields, None))
+}
+
+/// The base that is written as its field, its object and its value.
+fn base(table: &Table, stack: &mut Vec<usize>, place: u32) -> Result<Base, Fault> {
+    let field = field(table, stack)?;
+    let at = object(table, stack)?;
+    let value = object(table, stack)?;
+    Ok(Base {
+        place,
+        field,
+        at,
+        value,
+    })
+}
+
+fn with_base(
+    table: &Table,
+    stack: &mut Vec<usize>,
+    number: u8,
+    place: u32,
+) -> Result<DerivStep, Fault> {
+    let base = base(table, stack, place)?;
+    let fields = fields_left(table, stack)?;
+    Ok(DerivStep::Axiom(number, fields, Some(base)))
+}
+
+/// The step for an axiom with a base, which is written as its number, the place of the member that changed, the field
+/// before that, the object where it changed, its value there, and the fields of the list.
+fn based(table: &mut Table, text: &str) -> Result<DerivStep, Fault> {
+    let (word, rest) = parted(text);
+    let number = number_of(word)?;
+    let (word, rest) = parted(rest);
+    let place = place_of(word)?;
+    let mut stack = nodes_of(table, rest)?;
+    with_base(table, &mut stack, number, place)
+}
+
 /// The step of a rule's word and of the text of its operands.
 fn other(table: &mut Table, word: &str, rest: &str) -> Result<DerivStep, Fault> {
     let Some(rule) = rule_of(word) else {
@@ -160,6 +247,8 @@ fn other(table: &mut Table, word: &str, rest: &str) -> Result<DerivStep, Fault> 
 pub fn step_of(table: &mut Table, text: &str) -> Result<DerivStep, Fault> {
     match text.trim().split_once(' ') {
         Some(("witness", rest)) => witness(table, rest),
+        Some(("axiom", rest)) => axiom(table, rest),
+        Some(("based", rest)) => based(table, rest),
         Some((word, rest)) => other(table, word, rest),
         None => other(table, text.trim(), ""),
     }
