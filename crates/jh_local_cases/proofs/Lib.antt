@@ -1,0 +1,3 @@
+mod Formulas
+mod Standings
+mod Facts
