@@ -6,3 +6,4 @@ mod Openings
 mod Citing
 mod Soundness
 pub mod Trees
+pub mod Crossings

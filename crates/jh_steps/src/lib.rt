@@ -5,4 +5,4 @@ mod laws;
 mod step;
 
 pub use laws::{closing_is_exact, closing_shows_validity};
-pub use step::{Base, DerivStep, Derivation, bases_can_be_shared};
+pub use step::{Base, DerivStep, Derivation, derivations_can_be_shared};

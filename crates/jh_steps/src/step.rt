@@ -61,7 +61,9 @@ pub struct Derivation {
 
 fn can_be_shared<T: Send + Sync>(_value: &T) {}
 
-/// Bases can be moved to threads and shared by them. It does nothing.
-pub fn bases_can_be_shared(base: &Base) {
+/// Derivations, their steps and bases can be moved to threads and shared by them. It does nothing.
+pub fn derivations_can_be_shared(derivation: &Derivation, step: &DerivStep, base: &Base) {
+    can_be_shared(derivation);
+    can_be_shared(step);
     can_be_shared(base);
 }
