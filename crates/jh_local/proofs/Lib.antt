@@ -6,3 +6,4 @@ mod Found
 mod Made
 mod Boxed
 mod Facts
+pub mod Crossings

@@ -37,7 +37,7 @@ pub enum Searched {
 
 fn can_be_shared<T: Send + Sync>(_value: &T) {}
 
-/// Causes can be moved to threads and shared by them. It does nothing.
-pub fn causes_can_be_shared(cause: &LocalCause) {
-    can_be_shared(cause);
+/// What is said of a sequent can be moved to threads and shared by them. It does nothing.
+pub fn searched_can_be_shared(searched: &Searched) {
+    can_be_shared(searched);
 }

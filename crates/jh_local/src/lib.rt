@@ -7,6 +7,6 @@ mod boxing;
 mod laws;
 mod posing;
 
-pub use answer::{Branch, Closed, LocalCause, Searched, causes_can_be_shared};
+pub use answer::{Branch, Closed, LocalCause, Searched, searched_can_be_shared};
 pub use asking::search_instances;
 pub use laws::local_proof_is_valid;
