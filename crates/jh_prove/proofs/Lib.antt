@@ -3,3 +3,4 @@ mod Bareness
 mod Asking
 mod Querying
 pub mod Rights
+mod Crossings

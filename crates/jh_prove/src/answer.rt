@@ -31,6 +31,13 @@ pub enum Answer {
     Unproved { bapa: BapaCause, local: LocalCause },
 }
 
+fn can_be_shared<T: Send + Sync>(_value: &T) {}
+
+/// Answers can be moved to threads and shared by them. It does nothing.
+pub fn answers_can_be_shared(answer: &Answer) {
+    can_be_shared(answer);
+}
+
 /// What is said of a sequent, in one word.
 #[derive(Clone, Copy, PartialEq, Eq)]
 pub enum Verdict {

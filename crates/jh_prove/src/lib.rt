@@ -11,7 +11,9 @@ mod regions;
 mod searching;
 mod unlabelling;
 
-pub use answer::{Answer, BapaCause, Verdict, is_unproved, status_of, verdict_of};
+pub use answer::{
+    Answer, BapaCause, Verdict, answers_can_be_shared, is_unproved, status_of, verdict_of,
+};
 pub use answering::answers;
 pub use forms::local_form_of_sequent;
 pub use laws::{one_verdict_is_right, provable_is_proved, proved_is_valid};
