@@ -11,5 +11,5 @@ mod rounds;
 pub use beginning::MOST_NODES;
 pub use counting::count;
 pub use entry::{NodeEntries, NodeEntry, Origin};
-pub use making::InstanceError;
-pub use rounds::{MOST_INSTANCES, entries};
+pub use making::{InstanceError, Progress};
+pub use rounds::{MOST_INSTANCES, entries, first_entries, last_entries};

@@ -34,8 +34,8 @@ pub(crate) struct AtHand {
 
 /// What was made so far, the universals at hand, the terms, and the number of the first free constant.
 #[derive(Drop)]
-pub(crate) struct Progress {
-    pub(crate) entries: NodeEntries,
+pub struct Progress {
+    pub entries: NodeEntries,
     pub(crate) at_hand: Vec<AtHand>,
     pub(crate) terms: Terms,
     pub(crate) next: u32,

@@ -143,16 +143,6 @@ fn all_rounds(table: &mut Table, progress: &mut Progress, rounds: u32) -> Result
     Ok(())
 }
 
-/// The rounds and the last pass.
-fn make_all(table: &mut Table, progress: &mut Progress, rounds: u32) -> Result<(), NoMemory>
-    requires there { (p : spec.Progress) × IsProgress table.old progress.old p }
-    ensures made { (p : spec.Progress) → IsProgress table.old progress.old p → OnOk result (IsMade table.new progress.new.entries (spec.ended (spec.rounds rounds p))) }
-    ensures grows { Extends table.old table.new }
-{
-    all_rounds(table, progress, rounds)?;
-    put_each(table, progress, true)
-}
-
 /// Whether there can be more instances than MOST_INSTANCES.
 fn is_too_many(count: u128) -> bool
     ensures more { result ≡ true → 100000 < count }
@@ -161,12 +151,44 @@ fn is_too_many(count: u128) -> bool
     count > MOST_INSTANCES
 }
 
-/// The facts, in negation normal form, and all that so many rounds and the last pass make of them, in the order of the
-/// definition: the formula, the source, the terms and the constants of each. Constants from `first` on are free. What the
-/// table held stays in its place, after any answer. The answer is `TooMany` exactly where there can be more than
-/// MOST_INSTANCES instances, with their count, which is the greatest u128 where that is passed; no instance is made then.
-/// It is want of memory, too, where a number of a constant leaves u32, where a fact has more nodes than MOST_NODES, each
-/// counted where it stands, and where a formula nests deeper than MOST_LEVELS of the table.
+/// The facts, in negation normal form, and what so many rounds make of them, in the order of the definition: the formula, the source, the
+/// terms and the constants of each. Constants from `first` on are free. What the table held stays in its place, after any answer. The answer
+/// is `TooMany` exactly where there can be more than MOST_INSTANCES instances, those of the last pass included, with their count, which is
+/// the greatest u128 where that is passed; no instance is made then. It is want of memory, too, where a number of a constant leaves u32,
+/// where a fact has more nodes than MOST_NODES, each counted where it stands, and where a formula nests deeper than MOST_LEVELS of the table.
+pub fn first_entries(
+    table: &mut Table,
+    facts: &[usize],
+    first: u32,
+    rounds: u32,
+) -> Result<Progress, InstanceError>
+    requires there { (fs : List FormulaTree) × AreFormulas table.old facts.now fs }
+    ensures made { (fs : List FormulaTree) → AreFormulas table.old facts.now fs → IfOk result (λ made. (p : spec.Progress) × IsProgress table.new made p × (spec.ended p ≡ spec.all_made fs first rounds)) }
+    ensures few { (fs : List FormulaTree) → AreFormulas table.old facts.now fs → IfOk result (λ made. count_all fs first rounds ≤ 100000) }
+    ensures too_many { (fs : List FormulaTree) (n : ℕ) → AreFormulas table.old facts.now fs → IsErrOf result (InstanceError.TooMany n) → (n ≡ capped (count_all fs first rounds)) × (100000 < n) }
+    ensures grows { Extends table.old table.new }
+{
+    let mut progress = begun(table, facts, first)?;
+    let count = count_begun(table, &progress, rounds)?;
+    if is_too_many(count) {
+        return Err(InstanceError::TooMany(count));
+    }
+    all_rounds(table, &mut progress, rounds)?;
+    Ok(progress)
+}
+
+/// All entries: those of the rounds, as they come from `first_entries`, and then those of the last pass, in which each universal of one
+/// variable is put at what came of the last round. What the table held stays in its place, after any answer.
+pub fn last_entries(table: &mut Table, mut progress: Progress) -> Result<NodeEntries, NoMemory>
+    requires there { (p : spec.Progress) × IsProgress table.old progress p }
+    ensures made { (p : spec.Progress) → IsProgress table.old progress p → IfOk result (λ made. IsMade table.new made (spec.ended p)) }
+    ensures grows { Extends table.old table.new }
+{
+    put_each(table, &mut progress, true)?;
+    Ok(progress.entries)
+}
+
+/// All entries at once, as they come from `first_entries` and `last_entries`.
 pub fn entries(
     table: &mut Table,
     facts: &[usize],
@@ -179,11 +201,8 @@ pub fn entries(
     ensures too_many { (fs : List FormulaTree) (n : ℕ) → AreFormulas table.old facts.now fs → IsErrOf result (InstanceError.TooMany n) → (n ≡ capped (count_all fs first rounds)) × (100000 < n) }
     ensures grows { Extends table.old table.new }
 {
-    let mut progress = begun(table, facts, first)?;
-    let count = count_begun(table, &progress, rounds)?;
-    if is_too_many(count) {
-        return Err(InstanceError::TooMany(count));
+    match first_entries(table, facts, first, rounds) {
+        Ok(progress) => Ok(last_entries(table, progress)?),
+        Err(error) => Err(error),
     }
-    make_all(table, &mut progress, rounds)?;
-    Ok(progress.entries)
 }
