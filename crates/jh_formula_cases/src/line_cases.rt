@@ -1,6 +1,6 @@
 //! Cases that are a line each: a text, and behind an arrow what comes of it.
 
-use crate::{asking, axioms, derivations};
+use crate::{asking, axioms};
 use jh_sequent_text::{Count, Fault};
 use std::alloc::Global;
 use std::io;
@@ -11,8 +11,6 @@ use std::io::Print;
 pub enum Kind {
     /// A question with an interpretation.
     Value,
-    /// A sequent with a derivation.
-    Derivation,
     /// A list of fields and the number of an axiom.
     Axiom,
 }
@@ -21,7 +19,6 @@ pub enum Kind {
 fn came(alloc: Global, kind: Kind, text: &str) -> Result<String, Fault> {
     match kind {
         Kind::Value => asking::answer_of(alloc, text),
-        Kind::Derivation => derivations::answer_of(alloc, text),
         Kind::Axiom => axioms::answer_of(alloc, text),
     }
 }
