@@ -7,3 +7,5 @@ mod Made
 mod Boxed
 mod Facts
 pub mod Crossings
+mod Among
+mod Restricted

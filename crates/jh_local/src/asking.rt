@@ -1,4 +1,5 @@
-ghost use Rattle.std.specs.Prelude.{◌<◌, ◌≤◌, ℕ, List, IfOk};
+ghost use Rattle.std.specs.Prelude.{◌≡◌, ◌<◌, ◌≤◌, ℕ, List, true, IfErr, IfOk};
+ghost use Rattle.std.specs.List.{list_all};
 ghost use Rattle.jh_table.specs.Nodes.{nodes};
 ghost use Rattle.jh_tree.specs.Tree.{FormulaTree};
 ghost use Rattle.jh_sequent.specs.Sequents.{SequentTree};
@@ -6,7 +7,13 @@ ghost use Rattle.jh_localized.specs.Forming.{IsFormed};
 ghost use Rattle.jh_propagating.specs.Problems.{IsProblem, instances_in};
 ghost use Rattle.jh_search.specs.Outcomes.{IsFound};
 ghost use Rattle.jh_apart.specs.Standing.{IsPosed};
-ghost use Rattle.jh_local.specs.Answers.{IsDerived, IsOutcome, IsSearched, IsSearchedFor};
+ghost use Rattle.jh_instances.specs.Entries.{Entry};
+ghost use Rattle.jh_instances.specs.Instances.{instances_of};
+ghost use Rattle.jh_plain.specs.Plain.{are_literals};
+ghost use Rattle.jh_instances.specs.Rounds as spec;
+ghost use Rattle.jh_entries.specs.Progressing.{IsProgress};
+ghost use Rattle.jh_entries.specs.Standing.{IsMade};
+ghost use Rattle.jh_local.specs.Answers.{HasNoModel, IsDerived, IsOutcome, IsSearched, IsSearchedFor};
 
 use crate::answer::{Branch, LocalCause, Searched};
 use crate::boxing::{boxed_branches, boxed_trail};
@@ -14,12 +21,13 @@ use crate::posing::posed;
 use jh_apart::{Apart, facts_apart};
 use jh_cong::Classes;
 use jh_deriving::derived;
-use jh_entries::{InstanceError, NodeEntries, entries};
+use jh_entries::{InstanceError, NodeEntries, Progress, first_entries, last_entries};
 use jh_localized::LocalForm;
 use jh_name::NoMemory;
 use jh_plain::{instances_are_literals, normal_is_plain};
 use jh_propagating::Problem;
 use jh_search::{Found, Searching, search, start_search};
+use jh_steps::Derivation;
 use jh_table::Table;
 
 /// Why the instances of a problem aren't shown to have no ground model, where this was found. There is no cause where they have none.
@@ -44,6 +52,18 @@ fn cause_of(
     }
 }
 
+/// Searches a problem with this table of names: what is left of the search, and what it found.
+fn found_in(atoms: Table, problem: &Problem, leaves: usize) -> Result<(Searching, Found), NoMemory>
+    requires problem { IsProblem (nodes atoms) problem.now }
+    requires leaves { 0 < leaves }
+    ensures { IfOk result (λ made. IsFound problem.now leaves made.0 made.1) }
+{
+    let classes = Classes::new(atoms.alloc(), atoms)?;
+    let mut searching = start_search(problem, classes)?;
+    let found = search(problem, &mut searching, leaves)?;
+    Ok((searching, found))
+}
+
 /// Searches a problem with this table of names: what is left of the search, and why it shows nothing, where it doesn't.
 fn searched(
     atoms: Table,
@@ -54,11 +74,24 @@ fn searched(
     requires leaves { 0 < leaves }
     ensures { IfOk result (λ made. (many : ℕ) → many ≤ 100000 → IsOutcome (instances_in (nodes problem.now.table) problem.now) many leaves made.1) }
 {
-    let classes = Classes::new(atoms.alloc(), atoms)?;
-    let mut searching = start_search(problem, classes)?;
-    let found = search(problem, &mut searching, leaves)?;
+    let (searching, found) = found_in(atoms, problem, leaves)?;
     let cause = cause_of(problem, &searching, found)?;
     Ok((searching, cause))
+}
+
+/// The table of the nodes of a problem's instances.
+fn table_of(problem: Problem) -> Table
+    ensures { result ≡ problem.table }
+{
+    let Problem {
+        table,
+        instances: _instances,
+        ground: _ground,
+        names: _names,
+        yes: _yes,
+        no: _no,
+    } = problem;
+    table
 }
 
 /// The answer for a local form, by why a search of its instances shows nothing: where there is no such cause, a derivation is written from
@@ -98,6 +131,83 @@ fn answer_posed(
     answer_of(table, form, made, problem, searching, cause)
 }
 
+/// How many branches a search of the first instances may close.
+const FIRST_LEAVES: usize = 500;
+
+/// The budget of a search of the first instances.
+fn first_budget(leaves: usize) -> usize
+    requires { 0 < leaves }
+    ensures { 0 < result }
+{
+    if leaves < FIRST_LEAVES {
+        leaves
+    } else {
+        FIRST_LEAVES
+    }
+}
+
+/// Searches the instances among these entries of a local form, whose nodes are those of the second table: a derivation where they have no
+/// ground model, or else that table.
+fn refuted(
+    table: &Table,
+    form: &LocalForm,
+    made: &NodeEntries,
+    own: Table,
+    leaves: usize,
+) -> Result<Result<Derivation, Table>, NoMemory>
+    requires made { (es : List Entry) × IsMade own made.now es × (list_all are_literals (instances_of es) ≡ true) }
+    requires leaves { 0 < leaves }
+    ensures none { IfOk result (λ asked. IfOk asked (λ derivation. (es : List Entry) → IsMade own made.now es → HasNoModel (instances_of es))) }
+    ensures derived { IfOk result (λ asked. IfOk asked (λ derivation. (s : SequentTree) → IsFormed table.now form.now s → IsDerived s (Searched.Proved derivation))) }
+    ensures left { IfOk result (λ asked. IfErr asked (λ left. left ≡ own)) }
+{
+    let (problem, atoms) = posed(own, made)?;
+    let (searching, found) = found_in(atoms, &problem, leaves)?;
+    match found {
+        Found::NoModel => Ok(Ok(derived(table, form, made, problem, searching)?)),
+        Found::Model => Ok(Err(table_of(problem))),
+        Found::Spent => Ok(Err(table_of(problem))),
+    }
+}
+
+/// Searches all instances of a local form, of which these are the first.
+fn answer_all(
+    table: &Table,
+    form: &LocalForm,
+    progress: Progress,
+    mut own: Table,
+    leaves: usize,
+) -> Result<Searched, NoMemory>
+    requires made { (p : spec.Progress) × IsProgress own progress p × (list_all are_literals (instances_of (spec.ended p)) ≡ true) }
+    requires leaves { 0 < leaves }
+    ensures right { IfOk result (λ answer. (p : spec.Progress) (many : ℕ) → many ≤ 100000 → IsProgress own progress p → IsSearchedFor (instances_of (spec.ended p)) many leaves answer) }
+    ensures derived { IfOk result (λ answer. (s : SequentTree) → IsFormed table.now form.now s → IsDerived s answer) }
+{
+    let made = last_entries(&mut own, progress)?;
+    let (problem, atoms) = posed(own, &made)?;
+    answer_posed(table, form, &made, atoms, problem, leaves)
+}
+
+/// Searches the instances of a local form, of which these are the first. Most proofs need no others, so these are searched by themselves
+/// before others are made.
+fn answer_from(
+    table: &Table,
+    form: &LocalForm,
+    progress: Progress,
+    own: Table,
+    leaves: usize,
+) -> Result<Searched, NoMemory>
+    requires made { (p : spec.Progress) × IsProgress own progress p × (list_all are_literals (instances_of (spec.ended p)) ≡ true) }
+    requires leaves { 0 < leaves }
+    ensures right { IfOk result (λ answer. (p : spec.Progress) (many : ℕ) → many ≤ 100000 → IsProgress own progress p → IsSearchedFor (instances_of (spec.ended p)) many leaves answer) }
+    ensures derived { IfOk result (λ answer. (s : SequentTree) → IsFormed table.now form.now s → IsDerived s answer) }
+{
+    match refuted(table, form, &progress.entries, own, first_budget(leaves))? {
+        Ok(derivation) => Ok(Searched::Proved(derivation)),
+        Err(own) => answer_all(table, form, progress, own, leaves),
+    }
+}
+
 /// Searches the instances of the facts of a local form.
 fn answer_for(
     table: &Table,
@@ -112,16 +222,13 @@ fn answer_for(
 {
     normal_is_plain();
     instances_are_literals();
-    match entries(
+    match first_entries(
         &mut apart.table,
         apart.facts.as_slice(),
         apart.first,
         rounds,
     ) {
-        Ok(made) => {
-            let (problem, atoms) = posed(apart.table, &made)?;
-            answer_posed(table, form, &made, atoms, problem, leaves)
-        }
+        Ok(progress) => answer_from(table, form, progress, apart.table, leaves),
         Err(InstanceError::TooMany(count)) => { Ok(Searched::Unproved(LocalCause::TooMany(count))) }
         Err(InstanceError::Memory) => Err(NoMemory),
     }

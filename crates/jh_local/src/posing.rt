@@ -56,6 +56,7 @@ pub(crate) fn posed(table: Table, entries: &NodeEntries) -> Result<(Problem, Tab
     requires made { (es : List Entry) × IsMade table entries.now es × (list_all are_literals (instances_of es) ≡ true) }
     ensures problem { IfOk result (λ made. IsProblem (nodes made.1) made.0) }
     ensures instances { IfOk result (λ made. (es : List Entry) → IsMade table entries.now es → instances_in (nodes made.0.table) made.0 ≡ instances_of es) }
+    ensures table { IfOk result (λ made. made.0.table ≡ table) }
 {
     let instances = instances(&table, entries)?;
     pose(table, instances)
