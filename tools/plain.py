@@ -1,0 +1,217 @@
+#!/usr/bin/env python3
+"""Writes programs and the crates below them as plain Rust, which `cargo` builds without proofs in seconds.
+
+tools/plain.py FOLDER PROGRAM..    writes a workspace for `cargo` into FOLDER, and touches no file that stays as it was
+
+Rattle is Rust with contracts. What is only for the prover is dropped: clauses, `ghost` items, attributes. Rattle's own
+library differs from Rust's in that a call may answer that memory ran out. What is used of it, and of some other
+libraries of the kit, stands in tools/plain over Rust's own; of the rest the kit's sources are read. What stands on a
+line of a source stands on the same line of what is written, so that an error of `cargo` tells its place.
+"""
+import glob
+import os
+import re
+import subprocess
+import sys
+
+TOP = os.path.dirname(os.path.dirname(os.path.abspath(__file__)))
+STANDING_IN = f'{TOP}/tools/plain'
+
+# What is dropped with the brackets that follow it, and with one of some characters behind them. Brackets in texts and
+# comments count too: what is dropped has none that stands alone.
+DROPPED = [
+    # Attributes for the prover and for `rt fmt`, and the texts of errors, which nothing prints.
+    (re.compile(r'#!?(?=\[(?:tactic|cycle|rattlefmt|error)\b)'), ''),
+    # Items that are only for the prover.
+    (re.compile(r'^[ \t]*ghost \w+\s*[=:]\s*(?=\{)', re.M), ';,'),
+    # Clauses.
+    (re.compile(r'^[ \t]*(?:requires|ensures)(?: \w+)?\s*(?=\{)', re.M), ''),
+    # How a value is let go, which Rust finds by itself; none of these does more.
+    (re.compile(r'^[ \t]*impl(?:<[^>]*>)? Drop for [^{]*(?=\{)', re.M), ''),
+]
+CHANGED = [
+    # Imports for the prover, and that of the texts of errors.
+    (re.compile(r'^[ \t]*(?:ghost use|use thiserror::)[^;]*;', re.M), lambda found: blank(found[0])),
+    # In Rattle a formatter has the type of what it writes to, and a copy may fail, as may what takes an allocator.
+    (re.compile(r'<W: fmt::Write>'), ''),
+    (re.compile(r'\bFormatter<W>'), "Formatter<'_>"),
+    (re.compile(r'\.clone\(\)\?'), '.clone()'),
+    (re.compile(r'\.(collect|replace|to_vec)\((?=(?:\w+\.)?alloc\b)'), r'.\1_in('),
+    # A derive may name what Rust hasn't.
+    (re.compile(r'#\[derive(?:_where)?\(([\w, ]*)\)\]'), lambda found: f'#[derive({derived(found[1])})]'),
+    # A program is given its host.
+    (re.compile(r'^fn main\((?=\w+: HostRuntime\))', re.M), 'fn run('),
+]
+NOT_DERIVED = ('Drop', 'Error')
+# What may stand before the first item of a file.
+PREAMBLE = re.compile(r'(?:[ \t]*(?://(?!/).*)?\n)*')
+
+ATTRIBUTES = '#![no_std] #![allow(warnings)] '
+STD = '#[macro_use] extern crate rattle_std as std; '
+PRELUDE = 'use std::prelude::*; '
+START = 'fn main() -> std::process::ExitCode { std::rt::start(run) }\n'
+PACKAGE = """[package]
+name = "{name}"
+version = "0.1.0"
+edition = "2021"
+
+[dependencies]
+{uses}"""
+WORKSPACE = """[workspace]
+resolver = "2"
+members = [{members}]
+
+[profile.release]
+opt-level = 1
+overflow-checks = true
+"""
+
+
+def blank(text):
+    """The ends of the lines of a text."""
+    return '\n' * text.count('\n')
+
+
+def derived(names):
+    """Of the names in a derive those that Rust has too."""
+    return ', '.join(it for it in re.findall(r'\w+', names) if it not in NOT_DERIVED)
+
+
+def after_brackets(text, start):
+    """The place after the bracket that closes the one at `start`."""
+    depth = 0
+    for place in range(start, len(text)):
+        if text[place] in '([{':
+            depth += 1
+        elif text[place] in ')]}':
+            depth -= 1
+            if depth == 0:
+                return place + 1
+    raise ValueError('a bracket has no end')
+
+
+def without(pattern, ends, text):
+    """The text without what matches, the brackets that follow, and one of `ends` behind them."""
+    kept, start = [], 0
+    while found := pattern.search(text, start):
+        end = after_brackets(text, found.end())
+        if end < len(text) and text[end] in ends:
+            end += 1
+        kept += [text[start:found.start()], blank(text[found.start():end])]
+        start = end
+    return ''.join(kept) + text[start:]
+
+
+def plain(text, place):
+    """The plain Rust of the file of Rattle at a place of a crate."""
+    for pattern, ends in DROPPED:
+        text = without(pattern, ends, text)
+    for pattern, other in CHANGED:
+        text = pattern.sub(other, text)
+    top = PREAMBLE.match(text).end()
+    if place not in ('lib', 'main'):
+        return text[:top] + PRELUDE + text[top:]
+    return ATTRIBUTES + text[:top] + STD + PRELUDE + text[top:] + (START if place == 'main' else '')
+
+
+def bytes_of(path):
+    """What stands in a file."""
+    with open(path, 'rb') as file:
+        return file.read()
+
+
+def text_of(path):
+    """The text of a file."""
+    return bytes_of(path).decode()
+
+
+def kit():
+    """The folder of the kit."""
+    guide = subprocess.run(['rt', 'doc'], capture_output=True, check=True, text=True).stdout.split()[0]
+    return os.path.dirname(guide)
+
+
+class Workspace:
+    """A workspace in the making: its folder, and the crates and the files that are written."""
+
+    def __init__(self, folder):
+        self.folder = folder
+        self.kit = kit()
+        self.listed = {}
+        for line in text_of(f'{TOP}/crates.txt').splitlines():
+            name, _, uses = line.split('#')[0].partition(':')
+            if name.split():
+                self.listed[name.split()[0]] = uses.split()
+        self.written = []
+        self.paths = set()
+
+    def put(self, path, text):
+        """Writes a file of the workspace, where it doesn't stand there."""
+        path = f'{self.folder}/{path}'
+        self.paths.add(path)
+        if os.path.exists(path) and bytes_of(path) == text.encode():
+            return
+        os.makedirs(os.path.dirname(path), exist_ok=True)
+        with open(f'{path}.new', 'wb') as file:
+            file.write(text.encode())
+        os.replace(f'{path}.new', path)
+
+    def add(self, name):
+        """Writes a crate and those that it uses."""
+        if name in self.written:
+            return
+        self.written.append(name)
+        uses = self.used(name)
+        for it in uses:
+            self.add(it)
+        lines = ''.join(f'{it} = {{ path = "../{it}" }}\n' for it in uses)
+        self.put(f'{name}/Cargo.toml', PACKAGE.format(name=name, uses=lines))
+        if os.path.exists(f'{STANDING_IN}/{name}.rs'):
+            self.put(f'{name}/src/lib.rs', text_of(f'{STANDING_IN}/{name}.rs'))
+        else:
+            self.translate(name)
+
+    def used(self, name):
+        """The crates that a crate uses."""
+        if name == 'rattle_std':
+            return []
+        if name in self.listed:
+            uses = self.listed[name]
+        elif os.path.exists(f'{STANDING_IN}/{name}.rs'):
+            uses = []
+        else:
+            uses = re.findall(r'^dep (\w+)$', text_of(f'{self.kit}/rlibs/{name}.rlib/format'), re.M)
+        return ['rattle_std', *(it for it in uses if it not in ('std', 'thiserror'))]
+
+    def translate(self, name):
+        """Writes the sources of a crate of the repository or the kit as plain Rust."""
+        source = f'{TOP}/crates/{name}/src' if name in self.listed else f'{self.kit}/rattle/{name}/src'
+        for folder, _, files in os.walk(source):
+            for file in files:
+                place, kind = os.path.splitext(os.path.relpath(f'{folder}/{file}', source))
+                if kind == '.rt':
+                    self.put(f'{name}/src/{place}.rs', plain(text_of(f'{folder}/{file}'), place))
+
+
+    def finish(self):
+        """Writes what says which crates there are, and removes sources that stand there from an earlier time."""
+        members = ', '.join(f'"{it}"' for it in self.written)
+        self.put('Cargo.toml', WORKSPACE.format(members=members))
+        for name in self.written:
+            for path in glob.glob(f'{self.folder}/{name}/src/**/*.rs', recursive=True):
+                if path not in self.paths:
+                    os.remove(path)
+
+
+def write(folder, programs):
+    """Writes the workspace of some programs."""
+    workspace = Workspace(folder)
+    for it in programs:
+        workspace.add(it)
+    workspace.finish()
+
+
+if __name__ == '__main__':
+    if len(sys.argv) < 3:
+        sys.exit(__doc__)
+    write(os.path.abspath(sys.argv[1]), sys.argv[2:])
