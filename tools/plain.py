@@ -16,12 +16,14 @@ import sys
 
 TOP = os.path.dirname(os.path.dirname(os.path.abspath(__file__)))
 STANDING_IN = f'{TOP}/tools/plain'
+# Of what stands there that whose macros are programs.
+MACROS = ('thiserror',)
 
 # What is dropped with the brackets that follow it, and with one of some characters behind them. Brackets in texts and
 # comments count too: what is dropped has none that stands alone.
 DROPPED = [
-    # Attributes for the prover and for `rt fmt`, and the texts of errors, which nothing prints.
-    (re.compile(r'#!?(?=\[(?:tactic|cycle|rattlefmt|error)\b)'), ''),
+    # Attributes for the prover and for `rt fmt`.
+    (re.compile(r'#!?(?=\[(?:tactic|cycle|rattlefmt)\b)'), ''),
     # Items that are only for the prover.
     (re.compile(r'^[ \t]*ghost \w+\s*[=:]\s*(?=\{)', re.M), ';,'),
     # Clauses.
@@ -30,19 +32,18 @@ DROPPED = [
     (re.compile(r'^[ \t]*impl(?:<[^>]*>)? Drop for [^{]*(?=\{)', re.M), ''),
 ]
 CHANGED = [
-    # Imports for the prover, and that of the texts of errors.
-    (re.compile(r'^[ \t]*(?:ghost use|use thiserror::)[^;]*;', re.M), lambda found: blank(found[0])),
+    # Imports for the prover.
+    (re.compile(r'^[ \t]*ghost use [^;]*;', re.M), lambda found: blank(found[0])),
     # In Rattle a formatter has the type of what it writes to, and a copy may fail, as may what takes an allocator.
     (re.compile(r'<W: fmt::Write>'), ''),
     (re.compile(r'\bFormatter<W>'), "Formatter<'_>"),
     (re.compile(r'\.clone\(\)\?'), '.clone()'),
-    (re.compile(r'\.(collect|replace|to_vec)\((?=(?:\w+\.)?alloc\b)'), r'.\1_in('),
-    # A derive may name what Rust hasn't.
+    (re.compile(r'\.(collect|replace|to_vec)(?:::<[^()]*>)?\((?=(?:\w+\.)?alloc\b)'), r'.\1_in('),
+    # Rust has no derive of how a value is let go.
     (re.compile(r'#\[derive(?:_where)?\(([\w, ]*)\)\]'), lambda found: f'#[derive({derived(found[1])})]'),
     # A program is given its host.
     (re.compile(r'^fn main\((?=\w+: HostRuntime\))', re.M), 'fn run('),
 ]
-NOT_DERIVED = ('Drop', 'Error')
 # What may stand before the first item of a file.
 PREAMBLE = re.compile(r'(?:[ \t]*(?://(?!/).*)?\n)*')
 
@@ -55,8 +56,9 @@ name = "{name}"
 version = "0.1.0"
 edition = "2021"
 
-[dependencies]
+{kind}[dependencies]
 {uses}"""
+MACRO = '[lib]\nproc-macro = true\n\n'
 WORKSPACE = """[workspace]
 resolver = "2"
 members = [{members}]
@@ -73,8 +75,8 @@ def blank(text):
 
 
 def derived(names):
-    """Of the names in a derive those that Rust has too."""
-    return ', '.join(it for it in re.findall(r'\w+', names) if it not in NOT_DERIVED)
+    """The names in a derive that Rust has too."""
+    return ', '.join(it for it in re.findall(r'\w+', names) if it != 'Drop')
 
 
 def after_brackets(text, start):
@@ -165,7 +167,8 @@ class Workspace:
         for it in uses:
             self.add(it)
         lines = ''.join(f'{it} = {{ path = "../{it}" }}\n' for it in uses)
-        self.put(f'{name}/Cargo.toml', PACKAGE.format(name=name, uses=lines))
+        kind = MACRO if name in MACROS else ''
+        self.put(f'{name}/Cargo.toml', PACKAGE.format(name=name, kind=kind, uses=lines))
         if os.path.exists(f'{STANDING_IN}/{name}.rs'):
             self.put(f'{name}/src/lib.rs', text_of(f'{STANDING_IN}/{name}.rs'))
         else:
@@ -173,7 +176,7 @@ class Workspace:
 
     def used(self, name):
         """The crates that a crate uses."""
-        if name == 'rattle_std':
+        if name == 'rattle_std' or name in MACROS:
             return []
         if name in self.listed:
             uses = self.listed[name]
@@ -181,7 +184,7 @@ class Workspace:
             uses = []
         else:
             uses = re.findall(r'^dep (\w+)$', text_of(f'{self.kit}/rlibs/{name}.rlib/format'), re.M)
-        return ['rattle_std', *(it for it in uses if it not in ('std', 'thiserror'))]
+        return ['rattle_std', *(it for it in uses if it != 'std')]
 
     def translate(self, name):
         """Writes the sources of a crate of the repository or the kit as plain Rust."""
@@ -191,7 +194,6 @@ class Workspace:
                 place, kind = os.path.splitext(os.path.relpath(f'{folder}/{file}', source))
                 if kind == '.rt':
                     self.put(f'{name}/src/{place}.rs', plain(text_of(f'{folder}/{file}'), place))
-
 
     def finish(self):
         """Writes what says which crates there are, and removes sources that stand there from an earlier time."""

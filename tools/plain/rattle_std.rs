@@ -192,6 +192,13 @@ pub mod vec {
         }
     }
 
+    impl<T: Ord> Vec<T> {
+        pub fn sort(&mut self) -> Result<(), AllocError> {
+            self.0.sort();
+            Ok(())
+        }
+    }
+
     impl<T: Clone> Vec<T> {
         pub fn from_slice(alloc: Global, items: &[T]) -> Result<Vec<T>, AllocError> {
             let mut made = Vec::new(alloc);
@@ -291,6 +298,10 @@ pub mod string {
 
         pub fn into_bytes(self) -> Vec<u8> {
             Vec(self.0.into_bytes())
+        }
+
+        pub fn clear(&mut self) {
+            self.0.clear();
         }
 
         pub fn push_str(&mut self, text: &str) -> Result<(), AllocError> {
@@ -441,9 +452,13 @@ pub mod io {
         }
     }
 
-    /// A host that has a standard error.
+    /// A host that has a standard error, which `eprint!` writes to.
     pub trait Eprint {
-        fn eprint<T: Display>(&self, value: &T) -> Result<()>;
+        fn eprint_fmt(&self, text: Arguments<'_>) -> Result<()>;
+
+        fn eprint<T: Display>(&self, value: &T) -> Result<()> {
+            self.eprint_fmt(format_args!("{value}"))
+        }
     }
 
     impl Print for HostRuntime {
@@ -453,8 +468,8 @@ pub mod io {
     }
 
     impl Eprint for HostRuntime {
-        fn eprint<T: Display>(&self, value: &T) -> Result<()> {
-            self.stderr().write_fmt(format_args!("{value}"))
+        fn eprint_fmt(&self, text: Arguments<'_>) -> Result<()> {
+            self.stderr().write_fmt(text)
         }
     }
 }
@@ -462,11 +477,16 @@ pub mod io {
 pub mod fs {
     use crate::rt::Files;
     use crate::string::String;
+    use crate::vec::Vec;
     use std::fs::File;
     use std::io;
 
     pub fn open<R: Files>(_rt: &R, name: &str) -> io::Result<File> {
         File::open(name)
+    }
+
+    pub fn read<R: Files>(_rt: &R, name: &str) -> io::Result<Vec<u8>> {
+        Ok(Vec(std::fs::read(name)?))
     }
 
     pub fn read_to_string<R: Files>(_rt: &R, name: &str) -> io::Result<String> {
@@ -488,15 +508,77 @@ pub mod env {
     }
 }
 
+pub mod time {
+    use crate::rt::HostRuntime;
+    use std::io::Result;
+    use std::time::Instant as Inner;
+
+    pub use std::time::Duration;
+
+    /// A host that has a clock.
+    pub trait Clock {}
+
+    impl Clock for HostRuntime {}
+
+    #[derive(Clone, Copy)]
+    pub struct Instant(Inner);
+
+    impl Instant {
+        pub fn now(_clock: &impl Clock) -> Result<Instant> {
+            Ok(Instant(Inner::now()))
+        }
+
+        pub fn elapsed(&self, _clock: &impl Clock) -> Result<Duration> {
+            Ok(self.0.elapsed())
+        }
+    }
+}
+
+pub mod thread {
+    use crate::alloc::{AllocError, Global};
+    use crate::rt::{HostRuntime, STACK};
+    use crate::vec::Vec;
+    use std::thread::{scope, Builder};
+
+    /// A host that has threads.
+    pub trait Threads {}
+
+    impl Threads for HostRuntime {}
+
+    /// What a function answers of the numbers below `count`, asked in threads.
+    pub fn map_indices<X: Send>(
+        _rt: &impl Threads,
+        alloc: Global,
+        count: usize,
+        ask: &(impl Fn(usize) -> X + Sync),
+    ) -> Result<Vec<X>, AllocError> {
+        let mut answers = Vec::with_capacity(alloc, count)?;
+        scope(|threads| {
+            let asked: std::vec::Vec<_> = (0..count)
+                .map(|number| {
+                    Builder::new()
+                        .stack_size(STACK)
+                        .spawn_scoped(threads, move || ask(number))
+                })
+                .collect();
+            for it in asked {
+                let answer = it.map_err(|_| AllocError)?.join();
+                answers.push(answer.expect("an answer"))?;
+            }
+            Ok(answers)
+        })
+    }
+}
+
 pub mod rt {
     use crate::alloc::Global;
     use std::fs::File;
     use std::os::fd::AsFd;
-    use std::process::ExitCode;
+    use std::process::{ExitCode, Termination};
     use std::thread::Builder;
 
     /// Room, in bytes, for calls on formulas that are thousands of levels deep.
-    const STACK: usize = 256 << 20;
+    pub(crate) const STACK: usize = 256 << 20;
 
     pub trait Files {}
 
@@ -532,10 +614,10 @@ pub mod rt {
 
     /// Runs a program whose `main` takes a runtime. Where it stops at a fault that a proof would have refused, the
     /// status is 70.
-    pub fn start(run: fn(HostRuntime) -> ExitCode) -> ExitCode {
+    pub fn start<T: Termination + 'static>(run: fn(HostRuntime) -> T) -> ExitCode {
         let running = Builder::new()
             .stack_size(STACK)
-            .spawn(move || run(HostRuntime));
+            .spawn(move || run(HostRuntime).report());
         running
             .expect("a thread")
             .join()
@@ -625,5 +707,19 @@ macro_rules! print {
 macro_rules! println {
     ($rt:expr; $($text:tt)*) => {
         $crate::print!($rt; $($text)*).and_then(|()| $crate::print!($rt; "\n"))
+    };
+}
+
+#[macro_export]
+macro_rules! eprint {
+    ($rt:expr; $($text:tt)*) => {
+        $crate::io::Eprint::eprint_fmt($rt, ::core::format_args!($($text)*))
+    };
+}
+
+#[macro_export]
+macro_rules! eprintln {
+    ($rt:expr; $($text:tt)*) => {
+        $crate::eprint!($rt; $($text)*).and_then(|()| $crate::eprint!($rt; "\n"))
     };
 }
