@@ -18,6 +18,8 @@ TOP = os.path.dirname(os.path.dirname(os.path.abspath(__file__)))
 STANDING_IN = f'{TOP}/tools/plain'
 # Of what stands there that whose macros are programs.
 MACROS = ('thiserror',)
+# How the names of variables begin by which `cargo` would build something else, or put it elsewhere.
+NOT_FOR_CARGO = ('CARGO_BUILD_', 'CARGO_ENCODED_', 'CARGO_PROFILE_', 'CARGO_TARGET_', 'RUSTFLAGS')
 
 # What is dropped with the brackets that follow it, and with one of some characters behind them. Brackets in texts and
 # comments count too: what is dropped has none that stands alone.
@@ -211,6 +213,20 @@ def write(folder, programs):
     for it in programs:
         workspace.add(it)
     workspace.finish()
+
+
+def build(folder, programs):
+    """Writes the workspace of some programs and builds them. Answers the folder in which they stand then."""
+    write(folder, programs)
+    made = f'{folder}/target/release'
+    # So no older program is taken for what is built now; `cargo` links it anew.
+    for it in programs:
+        if os.path.exists(f'{made}/{it}'):
+            os.remove(f'{made}/{it}')
+    words = ['cargo', 'build', '--release', '--offline', '--quiet', '--target-dir', f'{folder}/target']
+    variables = {name: value for name, value in os.environ.items() if not name.startswith(NOT_FOR_CARGO)}
+    subprocess.run(words, cwd=folder, env=variables, stdin=subprocess.DEVNULL, stdout=sys.stderr, check=True)
+    return made
 
 
 if __name__ == '__main__':

@@ -15,18 +15,11 @@ sys.path.insert(0, os.path.dirname(os.path.abspath(__file__)))
 import plain
 
 CRATES = f'{plain.TOP}/crates'
-BUILT = f'{plain.TOP}/out/cases'
 
 
 def programs():
     """All programs of the repository."""
     return sorted(name for name in os.listdir(CRATES) if os.path.exists(f'{CRATES}/{name}/src/main.rt'))
-
-
-def build(names):
-    plain.write(BUILT, names)
-    subprocess.run(['cargo', 'build', '--release', '--offline', '--quiet', '--target-dir', f'{BUILT}/target'],
-                   cwd=BUILT, check=True)
 
 
 def beside(name, file):
@@ -35,20 +28,20 @@ def beside(name, file):
     return plain.text_of(path) if os.path.exists(path) else ''
 
 
-def is_well(name):
-    """Whether a program, in a copy of its data, prints what its file `stdout` has."""
+def is_well(name, made):
+    """Whether a program of the folder of what was made, in a copy of its data, prints what its file `stdout` has."""
     with tempfile.TemporaryDirectory(prefix='try-cases-') as folder:
         if os.path.exists(f'{CRATES}/{name}/data'):
             shutil.copytree(f'{CRATES}/{name}/data', folder, dirs_exist_ok=True)
-        run = subprocess.run([f'{BUILT}/target/release/{name}', *beside(name, 'args').splitlines()], cwd=folder,
+        run = subprocess.run([f'{made}/{name}', *beside(name, 'args').splitlines()], cwd=folder,
                              stdin=subprocess.DEVNULL, stdout=subprocess.PIPE, text=True)
     return run.returncode == int(beside(name, 'status') or 0) and run.stdout == beside(name, 'stdout')
 
 
 def main():
     names = sys.argv[1:] or programs()
-    build(names)
-    differing = [name for name in names if not is_well(name)]
+    made = plain.build(f'{plain.TOP}/out/cases', names)
+    differing = [name for name in names if not is_well(name, made)]
     for name in differing:
         print(f'{name} differs')
     print(f'{len(names)} programs, {len(differing)} differ')
