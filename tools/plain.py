@@ -215,17 +215,32 @@ def write(folder, programs):
     workspace.finish()
 
 
-def build(folder, programs):
-    """Writes the workspace of some programs and builds them. Answers the folder in which they stand then."""
-    write(folder, programs)
+def cargo(made, place, words, output=None):
+    """Runs `cargo` in a folder, on what stands in the workspace `made` and is built there. Answers its status."""
+    words = ['cargo', words[0], '--release', '--offline', '--target-dir', f'{made}/target', *words[1:]]
+    variables = {name: value for name, value in os.environ.items() if not name.startswith(NOT_FOR_CARGO)}
+    return subprocess.run(words, cwd=place, env=variables, stdin=subprocess.DEVNULL, stdout=output).returncode
+
+
+def dependencies(path, folder):
+    """The crates of the workspace in a folder that a package of plain Rust names in its file Cargo.toml."""
+    inside = os.path.relpath(folder, os.path.dirname(path))
+    return re.findall(rf'^\w+ = {{ path = "{re.escape(inside)}/(\w+)" }}$', text_of(path), re.M)
+
+
+def build(folder, programs, libraries=()):
+    """Writes the workspace of some programs and libraries, and builds the programs. Answers the folder in which they
+    stand then."""
+    write(folder, [*programs, *libraries])
     made = f'{folder}/target/release'
     # So no older program is taken for what is built now; `cargo` links it anew.
     for it in programs:
         if os.path.exists(f'{made}/{it}'):
             os.remove(f'{made}/{it}')
-    words = ['cargo', 'build', '--release', '--offline', '--quiet', '--target-dir', f'{folder}/target']
-    variables = {name: value for name, value in os.environ.items() if not name.startswith(NOT_FOR_CARGO)}
-    subprocess.run(words, cwd=folder, env=variables, stdin=subprocess.DEVNULL, stdout=sys.stderr, check=True)
+    packages = [word for it in programs for word in ('--package', it)]
+    status = cargo(folder, folder, ['build', '--quiet', *packages], sys.stderr) if programs else 0
+    if status:
+        raise subprocess.CalledProcessError(status, 'cargo build')
     return made
 
 
