@@ -1,1 +1,3 @@
 //! What the files of tests share.
+
+pub mod files;
