@@ -4,6 +4,7 @@ use jh_name::Row;
 use rattle_std::alloc::Global;
 
 pub mod files;
+pub mod queries;
 pub mod words;
 
 /// The row of some items.
