@@ -26,10 +26,8 @@ fn method_name(program: &Program, id: MethodId) -> String {
 /// What the lines that are wanted of a source say as it comes out. A line is `CLASS.METHOD K: ` with the figures of
 /// that sequent, or `CLASS.METHOD K by N: ` with what is said of a search with a budget of N branches.
 fn answers(case: &Case) -> String {
-    let tokens = jh_lex::tokens(Global, case.given.as_bytes())
-        .ok()
-        .expect("tokens");
-    let program = jh_parse::program(Global, &tokens).ok().expect("a program");
+    let tokens = jh_lex::tokens(Global, case.given.as_bytes()).expect("tokens");
+    let program = jh_parse::program(Global, &tokens).expect("a program");
     let typed = jh_type::check(Global, program)
         .ok()
         .expect("a typed program");

@@ -28,8 +28,8 @@ const DEEP: usize = 60_002;
 /// How deep they nest at most where walks go over them.
 const DEEPEST: usize = 10_000;
 
-/// Room, in bytes, for walks over deep nodes.
-const STACK: usize = 256 << 20;
+/// The stack, in bytes, on which walks go over deep nodes: as much as the first thread of a process mostly has.
+const STACK: usize = 8 << 20;
 
 fn new_table() -> Table {
     Table::new(Global).expect("memory")
