@@ -2,9 +2,11 @@
 //! and as interpretations.
 
 use crate::random::Random;
+use cases::text;
 use cases::values::{name, row};
-use jh_interp::{FieldValue, Interp};
-use jh_name::Row;
+use jh_interp::FieldValue::{self, Bool, Int, Obj, Set};
+use jh_interp::Interp;
+use jh_name::{Name, Row};
 use std::fmt::Write;
 
 /// What an object is.
@@ -132,15 +134,12 @@ fn listed(set: &Members) -> impl Iterator<Item = u32> + '_ {
     (0..4).filter(|object| set[*object as usize])
 }
 
-fn joined(objects: impl Iterator<Item = u32>) -> String {
-    objects
-        .map(|object| object.to_string())
-        .collect::<Vec<_>>()
-        .join(" ")
+fn joined(objects: Vec<u32>) -> String {
+    text::joined(&objects, " ", u32::to_string)
 }
 
 fn set_text(set: &Members) -> String {
-    format!("{{{}}}", joined(listed(set)))
+    format!("{{{}}}", joined(listed(set).collect()))
 }
 
 /// Adds a line that says of a part of the heap its value, where that isn't the value of all that
@@ -154,11 +153,8 @@ fn add_line(out: &mut String, part: &str, value: String) {
 impl World {
     /// A random heap that is well formed; mostly it has three objects.
     pub fn random(random: &mut Random) -> World {
-        let greatest = if random.truth() {
-            3
-        } else {
-            1 + random.below(3)
-        };
+        let is_large = random.truth();
+        let greatest = if is_large { 3 } else { 1 + random.below(3) };
         let kinds = kinds_of(random, greatest);
         let mut objects = [Object::default(); 4];
         for (place, kind) in kinds.iter().enumerate().skip(1) {
@@ -202,14 +198,11 @@ impl World {
     /// The text of the heap with the arguments, in the one form of heaps.
     pub fn text(&self, is_static: bool) -> String {
         let mut out = format!("universe {}\n", self.greatest);
-        for (class, wanted) in [
-            ("Node", Kind::Node),
-            ("Leaf", Kind::Leaf),
-            ("Object", Kind::Plain),
-        ] {
+        let classes = [Kind::Node, Kind::Leaf, Kind::Plain];
+        for (class, wanted) in ["Node", "Leaf", "Object"].iter().zip(classes) {
             let objects = self.objects_of(|kind| kind == wanted);
             if !objects.is_empty() {
-                writeln!(out, "class {class} {}", joined(objects.into_iter())).unwrap();
+                writeln!(out, "class {class} {}", joined(objects)).unwrap();
             }
         }
         add_line(&mut out, "static Node.head", self.head.to_string());
@@ -246,42 +239,32 @@ impl World {
     /// those. The commands of a method have fresh names from turn 2 on, and each `new` has two, of
     /// which the second is free.
     pub fn interp(&self, taken: &[u32], constants: Constants<'_>) -> Interp {
+        let plain = |text| name(text, 0);
         let statics = [
-            ("Node.head", self.head),
-            ("Node.any", self.any),
-            ("this", self.this),
-            ("p", self.p),
+            (plain("Node.head"), self.head),
+            (plain("Node.any"), self.any),
+            (plain("this"), self.this),
+            (plain("p"), self.p),
         ];
-        let numbers = [
-            ("Node.size", self.size),
-            ("Node.total", self.total),
-            ("n", self.n),
-        ];
-        let turns = (3..)
-            .step_by(2)
-            .zip(taken)
-            .map(|(turn, object)| ("new", turn, *object));
-        let constants = (constants.first..)
-            .zip(constants.objects)
-            .map(|(turn, object)| ("c", turn, *object));
-        let objects = statics
-            .map(|(text, object)| (text, 0, object))
-            .into_iter()
-            .chain(turns)
-            .chain(constants);
+        let taken = (3..).step_by(2).zip(taken);
+        let taken = taken.map(|(turn, object)| (name("new", turn), *object));
+        let constants = (constants.first..).zip(constants.objects);
+        let constants = constants.map(|(turn, object)| (name("c", turn), *object));
         Interp {
             greatest: self.greatest,
-            objects: row(objects.map(|(text, turn, object)| (name(text, turn), object))),
-            ints: row(numbers.map(|(text, number)| (name(text, 0), i128::from(number)))),
-            truths: row(
-                [("Node.on", self.on), ("b", self.b)].map(|(text, truth)| (name(text, 0), truth))
-            ),
+            objects: row(statics.into_iter().chain(taken).chain(constants)),
+            ints: row([
+                (plain("Node.size"), self.size.into()),
+                (plain("Node.total"), self.total.into()),
+                (plain("n"), self.n.into()),
+            ]),
+            truths: row([(plain("Node.on"), self.on), (plain("b"), self.b)]),
             sets: self.sets(),
             fields: self.fields(),
         }
     }
 
-    fn sets(&self) -> Row<(jh_name::Name, Row<u32>)> {
+    fn sets(&self) -> Row<(Name, Row<u32>)> {
         let sets = [
             ("alloc", self.objects_of(|kind| kind != Kind::Free)),
             ("Node", self.objects_of(|kind| kind == Kind::Node)),
@@ -292,33 +275,19 @@ impl World {
         row(sets.map(|(text, set)| (name(text, 0), row(set))))
     }
 
-    fn fields(&self) -> Row<(jh_name::Name, FieldValue)> {
-        let objects = self.objects.iter();
+    /// The values of a field at the objects from null on.
+    fn values<T>(&self, value: impl Fn(&Object) -> T) -> Row<T> {
+        row(self.objects.iter().map(value))
+    }
+
+    fn fields(&self) -> Row<(Name, FieldValue)> {
         let fields = [
-            (
-                "Node.next",
-                FieldValue::Obj(row(objects.clone().map(|object| object.next))),
-            ),
-            (
-                "Node.leaf",
-                FieldValue::Obj(row(objects.clone().map(|object| object.leaf))),
-            ),
-            (
-                "Node.value",
-                FieldValue::Int(row(objects.clone().map(|object| object.value.into()))),
-            ),
-            (
-                "Leaf.weight",
-                FieldValue::Int(row(objects.clone().map(|object| object.weight.into()))),
-            ),
-            (
-                "Node.flag",
-                FieldValue::Bool(row(objects.clone().map(|object| object.flag))),
-            ),
-            (
-                "Node.near",
-                FieldValue::Set(row(objects.map(|object| row(listed(&object.near))))),
-            ),
+            ("Node.next", Obj(self.values(|it| it.next))),
+            ("Node.leaf", Obj(self.values(|it| it.leaf))),
+            ("Node.value", Int(self.values(|it| it.value.into()))),
+            ("Node.flag", Bool(self.values(|it| it.flag))),
+            ("Node.near", Set(self.values(|it| row(listed(&it.near))))),
+            ("Leaf.weight", Int(self.values(|it| it.weight.into()))),
         ];
         row(fields.map(|(text, values)| (name(text, 0), values)))
     }
