@@ -14,17 +14,18 @@ use jh_value::{boxed_field, boxed_formula, boxed_int, boxed_set, boxed_term, val
 use rattle_std::alloc::Global;
 use std::str::SplitWhitespace;
 
-/// The operation of a word, with 0 for each part, or none where the word is no operation's. `times` and `divides`
-/// have a colon and a factor behind them.
+/// The operation of a word, with 0 for each part, or none where the word is no operation's. `times` and `divides` have
+/// a colon and a factor behind them.
 pub fn operation(word: &str) -> Option<Shape> {
-    if let Some((word, factor)) = word.split_once(':') {
-        let factor = factor.parse().ok()?;
-        return match word {
-            "times" => Some(Shape::Scale(factor, 0)),
-            "divides" => Some(Shape::Divides(factor, 0)),
-            _ => None,
-        };
+    match word.split_once(':') {
+        Some(("times", factor)) => Some(Shape::Scale(factor.parse().ok()?, 0)),
+        Some(("divides", factor)) => Some(Shape::Divides(factor.parse().ok()?, 0)),
+        Some(_) => None,
+        None => operation_without_factor(word),
     }
+}
+
+fn operation_without_factor(word: &str) -> Option<Shape> {
     Some(match word {
         "true" => Shape::True,
         "false" => Shape::False,
