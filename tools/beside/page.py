@@ -23,7 +23,7 @@ main { display: grid; grid-template-columns: minmax(0, 3fr) minmax(18rem, 2fr); 
 mark { color: inherit; background: none; border-bottom: 2px solid var(--good); }
 mark.unproved { border-color: var(--open); background: color-mix(in srgb, var(--open) 15%, transparent); }
 mark.refused { border-color: var(--bad); background: color-mix(in srgb, var(--bad) 15%, transparent); }
-.verdicts { padding: 0 1rem 0 3.5rem; font-size: 12px; min-width: max-content; }
+.verdicts { padding: 0 1rem 0 3.5rem; font-size: 12px; position: sticky; left: 0; }
 .verdicts a { display: inline-block; margin: 0 .5rem .2rem 0; padding: 0 .5rem; border: 1px solid; border-radius: 1rem;
   text-decoration: none; color: var(--good); }
 a.unproved, h2.unproved { color: var(--open) !important; }

@@ -1,5 +1,4 @@
 """What the program says, in words."""
-import re
 
 VERDICTS = {
     'trivial': 'proved at sight',
@@ -18,6 +17,8 @@ KINDS = {
     'assert': 'the assert',
     'note': 'the note',
 }
+# How many equations are told.
+SHOWN = 8
 LIMITS = {'sets': 6, 'elements': 8, 'size': 67_108_864}
 
 
@@ -43,10 +44,16 @@ def refuted(pieces):
         elif words[:1] == ['number']:
             told.append(f'a number is {difference(words[2], words[4])}')
         elif words[:1] == ['region']:
-            told.append(f'{number(words[3])} further objects lie in one region')
-    count = f'with {len(classes)} object{"" if len(classes) == 1 else "s"}, null among them' if classes else ''
-    world = ', '.join([count] * bool(count) + told)
-    return f'sizes: what is said of sets, sizes and numbers leaves room for a world where it is false ({world})'
+            told.append(f'{number(words[3])} objects more lie in one region')
+    if len(classes) == 1:
+        told.insert(0, 'each object that is named is null')
+    elif classes:
+        told.insert(0, f'{len(classes)} different objects are named, null among them')
+    return f'sizes: what is said of sets, sizes and numbers leaves room for it to be false{where(told)}'
+
+
+def where(told):
+    return f': where {", ".join(told)}' if told else ''
 
 
 def number(text):
@@ -66,26 +73,22 @@ def too_large(sizes):
 
 def is_open(equations):
     """What a ground model says."""
-    pairs = distinct(equations)
-    if not pairs:
-        return 'objects: what is said of objects leaves room for it to be false, even where all that are named differ'
-    told = ', '.join(f'{spoken(one)} is {spoken(other)}' for one, other in pairs)
-    return f'objects: what is said of objects leaves room for it to be false: where {told}'
+    told = [f'{one} is {other}' for one, other in distinct(equations)]
+    said = 'objects: what is said of objects leaves room for it to be false'
+    if not told:
+        return f'{said}, even where all that are named differ'
+    turned = '; a name with @ is what it was at another moment, or an object that is meant to be there'
+    return said + where(told[:SHOWN]) + (', ..' if told[SHOWN:] else '') + (turned if '@' in str(told[:SHOWN]) else '')
 
 
 def distinct(equations):
-    """The equations that say something, each once."""
+    """The equations that say something, each once. What a field holds at null says nothing."""
     found = []
     for equation in equations.split('; '):
         one, _, other = equation.partition(' = ')
-        if other and one != other and (other, one) not in found:
+        if other and one != other and (other, one) not in found and 'null..' not in (one[:6], other[:6]):
             found.append((one, other))
     return found
-
-
-def spoken(name):
-    """A side of an equation, with what the turns in it mean."""
-    return re.sub(r'@\d+', lambda it: "'" * min(int(it[0][1:]), 3), name)
 
 
 def refused(refusal):
