@@ -11,7 +11,7 @@ TOP = os.path.dirname(os.path.dirname(os.path.dirname(os.path.abspath(__file__))
 # Where `make install` puts the program; what it is stands beside it.
 INSTALLED = f'{TOP}/jahob_main'
 PATIENCE = 2
-UNPROVED = 'a build without proofs'
+PROVED, UNPROVED = 'proved', 'a build without proofs'
 
 
 def script():
@@ -24,27 +24,36 @@ def script():
 
 @functools.cache
 def found():
-    """The words that start the program, and what it is in words."""
+    """The words that start the program, and what it is, in lines of which the first says whether it is proved."""
     if os.environ.get('JAHOB'):
-        return [os.environ['JAHOB']], 'the program that the variable JAHOB names'
+        return [os.environ['JAHOB']], ['the program that the variable JAHOB names']
     if os.path.exists(INSTALLED):
         with open(f'{TOP}/about', encoding='utf-8') as file:
-            return [INSTALLED], file.read().strip()
+            return [INSTALLED], file.read().splitlines()
     kept = script()
     proved = kept.built('proved') if kept.has_proved() else None
-    if proved:
-        return [proved], 'proved'
-    return [kept.built('unproved') or f'{TOP}/jahob'], UNPROVED
+    path = proved or kept.built('unproved') or f'{TOP}/jahob'
+    return [path], [PROVED if proved else UNPROVED, commit()]
+
+
+def commit():
+    """The line of the commit that is checked out."""
+    try:
+        words = ['git', '-C', TOP, 'log', '-1', '--format=commit %h of %cs']
+        run = subprocess.run(words, capture_output=True, text=True)
+    except OSError:
+        return 'no commit is known'
+    return run.stdout.strip() or 'no commit is known'
+
+
+def is_unproved():
+    return found()[1][:1] == [UNPROVED]
 
 
 def about():
-    """What is run: which program, and of which commit."""
-    words, what = found()
-    lines = [f'runs {words[0]}', what]
-    if os.path.isdir(f'{TOP}/.git'):
-        words = ['git', '-C', TOP, 'log', '-1', '--format=commit %h of %cs']
-        lines += subprocess.run(words, capture_output=True, text=True).stdout.split('\n')[:1]
-    return '\n'.join(lines)
+    """What is run."""
+    words, lines = found()
+    return '\n'.join([f'runs {words[0]}', *lines])
 
 
 class Run:

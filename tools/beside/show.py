@@ -55,8 +55,8 @@ def main(arguments):
     if findings.status not in (0, 1, 3):
         sys.stderr.write(findings.error)
         return findings.status
-    if program.found()[1] == program.UNPROVED:
-        print('jahob-show: this program is not proved; `./jahob --prove` proves it, once', file=sys.stderr)
+    if program.is_unproved():
+        print('jahob-show: the program that says this is not proved itself', file=sys.stderr)
     forms = {'short': short, 'json': as_json, 'html': html}
     form = forms.get(asked.form) or (lambda it: page(it, has_colours(asked.color)))
     sys.stdout.reconfigure(encoding='utf-8', errors='replace')
