@@ -25,7 +25,7 @@ use std::process::ExitCode;
 use std::{fs, io, str};
 
 /// The files of cases, by what they are about.
-const FILES: [&str; 8] = [
+const FILES: [&str; 10] = [
     "statics.cases",
     "refusals.cases",
     "types.cases",
@@ -34,6 +34,8 @@ const FILES: [&str; 8] = [
     "runs.cases",
     "heaps.cases",
     "made.cases",
+    "documents.cases",
+    "gallery.cases",
 ];
 
 /// How many cases there were, and how many of them differed.

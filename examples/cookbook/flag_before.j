@@ -1,0 +1,12 @@
+class Buffer {
+  private static int used; private static int room;
+  /*: public static ghost specvar items :: objset;
+      invariant cap: "used <= room"; invariant count: "card items = used"; */
+  public static boolean put(Object x)
+  /*: requires "x ~: items" modifies items, used
+      ensures "result = (old used < room) & (result --> items = old items Un {x}) & (~ result --> items = old items)" */
+  { if (used < room) { used = used + 1;
+      //: items := "items Un {x}";
+      return true; }
+    return false; }
+}

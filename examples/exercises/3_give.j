@@ -1,0 +1,10 @@
+// Write what `give` requires, and its body: x goes from used to free.
+class Bag {
+  private static int taken;
+  /*: public static ghost specvar free :: objset; public static ghost specvar used :: objset;
+      invariant apart: "free Int used = {}"; invariant count: "card used = taken"; */
+  public static void give(Object x)
+  /*: modifies free, used, taken
+      ensures "used = old used - {x} & free = old free Un {x} & taken = old taken - 1" */
+  { }
+}

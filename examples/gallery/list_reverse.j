@@ -1,0 +1,21 @@
+// Turns a list round, in place.
+class Node { Object data; Node next; }
+class List {
+  private static Node first;
+  /*: public static specvar nodes :: objset;
+      vardefs "nodes == {n. n ~= null & rtrancl_pt (% u v. u..Node.next = v) first n}";
+      public static specvar content :: objset;
+      vardefs "content == {x. EX n. n ~= null & rtrancl_pt (% u v. u..Node.next = v) first n & n..Node.data = x}";
+      invariant shape: "tree [Node.next]";
+      invariant root: "first = null | (ALL y. y..Node.next ~= first)"; */
+
+  public static void reverse() /*: modifies nodes ensures "nodes = old nodes & content = old content" */
+  { Node p = first; Node r = null;
+    while /*: inv forest: "tree [Node.next]"
+              inv roots: "ALL y. y..Node.next = null | y..Node.next ~= p & y..Node.next ~= r"
+              inv apart: "p = null | p ~= r"
+              inv same: "ALL x. (x : old nodes) = (x ~= null
+                      & (rtrancl_pt (% u v. u..Node.next = v) p x | rtrancl_pt (% u v. u..Node.next = v) r x))" */
+    (p != null) { Node t = r; r = p; p = p.next; r.next = t; }
+    first = r; }
+}
