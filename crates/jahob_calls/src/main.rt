@@ -30,7 +30,11 @@ pub fn called(name: &'static str, answers: bool) -> Called {
 fn do_all_answer(rt: &impl Print, calls: &[Called]) -> io::Result<bool> {
     let mut all = true;
     for call in calls {
-        let word = if call.answers { "answers" } else { "wants memory" };
+        let word = if call.answers {
+            "answers"
+        } else {
+            "wants memory"
+        };
         println!(rt; "{} {word}", call.name)?;
         all = all && call.answers;
     }

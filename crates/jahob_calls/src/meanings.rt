@@ -28,8 +28,14 @@ pub fn all_called(alloc: Global) -> [Called; 4] {
     }
     [
         called("truth", truth(alloc, &interp, &Formula::True, &[]).is_ok()),
-        called("member", member(alloc, &interp, 0, &SetTerm::Univ, &[]).is_ok()),
-        called("number", number(alloc, &interp, &IntTerm::Const(1), &[]).is_ok()),
+        called(
+            "member",
+            member(alloc, &interp, 0, &SetTerm::Univ, &[]).is_ok(),
+        ),
+        called(
+            "number",
+            number(alloc, &interp, &IntTerm::Const(1), &[]).is_ok(),
+        ),
         called("object", object(alloc, &interp, &Term::Null, &[]).is_ok()),
     ]
 }

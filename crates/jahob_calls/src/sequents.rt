@@ -11,7 +11,10 @@ use std::alloc::Global;
 /// A sequent without hypotheses whose goal is false.
 fn unprovable(alloc: Global) -> Sequent {
     Sequent {
-        method: MethodId { class: 0, method: 0 },
+        method: MethodId {
+            class: 0,
+            method: 0,
+        },
         mark: Mark {
             kind: MarkKind::Post,
             place: Place { line: 1, column: 1 },
@@ -26,7 +29,10 @@ fn unprovable(alloc: Global) -> Sequent {
 /// Makes them.
 pub fn all_called(alloc: Global) -> [Called; 2] {
     let sequent = unprovable(alloc);
-    let options = Options { rounds: 1, leaves: 1 };
+    let options = Options {
+        rounds: 1,
+        leaves: 1,
+    };
     [
         called("bapa_of", bapa_of(alloc, &sequent).is_ok()),
         called("prove", prove(alloc, &sequent, options).is_ok()),

@@ -40,7 +40,10 @@ fn source_tokens(alloc: Global) -> Result<Vec<Token>, LexError>
 
 /// Whether a specification is read from the first token behind its beginning.
 fn reads_spec(alloc: Global, tokens: &[Token]) -> bool {
-    match tokens.iter().position(|token| matches!(token.kind, TokenKind::SpecOpen)) {
+    match tokens
+        .iter()
+        .position(|token| matches!(token.kind, TokenKind::SpecOpen))
+    {
         Some(at) if at + 1 < tokens.len() => spec(alloc, tokens, at + 1).is_ok(),
         _ => false,
     }
@@ -48,7 +51,10 @@ fn reads_spec(alloc: Global, tokens: &[Token]) -> bool {
 
 /// Whether a formula is read from the first token behind its quote.
 fn reads_formula(alloc: Global, tokens: &[Token]) -> bool {
-    match tokens.iter().position(|token| matches!(token.kind, TokenKind::QuoteOpen)) {
+    match tokens
+        .iter()
+        .position(|token| matches!(token.kind, TokenKind::QuoteOpen))
+    {
         Some(at) if at + 1 < tokens.len() => formula(alloc, tokens, at + 1).is_ok(),
         _ => false,
     }
@@ -122,7 +128,10 @@ fn typed_called(alloc: Global, tokens: &[Token]) -> [Called; 2]
     match typed_of(alloc, tokens) {
         None => [called("source", false); 2],
         Some(typed) => [
-            called("written_names, modified_names", names_written(alloc, &typed).is_ok()),
+            called(
+                "written_names, modified_names",
+                names_written(alloc, &typed).is_ok(),
+            ),
             called("of_method", answers_of_method(alloc, typed)),
         ],
     }

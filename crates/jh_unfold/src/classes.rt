@@ -188,13 +188,7 @@ fn add_class(
     ensures context { OnOk result (visitor.new.context ≡ visitor.old.context) }
     ensures adds { OnOk result (Adds (program_of visitor.old.context) visitor.old.gathered visitor.new.gathered (opened.in_class (program_of visitor.old.context) number (class_part class.now))) }
 {
-    add_outer(
-        &mut visitor.gathered,
-        &visitor.context,
-        at,
-        number,
-        class,
-    )?;
+    add_outer(&mut visitor.gathered, &visitor.context, at, number, class)?;
     add_methods(alloc, visitor, number, class.methods.items())?;
     Ok(())
 }

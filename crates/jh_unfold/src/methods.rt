@@ -26,18 +26,8 @@ fn add_contract(visitor: &mut Unfolding, at: &ScopeTable, method: &Method) -> Re
     ensures adds { OnOk result (Adds (program_of visitor.old.context) visitor.old.gathered visitor.new.gathered (opened.valued_some (program_of visitor.old.context) (opened.inside (kind_of_word method.now.result) (scope_by at.now)) (option_map spec_part method.now.pre) ++ opened.valued_some (program_of visitor.old.context) (opened.inside (kind_of_word method.now.result) (scope_by at.now)) (option_map spec_part method.now.post))) }
 {
     let spot = inside(at, kind_of_word(&method.result));
-    add_some(
-        &mut visitor.gathered,
-        &visitor.context,
-        &spot,
-        &method.pre,
-    )?;
-    add_some(
-        &mut visitor.gathered,
-        &visitor.context,
-        &spot,
-        &method.post,
-    )?;
+    add_some(&mut visitor.gathered, &visitor.context, &spot, &method.pre)?;
+    add_some(&mut visitor.gathered, &visitor.context, &spot, &method.post)?;
     Ok(())
 }
 
