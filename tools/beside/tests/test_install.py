@@ -86,7 +86,7 @@ class Installed(Case):
         self.assertEqual(self.completed('jahob', 'verify', '--r'), ['--rounds'])
         self.assertEqual(self.completed('jahob', 'verify', 'examples/sw'), ['examples/swap.j'])
         self.assertEqual(self.completed('jahob', 'run', 'examples/counters.j', 'Counters.t'), ['Counters.take'])
-        self.assertEqual(self.completed('jahob', 'run', 'a.j', 'A.m', 'examples/l'), ['examples/list.heap'])
+        self.assertEqual(self.completed('jahob', 'run', 'a.j', 'A.m', 'examples/lis'), ['examples/list.heap'])
         self.assertEqual(self.completed('jahob-show', '--s'), ['--short'])
         self.assertEqual(self.completed('jahob-show', 'a.j', '--color', 'n'), ['never'])
 
