@@ -4,10 +4,11 @@
 tools/plain.py FOLDER PROGRAM..    writes a workspace for `cargo` into FOLDER, and touches no file that stays as it was
 
 Rattle is Rust with contracts. What is only for the prover is dropped: clauses, `ghost` items, attributes. Rattle's own
-library differs from Rust's in that a call may answer that memory ran out. What is used of it, and of some other
-libraries of the kit, stands in tools/plain over Rust's own; of the rest the kit's sources are read. What stands on a
-line of a source stands on the same line of what is written, so that an error of `cargo` tells its place.
+library differs from Rust's in that a call may answer that memory ran out. What is used of it, and of the other
+libraries of the kit, stands in tools/plain over Rust's own; of one that doesn't stand there the kit's sources are read.
+What stands on a line of a source stands on the same line of what is written, so an error of `cargo` tells its place.
 """
+import functools
 import glob
 import os
 import re
@@ -18,6 +19,8 @@ TOP = os.path.dirname(os.path.dirname(os.path.abspath(__file__)))
 STANDING_IN = f'{TOP}/tools/plain'
 # Of what stands there that whose macros are programs.
 MACROS = ('thiserror',)
+# And what uses others that stand there.
+ABOVE = {'clap': ['strsim']}
 # How the names of variables begin by which `cargo` would build something else, or put it elsewhere.
 NOT_FOR_CARGO = ('CARGO_BUILD_', 'CARGO_ENCODED_', 'CARGO_PROFILE_', 'CARGO_TARGET_', 'RUSTFLAGS')
 
@@ -129,6 +132,7 @@ def text_of(path):
     return bytes_of(path).decode()
 
 
+@functools.cache
 def kit():
     """The folder of the kit."""
     guide = subprocess.run(['rt', 'doc'], capture_output=True, check=True, text=True).stdout.split()[0]
@@ -136,11 +140,12 @@ def kit():
 
 
 class Workspace:
-    """A workspace in the making: its folder, and the crates and the files that are written."""
+    """A workspace in the making: its folder, the libraries that are the kit's own although something stands for them,
+    and the crates and the files that are written."""
 
-    def __init__(self, folder):
+    def __init__(self, folder, of_kit=()):
         self.folder = folder
-        self.kit = kit()
+        self.of_kit = of_kit
         self.listed = {}
         for line in text_of(f'{TOP}/crates.txt').splitlines():
             name, _, uses = line.split('#')[0].partition(':')
@@ -171,10 +176,14 @@ class Workspace:
         lines = ''.join(f'{it} = {{ path = "../{it}" }}\n' for it in uses)
         kind = MACRO if name in MACROS else ''
         self.put(f'{name}/Cargo.toml', PACKAGE.format(name=name, kind=kind, uses=lines))
-        if os.path.exists(f'{STANDING_IN}/{name}.rs'):
+        if self.stands(name):
             self.put(f'{name}/src/lib.rs', text_of(f'{STANDING_IN}/{name}.rs'))
         else:
             self.translate(name)
+
+    def stands(self, name):
+        """Whether something stands in for a library."""
+        return name not in self.of_kit and os.path.exists(f'{STANDING_IN}/{name}.rs')
 
     def used(self, name):
         """The crates that a crate uses."""
@@ -182,15 +191,15 @@ class Workspace:
             return []
         if name in self.listed:
             uses = self.listed[name]
-        elif os.path.exists(f'{STANDING_IN}/{name}.rs'):
-            uses = []
+        elif self.stands(name):
+            uses = ABOVE.get(name, [])
         else:
-            uses = re.findall(r'^dep (\w+)$', text_of(f'{self.kit}/rlibs/{name}.rlib/format'), re.M)
+            uses = re.findall(r'^dep (\w+)$', text_of(f'{kit()}/rlibs/{name}.rlib/format'), re.M)
         return ['rattle_std', *(it for it in uses if it != 'std')]
 
     def translate(self, name):
         """Writes the sources of a crate of the repository or the kit as plain Rust."""
-        source = f'{TOP}/crates/{name}/src' if name in self.listed else f'{self.kit}/rattle/{name}/src'
+        source = f'{TOP}/crates/{name}/src' if name in self.listed else f'{kit()}/rattle/{name}/src'
         for folder, _, files in os.walk(source):
             for file in files:
                 place, kind = os.path.splitext(os.path.relpath(f'{folder}/{file}', source))

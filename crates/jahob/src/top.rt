@@ -2,21 +2,17 @@
 #![tactic(auto)]
 
 ghost use Rattle.std.specs.Prelude.{◌≡◌, ◌≢◌, ◌⊎◌, ℕ, List, Some, map, string_bytes};
-ghost use Rattle.jahob.specs.Causes.{Answered, Delivered, Exact, Fits, FitsWords, HaveNoFault, Takes, reply_due};
-ghost use Rattle.jahob.specs.Made.{Sums};
-ghost use Rattle.jahob.specs.Run.{Runs};
-ghost use Rattle.jahob.specs.Verify.{Reports, Verifies};
+ghost use Rattle.jh_reply.specs.Causes.{Answered, Delivered, Exact, Fits, FitsWords, HaveNoFault, Takes, reply_due};
+ghost use Rattle.jh_reply.specs.Made.{Sums};
+ghost use Rattle.jh_reply.specs.Run.{Runs};
+ghost use Rattle.jh_reply.specs.Verify.{Reports, Verifies};
 ghost use Rattle.jh_words.specs.CommandLine.{Gen, Run, Verify, gen, job_of, run, verify};
 ghost use Rattle.jh_words.specs.Usage.{IsRefusal};
 
-use crate::making::sum_source;
-use crate::reading::spelled_source_is_accepted;
-use crate::reply::Reply;
-use crate::running::run_file;
-use crate::verification::verify_file;
 use jh_files::{Files, Sink, put_all};
 use jh_obligations::{owed_is_one, owed_is_sound, too_many_is_exact};
 use jh_prove::{provable_is_proved, proved_is_valid};
+use jh_reply::{Reply, run_file, spelled_source_is_accepted, sum_source, verify_file};
 use jh_words::{Job, WordsError, read};
 use std::alloc::Global;
 

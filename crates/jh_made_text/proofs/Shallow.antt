@@ -1,14 +1,14 @@
 -- No token of a made source is nested deep.
-use Rattle.std.proofs.Common.{◌≡◌, ℕ, zero, suc, ◌+◌, ◌%◌, ◌≤◌, Bool, true, false, cond, not, ◌&&◌, ◌==◌, nat_le, slice_index, List, [], ◌∷◌, ◌++◌, map, refl, ap, sym, subst, ◌∙◌, arith, append_assoc, leb-true}
+use Rattle.std.proofs.Common.{◌≡◌, ℕ, zero, suc, ◌+◌, ◌%◌, ◌≤◌, Bool, true, false, cond, not, ◌&&◌, ◌||◌, if◌then◌else◌, ◌==◌, nat_le, slice_index, List, [], ◌∷◌, ◌++◌, map, refl, ap, sym, subst, ◌∙◌, arith, append_assoc, leb-true}
 use Rattle.std.proofs.lemmas.Bool.{and_parts}
 use Rattle.jh_lex.specs.Modes.{mode_after}
 use Rattle.jh_lex.specs.declared.mode.Mode.{Mode}
-use Rattle.jh_lex.specs.declared.mode.Mode.TheVariants.{Code}
+use Rattle.jh_lex.specs.declared.mode.Mode.TheVariants.{Code, Specification, Formula}
 use Rattle.jh_lex.specs.declared.symbol.Symbol.TheVariants as symbol
 use Rattle.jh_lex.specs.declared.token.Token.{Token}
 use Rattle.jh_lex.specs.declared.token.TokenKind.{TokenKind}
 use Rattle.jh_lex.specs.declared.token.TokenKind.TheVariants as kind
-use Rattle.jh_nest.specs.Nesting.{is, with_token, behind_token, is_else, nesting, nestings, AllShallow}
+use Rattle.jh_nest.specs.Nesting.{is, with_token, behind_token, is_else, is_inside, ends_specification, leads_on, goes_on, nesting, nestings, AllShallow}
 use Rattle.jh_gen.specs.Generated.{number_of}
 use Rattle.jh_made_text.specs.Laws.{kind_of}
 use Rattle.jh_made_text.specs.Pieces.{items_kinds, swap_items, sum_items, cells_items, method_items, first_items, last_items, methods_kinds, source_kinds}
@@ -18,21 +18,47 @@ abbrev else_first : List TokenKind → Bool
 else_first [] = false
 else_first (k ∷ ks) = is k symbol.Else
 
+-- the same of what goes on with a statement, and of a specification before it
+abbrev inside_first : List TokenKind → Bool
+inside_first [] = false
+inside_first (k ∷ ks) = is k symbol.Else || is k symbol.LeftParenthesis
+
+abbrev leads_first : List TokenKind → Bool
+leads_first [] = false
+leads_first (k ∷ ks) = if ends_specification k then inside_first ks else leads_first ks
+
+abbrev goes_first : Mode → TokenKind → List TokenKind → Bool
+goes_first Specification k ks = (is k symbol.Semicolon && leads_first ks) || else_first ks
+goes_first m k ks = else_first ks
+
 -- whether no token of these kinds is nested deep, where the levels are these before them
 abbrev pub are_shallow : Mode → List ℕ → List TokenKind → Bool
 are_shallow m levels [] = true
-are_shallow m levels (k ∷ ks) = nat_le (nesting (with_token m k levels)) 64 && are_shallow (mode_after m k) (behind_token m k (else_first ks) (with_token m k levels)) ks
+are_shallow m levels (k ∷ ks) = nat_le (nesting (with_token m k levels)) 64 && are_shallow (mode_after m k) (behind_token m k (goes_first m k ks) (with_token m k levels)) ks
 
 else-same : (ts : List Token) → is_else ts ≡ else_first (map kind_of ts)
 else-same [] = refl
 else-same (t ∷ ts) = refl
 
+inside-same : (ts : List Token) → is_inside ts ≡ inside_first (map kind_of ts)
+inside-same [] = refl
+inside-same (t ∷ ts) = refl
+
+leads-same : (ts : List Token) → leads_on ts ≡ leads_first (map kind_of ts)
+leads-same [] = refl
+leads-same (t ∷ ts) = λ i. if ends_specification t.kind then inside-same ts i else leads-same ts i
+
+goes-same : (m : Mode) (k : TokenKind) (ts : List Token) → goes_on m k ts ≡ goes_first m k (map kind_of ts)
+goes-same Specification k ts = λ i. (is k symbol.Semicolon && leads-same ts i) || else-same ts i
+goes-same Code k ts = else-same ts
+goes-same Formula k ts = else-same ts
+
 shallow-at : (m : Mode) (levels : List ℕ) (ts : List Token) (k : ℕ) → are_shallow m levels (map kind_of ts) ≡ true → slice_index (nestings m levels ts) k ≤ 64
 shallow-at m levels [] k e = omega arith
 shallow-at m levels (t ∷ ts) zero e = leb-true _ 64 (and_parts _ _ e).0
 shallow-at m levels (t ∷ ts) (suc k) e =
-    shallow-at (mode_after m t.kind) (behind_token m t.kind (is_else ts) (with_token m t.kind levels)) ts k
-    (subst (λ b. are_shallow (mode_after m t.kind) (behind_token m t.kind b (with_token m t.kind levels)) (map kind_of ts) ≡ true) (sym (else-same ts)) (and_parts _ _ e).1)
+    shallow-at (mode_after m t.kind) (behind_token m t.kind (goes_on m t.kind ts) (with_token m t.kind levels)) ts k
+    (subst (λ b. are_shallow (mode_after m t.kind) (behind_token m t.kind b (with_token m t.kind levels)) (map kind_of ts) ≡ true) (sym (goes-same m t.kind ts)) (and_parts _ _ e).1)
 
 -- ---- the levels behind a line are those before it
 

@@ -7,7 +7,7 @@ use Rattle.jh_name.specs.declared.place.Place.{Place}
 use Rattle.jh_lex.specs.declared.mode.Mode.{Mode}
 use Rattle.jh_lex.specs.declared.token.Token.{Token}
 use Rattle.jh_lex.specs.Modes.{mode_after}
-use Rattle.jh_nest.specs.Nesting.{nesting, with_token, behind_token, is_else, nestings, first_deep}
+use Rattle.jh_nest.specs.Nesting.{nesting, with_token, behind_token, goes_on, nestings, first_deep}
 
 -- an index of the first deep one
 pub record Deep (ns : List ℕ) (ts : List Token) (p : Place) : Type 0 where
@@ -39,9 +39,9 @@ deep-first (n ∷ ns) (t ∷ ts) p e = by_test (nat_lt 64 n) refl e (deep-first 
 
 pub none-deep : (m : Mode) (ls : List ℕ) (ts : List Token) → first_deep (nestings m ls ts) ts ≡ None → (k : ℕ) → k < length ts → slice_index (nestings m ls ts) k ≤ 64
 none-deep m ls [] e k h = absurd (omega (arith, h))
-none-deep m ls (t ∷ ts) e k h = by_test (nat_lt 64 (nesting (with_token m t.kind ls))) refl e k h (λ e k h. none-deep (mode_after m t.kind) (behind_token m t.kind (is_else ts) (with_token m t.kind ls)) ts e k h) where
-  by_test : (b : Bool) → nat_lt 64 (nesting (with_token m t.kind ls)) ≡ b → (if b then Some t.place else first_deep (nestings (mode_after m t.kind) (behind_token m t.kind (is_else ts) (with_token m t.kind ls)) ts) ts) ≡ None → (k : ℕ) → k < length (t ∷ ts)
-      → (first_deep (nestings (mode_after m t.kind) (behind_token m t.kind (is_else ts) (with_token m t.kind ls)) ts) ts ≡ None → (k : ℕ) → k < length ts → slice_index (nestings (mode_after m t.kind) (behind_token m t.kind (is_else ts) (with_token m t.kind ls)) ts) k ≤ 64)
+none-deep m ls (t ∷ ts) e k h = by_test (nat_lt 64 (nesting (with_token m t.kind ls))) refl e k h (λ e k h. none-deep (mode_after m t.kind) (behind_token m t.kind (goes_on m t.kind ts) (with_token m t.kind ls)) ts e k h) where
+  by_test : (b : Bool) → nat_lt 64 (nesting (with_token m t.kind ls)) ≡ b → (if b then Some t.place else first_deep (nestings (mode_after m t.kind) (behind_token m t.kind (goes_on m t.kind ts) (with_token m t.kind ls)) ts) ts) ≡ None → (k : ℕ) → k < length (t ∷ ts)
+      → (first_deep (nestings (mode_after m t.kind) (behind_token m t.kind (goes_on m t.kind ts) (with_token m t.kind ls)) ts) ts ≡ None → (k : ℕ) → k < length ts → slice_index (nestings (mode_after m t.kind) (behind_token m t.kind (goes_on m t.kind ts) (with_token m t.kind ls)) ts) k ≤ 64)
       → slice_index (nestings m ls (t ∷ ts)) k ≤ 64
   by_test true q e k h go = absurd (none-some t.place (sym e))
   by_test false q e zero h go = grind (arith, q)

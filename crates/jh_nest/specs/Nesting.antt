@@ -48,14 +48,33 @@ with_token m k levels =
     if closes k then (if nat_lt 1 (length levels) then take (length levels - 1) levels else levels) else
     if counts m k then slice_set levels (length levels - 1) (slice_index levels (length levels - 1) + 1) else levels
 
--- behind the token: a separator begins its level anew, but not in front of `else`
+-- behind the token: a separator begins its level anew, but not where the statement goes on
 unfoldable pub behind_token : Mode → TokenKind → Bool → List ℕ → List ℕ
-behind_token m k else_follows levels =
-    if separates m k && not else_follows then slice_set levels (length levels - 1) 0 else levels
+behind_token m k goes_on levels =
+    if separates m k && not goes_on then slice_set levels (length levels - 1) 0 else levels
 
 -- whether these tokens begin with `else`
 abbrev pub is_else : List Token → Bool
 is_else ts = option_map_or (λ (t : Token). is t.kind symbol.Else) (slice_get ts 0) false
+
+-- whether these tokens begin with `else` or `(`, so that what stands before them is no whole statement
+abbrev pub is_inside : List Token → Bool
+is_inside ts = option_map_or (λ (t : Token). is t.kind symbol.Else || is t.kind symbol.LeftParenthesis) (slice_get ts 0) false
+
+abbrev pub ends_specification : TokenKind → Bool
+ends_specification kind.SpecClose = true
+ends_specification k = false
+
+-- whether `else` or `(` stands behind the end of the specification in which these tokens stand
+abbrev pub leads_on : List Token → Bool
+leads_on [] = false
+leads_on (t ∷ ts) = if ends_specification t.kind then is_inside ts else leads_on ts
+
+-- Whether the statement goes on behind a separator, in front of these tokens: `else` comes, or it is a semicolon of a specification
+-- behind whose end `else` or `(` stands. So what specifications hold doesn't hide how deep statements nest round them.
+abbrev pub goes_on : Mode → TokenKind → List Token → Bool
+goes_on mode.Specification k ts = (is k symbol.Semicolon && leads_on ts) || is_else ts
+goes_on m k ts = is_else ts
 
 -- each level but that of the file is one, and its counted tokens
 abbrev pub nesting : List ℕ → ℕ
@@ -64,7 +83,7 @@ nesting levels = sum levels + (length levels - 1)
 -- the nesting at each token
 abbrev pub nestings : Mode → List ℕ → List Token → List ℕ
 nestings m levels [] = []
-nestings m levels (t ∷ ts) = nesting (with_token m t.kind levels) ∷ nestings (mode_after m t.kind) (behind_token m t.kind (is_else ts) (with_token m t.kind levels)) ts
+nestings m levels (t ∷ ts) = nesting (with_token m t.kind levels) ∷ nestings (mode_after m t.kind) (behind_token m t.kind (goes_on m t.kind ts) (with_token m t.kind levels)) ts
 
 -- the nesting at the token of that index
 abbrev pub nesting_at : List Token → ℕ → ℕ

@@ -126,13 +126,13 @@ fn take_token(mode: Mode, kind: &TokenKind, levels: &mut Vec<u64>) -> Result<(),
     Ok(())
 }
 
-/// Begins the innermost level anew behind a separator.
+/// Begins the innermost level anew behind a separator, where the statement doesn't go on.
 #[tactic(auto, unfolding(crate::specs::Nesting::with_token, crate::specs::Nesting::behind_token))]
-fn end_token(mode: Mode, kind: &TokenKind, else_follows: bool, levels: &mut Vec<u64>)
+fn end_token(mode: Mode, kind: &TokenKind, goes_on: bool, levels: &mut Vec<u64>)
     requires some { 0 < length levels.old.items }
-    ensures value { levels.new.items ≡ nest.behind_token mode kind.now else_follows levels.old.items }
+    ensures value { levels.new.items ≡ nest.behind_token mode kind.now goes_on levels.old.items }
 {
-    if separates(mode, kind) && !else_follows {
+    if separates(mode, kind) && !goes_on {
         let last = levels.len() - 1;
         levels[last] = 0;
     }
@@ -162,6 +162,59 @@ fn is_else(tokens: &[Token], at: usize) -> bool
     }
 }
 
+/// Whether `else` or `(` stands there.
+fn is_inside(tokens: &[Token], at: usize) -> bool
+    ensures { result ≡ nest.is_inside (drop at tokens.now) }
+{
+    match tokens.get(at) {
+        Some(token) => { is(&token.kind, Symbol::Else) || is(&token.kind, Symbol::LeftParenthesis) }
+        None => false,
+    }
+}
+
+/// Whether a token ends a specification.
+fn ends_specification(kind: &TokenKind) -> bool
+    ensures { result ≡ nest.ends_specification kind.now }
+{
+    matches!(kind, TokenKind::SpecClose)
+}
+
+/// Whether `else` or `(` stands behind the end of the specification in which a token stands.
+fn leads_on(tokens: &[Token], from: usize) -> bool
+    ensures { result ≡ nest.leads_on (drop from tokens.now) }
+{
+    for at in from..tokens.len() {
+        if ends_specification(&tokens[at].kind) {
+            return is_inside(tokens, at + 1);
+        }
+    }
+    false
+}
+
+/// The same of the next token, by what it is of a token: so each specification is looked through once.
+fn leads_behind(tokens: &[Token], at: usize, leads: bool) -> bool
+    requires at { at < length tokens.now }
+    requires leads { leads ≡ nest.leads_on (drop at tokens.now) }
+    ensures { result ≡ nest.leads_on (drop (at + 1) tokens.now) }
+{
+    if ends_specification(&tokens[at].kind) {
+        leads_on(tokens, at + 1)
+    } else {
+        leads
+    }
+}
+
+/// Whether the statement goes on behind a token, in front of the one there.
+fn goes_on(mode: Mode, kind: &TokenKind, tokens: &[Token], at: usize, leads: bool) -> bool
+    requires { leads ≡ nest.leads_on (drop at tokens.now) }
+    ensures { result ≡ nest.goes_on mode kind.now (drop at tokens.now) }
+{
+    match mode {
+        Mode::Specification => (is(kind, Symbol::Semicolon) && leads) || is_else(tokens, at),
+        Mode::Code | Mode::Formula => is_else(tokens, at),
+    }
+}
+
 /// The place of the first token whose nesting exceeds 64, where there is one: brackets and quotes are levels, and each level
 /// counts its operators, dots, conditionals and loops since its last separator.
 ///
@@ -182,6 +235,7 @@ fn first_deep(alloc: Global, tokens: &[Token]) -> Result<Option<Place>, NoMemory
     let mut levels = Vec::new(alloc);
     levels.push(0)?;
     let mut mode = Mode::Code;
+    let mut leads = leads_on(tokens, 0);
     let mut at = 0;
     'each: while at < tokens.len() {
         let token = &tokens[at];
@@ -189,7 +243,9 @@ fn first_deep(alloc: Global, tokens: &[Token]) -> Result<Option<Place>, NoMemory
         if nesting(&levels) > 64 {
             return Ok(Some(token.place));
         }
-        end_token(mode, &token.kind, is_else(tokens, at + 1), &mut levels);
+        leads = leads_behind(tokens, at, leads);
+        let continues = goes_on(mode, &token.kind, tokens, at + 1, leads);
+        end_token(mode, &token.kind, continues, &mut levels);
         mode = mode.after(&token.kind);
         at += 1;
     }

@@ -8,7 +8,7 @@ use Rattle.jh_query.proofs.query.Cond.TheLaws.TheKnot as conditions
 use Rattle.jh_query.specs.contracts.query.Query as Query
 use Rattle.jh_local.proofs.Crossings.{derivation_send, derivation_sync, cause_send, cause_sync}
 use Rattle.jh_prove.specs.contracts.answer.Answer as Answer
-use Rattle.jh_prove.specs.contracts.answer.BapaCause as BapaCause
+use Rattle.jh_regions.specs.contracts.answer.BapaCause as BapaCause
 
 query_send : IsSend (Query.the_field).row
 query_send = search (row.the_send, crosses, sets.crosses, numbers.crosses, conditions.crosses, sendable) depth 60 fits 20000

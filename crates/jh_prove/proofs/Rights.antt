@@ -31,10 +31,10 @@ use Rattle.jh_query.specs.Truth.{query_true}
 use Rattle.jh_query.specs.declared.query.Query.{Query}
 use Rattle.jh_approx.specs.Laws.{TrueQueryIsValid}
 use Rattle.jh_approx.specs.Regions.{bapa_of, unlabelled}
-use Rattle.jh_prove.specs.declared.answer.BapaCause.{BapaCause}
-use Rattle.jh_prove.specs.declared.answer.BapaCause.TheVariants as cause
-use Rattle.jh_prove.specs.declared.regions.Regional.{Regional}
-use Rattle.jh_prove.specs.declared.regions.Regional.TheVariants as regional
+use Rattle.jh_regions.specs.declared.answer.BapaCause.{BapaCause}
+use Rattle.jh_regions.specs.declared.answer.BapaCause.TheVariants as cause
+use Rattle.jh_regions.specs.declared.answer.Regional.{Regional}
+use Rattle.jh_regions.specs.declared.answer.Regional.TheVariants as regional
 use Rattle.jh_prove.specs.Answers.{verdict_of, all_proved, is_unproved, is_spent, all_proved_or_spent}
 use Rattle.jh_prove.specs.Right.{IsCause, IsRegional, IsProof, IsTried, IsLocalProof, Right, AllRight, IsProvable, AllProvable, local_form}
 use Rattle.jh_prove.proofs.Pairing.{take-next}

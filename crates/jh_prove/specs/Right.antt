@@ -1,11 +1,7 @@
 -- Which answers are right for sequents.
 use Rattle.std.specs.Prelude.{◌≡◌, ◌⊎◌, ℕ, false, List, [], ◌∷◌}
-use Rattle.jh_query.specs.Tree.{QueryTree}
 use Rattle.jh_query.specs.Bare.{query_tree}
-use Rattle.jh_query.specs.Sizing.{sizing_of}
-use Rattle.jh_query.specs.Size.{query_size}
-use Rattle.jh_query.specs.Truth.{Fits, IsTrueQuery, query_true}
-use Rattle.jh_bapa.specs.Within.{IsWithin}
+pub use Rattle.jh_regions.specs.Causes.{IsCause, IsProof, IsRegional}
 use Rattle.jh_approx.specs.Regions.{bapa_of, unlabelled}
 use Rattle.jh_sequent.specs.Sequents.{SequentTree}
 use Rattle.jh_steps.specs.Closes.{ClosesSequent}
@@ -21,26 +17,6 @@ use Rattle.jh_local_form.specs.LocalOf.{local_of}
 use Rattle.jh_options.specs.declared.Options.{Options}
 use Rattle.jh_prove.specs.declared.answer.Answer.{Answer}
 use Rattle.jh_prove.specs.declared.answer.Answer.TheVariants as answer
-use Rattle.jh_prove.specs.declared.answer.BapaCause.{BapaCause}
-use Rattle.jh_prove.specs.declared.answer.BapaCause.TheVariants as cause
-use Rattle.jh_prove.specs.declared.regions.Regional.{Regional}
-use Rattle.jh_prove.specs.declared.regions.Regional.TheVariants as regional
-
--- Why a query doesn't prove its sequent: it is within the limits, and fitting sizes make it false; or one of its three numbers is
--- beyond its limit.
-abbrev pub IsCause : QueryTree → BapaCause → Type 0
-IsCause q (cause.Refuted z) = IsWithin q × Fits q (sizing_of z) × (query_true q (sizing_of z) ≡ false)
-IsCause q (cause.TooLarge sets elements size) = (¬ IsWithin q) × (sets ≡ q.sets) × (elements ≡ q.elements) × (size ≡ query_size q)
-
--- the query is within the limits, and true
-pub record IsProof (q : QueryTree) : Type 0 where
-  pub within : IsWithin q
-  pub holds : IsTrueQuery q
-
--- what regions say of a sequent with this query
-abbrev pub IsRegional : QueryTree → Regional → Type 0
-IsRegional q (regional.Proved query) = (query_tree query ≡ q) × IsProof q
-IsRegional q (regional.Unproved bapa) = IsCause q bapa
 
 -- what is searched for a sequent: its local form, without labels
 abbrev pub local_form : SequentTree → SequentTree

@@ -2,21 +2,9 @@ ghost use Rattle.std.specs.Prelude.{◌≡◌, if◌then◌else◌};
 ghost use Rattle.jh_prove.specs.Answers as spec;
 
 use jh_local::LocalCause;
-use jh_query::{Query, Sizes};
+use jh_query::Query;
+use jh_regions::BapaCause;
 use jh_steps::Derivation;
-
-/// Why regions don't prove a sequent.
-#[derive(Drop)]
-pub enum BapaCause {
-    /// These sizes fit the query of the sequent, and make its hypotheses true and its goal false.
-    Refuted(Sizes),
-    /// The query has so many sets and elements, and this size, one of which is beyond its limit.
-    TooLarge {
-        sets: u32,
-        elements: u32,
-        size: u128,
-    },
-}
 
 /// What is said of a sequent.
 #[derive(Drop)]

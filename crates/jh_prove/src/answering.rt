@@ -12,13 +12,14 @@ ghost use Rattle.jh_mentioned.specs.Notes.{IsRight};
 
 use crate::answer::Answer;
 use crate::memo::Memo;
-use crate::regions::{Asked, Regional, by_regions};
+use crate::regions::{Asked, by_regions};
 use crate::searching::by_search;
 use crate::unlabelling::{facts_without_labels, without_labels};
 use jh_local::Searched;
 use jh_mentioned::Memo as Seen;
 use jh_name::NoMemory;
 use jh_options::Options;
+use jh_regions::Regional;
 use jh_sequents::{NodeSequent, Sequents};
 use jh_table::Table;
 use jh_trivial::{is_evident, is_trivial};

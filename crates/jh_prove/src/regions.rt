@@ -3,19 +3,17 @@ ghost use Rattle.jh_approx.specs.Regions.{bapa_of, unlabelled};
 ghost use Rattle.jh_kept.specs.Asking.{IsAsked};
 ghost use Rattle.jh_mentioned.specs.Notes.{IsRight};
 ghost use Rattle.jh_query.specs.Bare.{query_tree};
-ghost use Rattle.jh_query.specs.Named.{IsWellFormed};
 ghost use Rattle.jh_sequent.specs.Sequents.{SequentTree};
 ghost use Rattle.jh_table.specs.Growth.{Extends};
 ghost use Rattle.jh_table.specs.Nodes.{nodes};
 ghost use Rattle.jh_prove.specs.Right.{IsRegional};
 
-use crate::answer::BapaCause;
 use jh_approx::queries_are_well_formed;
-use jh_bapa::{Decided, decide};
 use jh_kept::kept_facts;
 use jh_mentioned::Memo;
 use jh_name::NoMemory;
 use jh_query::Query;
+use jh_regions::{Regional, answer_of};
 use jh_sequents::NodeHyp;
 use jh_shown::shown;
 use jh_table::Table;
@@ -30,34 +28,6 @@ pub(crate) struct Asked<'a> {
     pub(crate) label: Option<usize>,
     pub(crate) facts: &'a [usize],
     pub(crate) goal: usize,
-}
-
-/// What regions say of a sequent: this is its query, which is true; or why it is no proof.
-#[derive(Drop)]
-pub(crate) enum Regional {
-    Proved(Query),
-    Unproved(BapaCause),
-}
-
-/// What regions say of a sequent with this query.
-fn answer_of(alloc: Global, query: Query) -> Result<Regional, NoMemory>
-    requires { IsWellFormed (query_tree query) }
-    ensures { IfOk result (IsRegional (query_tree query)) }
-{
-    match decide(alloc, &query) {
-        Decided::Valid => Ok(Regional::Proved(query)),
-        Decided::Refuted(sizes) => Ok(Regional::Unproved(BapaCause::Refuted(sizes))),
-        Decided::TooLarge {
-            sets,
-            elements,
-            size,
-        } => Ok(Regional::Unproved(BapaCause::TooLarge {
-            sets,
-            elements,
-            size,
-        })),
-        Decided::Memory => Err(NoMemory),
-    }
 }
 
 /// The query of a sequent.

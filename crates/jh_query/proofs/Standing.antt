@@ -35,10 +35,4 @@ next_cond conds i x h e =
     let all : drop i conds ≡ x ∷ drop (i + 1) conds = rw (add-one i) (rw (← e) at (drop-cons conds i x h)) in
     rw all refl
 
--- the first of several conditions, and the rest of the slice
-pub first_cond : (conds : List Cond) (x : Cond) → 1 ≤ length conds → x ≡ get_or conds 0 x → flat_map atoms (map cond_tree conds) ≡ atoms (cond_tree x) ++ flat_map atoms (map cond_tree (take (length conds - 1) (drop 1 conds)))
-first_cond conds x h e =
-    let whole : take (length conds - 1) (drop 1 conds) ≡ drop 1 conds = take_all (length conds - 1) (drop 1 conds) (omega (arith, length-drop 1 conds)) in
-    rw whole (next_cond conds 0 x (omega arith) e)
-
 pub ruleset standing_steps = (in-first, in-second, alone)

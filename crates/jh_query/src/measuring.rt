@@ -1,6 +1,6 @@
 #![tactic(auto, using(jh_capped::proofs::Ceilings::capped_steps, crate::proofs::Tallying::tally_steps), unfolding(crate::specs::Bare::set_tree, crate::specs::Bare::num_tree, crate::specs::Bare::cond_tree))]
 
-ghost use Rattle.std.specs.Prelude.{◌≡◌, ◌+◌, ◌≤◌, ◌∷◌, [], MatchOption, false, map, true, unsigned_abs};
+ghost use Rattle.std.specs.Prelude.{◌≡◌, ◌+◌, ◌<◌, ◌≤◌, ◌∷◌, [], MatchOption, drop, false, length, map, true, unsigned_abs};
 ghost use Rattle.std.specs.List.{flat_map};
 ghost use Rattle.jh_query.specs.Bare.{cond_tree, query_tree};
 ghost use Rattle.jh_query.specs.Tree.{QueryTree};
@@ -175,18 +175,38 @@ fn tally_cond(query: &Query, cond: &Cond, later: &Later<'_>) -> Option<Tally>
     }
 }
 
-/// What the different atoms of several conditions come to that don't stand again behind.
+/// What the different atoms of the condition at a place and of those behind it come to, of what those behind it do.
+fn tally_from(
+    query: &Query,
+    conds: &[Cond],
+    at: usize,
+    behind: Option<Tally>,
+    later: &Later<'_>,
+) -> Option<Tally>
+    requires sets { query.now.sets ≤ 16 }
+    requires at { at < length conds.now }
+    requires behind { IsTally (query_tree query.now) behind (fresh (flat_map atoms (map cond_tree (drop (at + 1) conds.now))) (later_atoms later.now)) }
+    ensures { IsTally (query_tree query.now) result (fresh (flat_map atoms (map cond_tree (drop at conds.now))) (later_atoms later.now)) }
+{
+    let rest = &conds[at + 1..];
+    joined(
+        tally_cond(query, &conds[at], &Later::Several(rest, &*later)),
+        behind,
+    )
+}
+
+/// What the different atoms of several conditions come to that don't stand again behind. It goes from the last one to the
+/// first, without recursion, since there may be as many as a source has room for.
 fn tally_several(query: &Query, conds: &[Cond], later: &Later<'_>) -> Option<Tally>
     requires { query.now.sets ≤ 16 }
     ensures { IsTally (query_tree query.now) result (fresh (flat_map atoms (map cond_tree conds.now)) (later_atoms later.now)) }
 {
-    match conds {
-        [] => nothing(),
-        [first, rest @ ..] => joined(
-            tally_cond(query, first, &Later::Several(rest, &*later)),
-            tally_several(query, rest, later),
-        ),
+    let mut tally = nothing();
+    for behind in 0..conds.len() {
+        let at = conds.len() - 1 - behind;
+        tally = tally_from(query, conds, at, tally, later);
     }
+    tally
 }
 
 /// What all different atoms of a query come to.

@@ -9,8 +9,8 @@ use Rattle.jh_sequent.specs.Sequents.{SequentTree}
 use Rattle.jh_prove.specs.Answers.{verdict_of, is_unproved, all_proved}
 use Rattle.jh_prove.specs.declared.answer.Answer.{Answer}
 use Rattle.jh_prove.specs.declared.answer.Answer.TheVariants as answer
-use Rattle.jh_prove.specs.declared.answer.BapaCause.{BapaCause}
-use Rattle.jh_prove.specs.declared.answer.BapaCause.TheVariants as cause
+use Rattle.jh_regions.specs.declared.answer.BapaCause.{BapaCause}
+use Rattle.jh_regions.specs.declared.answer.BapaCause.TheVariants as cause
 use Rattle.jh_prove.specs.declared.answer.Verdict.{Verdict}
 use Rattle.jh_prove.specs.declared.answer.Verdict.TheVariants as verdict
 use Rattle.jh_causes.specs.Causes.{refuted_line, too_large_line}

@@ -5,11 +5,10 @@ ghost use Rattle.jh_table.specs.Growth.{AreDifferent};
 ghost use Rattle.jh_table.specs.Nodes.{nodes, fits_in, tree_in};
 ghost use Rattle.jh_table.specs.declared.shapes.Shape.{Shape};
 
-use crate::Table;
+use crate::Arena;
 
-impl Table {
-    /// No two nodes are the same tree, labels included, and a node that is the tree of a shape is of that shape. It
-    /// is a law, and changes nothing.
+impl Arena {
+    /// As `Table::nodes_differ`.
     pub fn nodes_differ(&self)
         ensures different { AreDifferent (nodes self.now) }
         ensures known { (node : ℕ) (shape : Shape) → fits_in self.now shape ≡ true → slice_get (nodes self.now) node ≡ Some (tree_in self.now shape) → slice_get self.now.shapes node ≡ Some shape }
@@ -20,17 +19,10 @@ impl Table {
         let _lists = self.lists.len();
     }
 
-    /// Each part of a node is a node before it. It is a law, and changes nothing.
+    /// As `Table::parts_come_first`.
     pub fn parts_come_first(&self)
         ensures { (n : ℕ) (v w : ValueTree) → slice_get (nodes self.now) n ≡ Some v → IsChild w v → (m : ℕ) × (m < n) × (slice_get (nodes self.now) m ≡ Some w) }
     {
         let _alloc = &self.alloc;
     }
-
-    /// A table can be moved to another thread, and be read by several: where it can't, this is refused.
-    pub fn crosses_threads(&self) {
-        may_cross(self);
-    }
 }
-
-fn may_cross<T: Send + Sync>(_value: &T) {}

@@ -1,6 +1,7 @@
 //! A table of terms, fields and formulas in which each part stands once and is named by its number.
 #![tactic(auto)]
 
+mod boxed;
 mod codes;
 mod facts;
 mod laws;
@@ -12,7 +13,8 @@ mod pools;
 mod shapes;
 mod sorts;
 
+pub use boxed::Table;
 pub use facts::Facts;
-pub use listing::Table;
+pub(crate) use listing::Arena;
 pub use measures::MOST_LEVELS;
 pub use shapes::{Own, Shape};

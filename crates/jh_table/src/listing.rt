@@ -8,11 +8,9 @@ use jh_tree::Mark;
 use std::alloc::Global;
 use std::marker::Model;
 
-/// Terms, fields and formulas as shared nodes. Each node stands once: it is a shape over the numbers of
-/// its parts, which were made before it, and no two nodes are the same tree, labels included. Contracts
-/// see a table as the list `nodes` of its trees, and its pools of names, labels and lists of fields.
+/// What a table holds, by which its calls are answered. Contracts see it as they see the table.
 #[derive(Drop)]
-pub struct Table {
+pub(crate) struct Arena {
     pub(crate) alloc: Global,
     pub(crate) names: IndexSet<Name>,
     pub(crate) marks: IndexSet<Mark>,
@@ -20,7 +18,7 @@ pub struct Table {
     pub(crate) nodes: IndexMap<Shape, Facts>,
 }
 
-impl Model for Table {
+impl Model for Arena {
     ghost use Rattle.jh_table.specs.Entries.{Listing};
     ghost use Rattle.jh_table.specs.Measures.{IsTable};
     ghost use Rattle.indexmap.specs.IndexMap.{keys, values};
@@ -32,12 +30,12 @@ impl Model for Table {
     ghost invariant = { λ t. IsTable (record { names = t.names.keys; marks = t.marks.keys; lists = t.lists.keys }) (keys t.nodes) (values t.nodes) };
 }
 
-impl Table {
-    /// An empty table, which takes its memory from this allocator.
-    pub fn new(alloc: Global) -> Result<Table, NoMemory>
+impl Arena {
+    /// As `Table::new`.
+    pub fn new(alloc: Global) -> Result<Arena, NoMemory>
         ensures { IfOk result (λ made. nodes made ≡ []) }
     {
-        Ok(Table {
+        Ok(Arena {
             alloc,
             names: IndexSet::new(alloc),
             marks: IndexSet::new(alloc),
@@ -46,14 +44,14 @@ impl Table {
         })
     }
 
-    /// The number of nodes. It takes no memory.
+    /// As `Table::len`.
     pub fn len(&self) -> usize
         ensures { result ≡ length (nodes self.now) }
     {
         self.nodes.len()
     }
 
-    /// The allocator that the table was made with.
+    /// As `Table::alloc`.
     pub fn alloc(&self) -> Global {
         self.alloc
     }

@@ -1,4 +1,4 @@
-ghost use Rattle.std.specs.Prelude.{◌≡◌, ◌+◌, ◌<◌, ◌≤◌, is_some, ◌-◌, ◌^◌, ◌↔◌, IsTrue, true, false, not, Some, min, length, slice_get};
+ghost use Rattle.std.specs.Prelude.{◌≡◌, ◌+◌, ◌<◌, is_some, ◌-◌, ◌^◌, true, false, not, Some, min, length, slice_get};
 ghost use Rattle.jh_walk.specs.Sizes.{value_size, value_depth};
 ghost use Rattle.jh_table.specs.Entries.{the_name, the_value};
 ghost use Rattle.jh_table.specs.Measures.{AreFacts};
@@ -9,14 +9,13 @@ ghost use Rattle.jh_name.specs.declared.naming.Name.{Name};
 ghost use Rattle.jh_table.specs.Nodes.{nodes, fits_in, tree_in};
 
 use crate::facts::{Facts, NO_FACTS, above, has_bit, side};
-use crate::{Shape, Table};
+use crate::{Arena, Shape};
 
 /// The deepest nesting of a tree over which a walk goes: as deep as the stack carries.
 pub const MOST_LEVELS: u64 = 10_001;
 
-impl Table {
-    /// The number of nodes of a node's tree, each counted where it stands, or the greatest u64 where that is
-    /// passed. It takes no memory and looks at one node alone.
+impl Arena {
+    /// As `Table::size`.
     pub fn size(&self, node: usize) -> u64
         requires { node < length (nodes self.now) }
         ensures { result ≡ min (value_size (the_value (slice_get (nodes self.now) node))) (2 ^ 64 - 1) }
@@ -24,8 +23,7 @@ impl Table {
         self.nodes[node].extent.nodes
     }
 
-    /// How deep a node's tree nests, or the greatest u64 where that is passed. It takes no memory and looks at
-    /// one node alone.
+    /// As `Table::depth`.
     pub fn depth(&self, node: usize) -> u64
         requires { node < length (nodes self.now) }
         ensures { result ≡ min (value_depth (the_value (slice_get (nodes self.now) node))) (2 ^ 64 - 1) }
@@ -33,16 +31,7 @@ impl Table {
         self.nodes[node].extent.depth
     }
 
-    /// Whether a node's tree nests at most MOST_LEVELS deep. It takes no memory and looks at one node alone.
-    pub fn is_shallow(&self, node: usize) -> bool
-        requires { node < length (nodes self.now) }
-        ensures { IsTrue result ↔ (value_depth (the_value (slice_get (nodes self.now) node)) ≤ 10001) }
-    {
-        self.depth(node) <= MOST_LEVELS
-    }
-
-    /// The number of binders that a node needs around it: no bound variable of its tree is loose where
-    /// these stand around it, and one is where fewer do. It takes no memory and looks at one node alone.
+    /// As `Table::loose`.
     pub fn loose(&self, node: usize) -> u64
         requires { node < length (nodes self.now) }
         ensures { IsLeast (λ d. is_closed_value (the_value (slice_get (nodes self.now) node)) d) result }
@@ -50,16 +39,7 @@ impl Table {
         self.nodes[node].loose
     }
 
-    /// Whether a node has no loose bound variable. It takes no memory and looks at one node alone.
-    pub fn is_closed(&self, node: usize) -> bool
-        requires { node < length (nodes self.now) }
-        ensures { result ≡ is_closed_value (the_value (slice_get (nodes self.now) node)) 0 }
-    {
-        self.loose(node) == 0
-    }
-
-    /// Whether a name of this number may stand free in a node's tree. Where the answer is no, it doesn't, at
-    /// any sort. It takes no memory and looks at one node alone.
+    /// As `Table::may_hold`.
     pub fn may_hold(&self, node: usize, number: usize) -> bool
         requires { node < length (nodes self.now) }
         ensures { result ≡ false → (x : Name) → slice_get self.now.pools.names number ≡ Some x → value_passes (the_value (slice_get (nodes self.now) node)) (λ y s. not (name_equal y x)) ≡ true }
@@ -68,8 +48,7 @@ impl Table {
         has_bit(self.nodes[node].names, number)
     }
 
-    /// The least turn that is greater than that of each free name of a node, and 0 where it has none: a name of
-    /// this turn stands nowhere in the node. It takes no memory and looks at one node alone.
+    /// As `Table::next_turn`.
     pub fn next_turn(&self, node: usize) -> u64
         requires { node < length (nodes self.now) }
         ensures { IsLeast (λ n. value_passes (the_value (slice_get (nodes self.now) node)) (turn_below n)) result }

@@ -3,12 +3,11 @@ ghost use Rattle.jh_table.specs.Growth.{Extends, AddsOnly};
 ghost use Rattle.jh_table.specs.Nodes.{nodes, fits_in, tree_in};
 ghost use Rattle.jh_table.specs.Parts.{ArePartsBelow};
 
-use crate::{Shape, Table};
+use crate::{Arena, Shape};
 use jh_name::NoMemory;
 
-impl Table {
-    /// The node of this shape, which is made where it is new. Where the shape's tree is a node, the answer is that
-    /// node and the table stays as it is. At most this one node is added, after any answer.
+impl Arena {
+    /// As `Table::make`.
     pub fn make(&mut self, shape: Shape) -> Result<usize, NoMemory>
         requires { fits_in self.old shape ≡ true }
         ensures node { IfOk result (λ node. slice_get (nodes self.new) node ≡ Some (tree_in self.old shape)) }
@@ -29,7 +28,7 @@ impl Table {
         }
     }
 
-    /// The shape of a node. Its parts are nodes before it.
+    /// As `Table::shape`.
     pub fn shape(&self, node: usize) -> Shape
         requires { node < length (nodes self.now) }
         ensures tree { slice_get (nodes self.now) node ≡ Some (tree_in self.now result) }

@@ -3,11 +3,11 @@ ghost use Rattle.jh_table.specs.Growth.{Extends};
 ghost use Rattle.jh_table.specs.Nodes.{nodes, fits_in};
 ghost use Rattle.jh_table.specs.Parts.{parts, list_parts, has_list, IsPut};
 
-use crate::{Shape, Table};
+use crate::{Arena, Shape};
 use jh_name::NoMemory;
 
-impl Table {
-    /// The number of parts of a shape, the fields of its list among them.
+impl Arena {
+    /// As `Table::count`.
     pub fn count(&self, shape: Shape) -> usize
         requires { fits_in self.now shape ≡ true }
         ensures { result ≡ length (parts self.now.pools.lists shape) }
@@ -15,7 +15,7 @@ impl Table {
         self.fields(shape).len() + shape.own().count()
     }
 
-    /// A part of a shape, in their order: the fields of its list first.
+    /// As `Table::part`.
     pub fn part(&self, shape: Shape, index: usize) -> usize
         requires fits { fits_in self.now shape ≡ true }
         requires within { index < length (parts self.now.pools.lists shape) }
@@ -29,8 +29,7 @@ impl Table {
         }
     }
 
-    /// The shape with other parts, as many as it has and in the same order. A new list of fields is added to the
-    /// pool of lists.
+    /// As `Table::with_parts`.
     pub fn with_parts(&mut self, shape: Shape, given: &[usize]) -> Result<Shape, NoMemory>
         requires fits { fits_in self.old shape ≡ true }
         requires counted { length given.now ≡ length (parts self.old.pools.lists shape) }
@@ -44,7 +43,7 @@ impl Table {
     }
 }
 
-impl Table {
+impl Arena {
     fn fields(&self, shape: Shape) -> &[usize]
         requires { fits_in self.now shape ≡ true }
         ensures { result.now ≡ list_parts self.now.pools.lists shape }

@@ -4,13 +4,13 @@ ghost use Rattle.jh_table.specs.Entries.{the_value};
 ghost use Rattle.jh_table.specs.Growth.{Extends};
 ghost use Rattle.jh_table.specs.Nodes.{nodes};
 
-use crate::Table;
+use crate::Arena;
 use jh_name::{Name, NoMemory, Row};
 use jh_tree::Mark;
 use jh_walk::copy_mark;
 
-impl Table {
-    /// The number of a name in the pool of names, to which it is added where it is new.
+impl Arena {
+    /// As `Table::name`.
     pub fn name(&mut self, name: &Name) -> Result<usize, NoMemory>
         ensures number { IfOk result (λ number. slice_get self.new.pools.names number ≡ Some name.now) }
         ensures grows { Extends self.old self.new }
@@ -26,8 +26,7 @@ impl Table {
         }
     }
 
-    /// The number of a name in the pool of names, or none where it has none: then it stands free in no node. It
-    /// takes no memory.
+    /// As `Table::number_of`.
     pub fn number_of(&self, name: &Name) -> Option<usize>
         ensures number { IfSome result (λ number. slice_get self.now.pools.names number ≡ Some name.now) }
         ensures nowhere { result ≡ None → (node : ℕ) → node < length (nodes self.now) → value_passes (the_value (slice_get (nodes self.now) node)) (λ y s. not (name_equal y name.now)) ≡ true }
@@ -35,14 +34,14 @@ impl Table {
         self.names.get_index_of(name)
     }
 
-    /// How many names there are in the pool of names.
+    /// As `Table::name_count`.
     pub fn name_count(&self) -> usize
         ensures { result ≡ length self.now.pools.names }
     {
         self.names.len()
     }
 
-    /// The number of a label in the pool of labels, to which it is added where it is new.
+    /// As `Table::mark`.
     pub fn mark(&mut self, mark: &Mark) -> Result<usize, NoMemory>
         ensures number { IfOk result (λ number. slice_get self.new.pools.marks number ≡ Some mark.now) }
         ensures grows { Extends self.old self.new }
@@ -58,7 +57,7 @@ impl Table {
         }
     }
 
-    /// The number of a list of nodes in the pool of lists, to which it is added where it is new.
+    /// As `Table::list`.
     pub fn list(&mut self, items: &[usize]) -> Result<usize, NoMemory>
         ensures number { IfOk result (λ number. slice_get self.new.pools.lists number ≡ Some items.now) }
         ensures grows { Extends self.old self.new }
@@ -70,7 +69,7 @@ impl Table {
         Ok(number)
     }
 
-    /// The name of this number.
+    /// As `Table::name_at`.
     pub fn name_at(&self, number: usize) -> &Name
         requires { number < length self.now.pools.names }
         ensures { slice_get self.now.pools.names number ≡ Some result.now }
@@ -78,7 +77,7 @@ impl Table {
         &self.names[number]
     }
 
-    /// The label of this number.
+    /// As `Table::mark_at`.
     pub fn mark_at(&self, number: usize) -> &Mark
         requires { number < length self.now.pools.marks }
         ensures { slice_get self.now.pools.marks number ≡ Some result.now }
@@ -86,7 +85,7 @@ impl Table {
         &self.marks[number]
     }
 
-    /// The list of nodes of this number.
+    /// As `Table::list_at`.
     pub fn list_at(&self, number: usize) -> &[usize]
         requires { number < length self.now.pools.lists }
         ensures { slice_get self.now.pools.lists number ≡ Some result.now }

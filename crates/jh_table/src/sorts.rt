@@ -1,23 +1,10 @@
 #![tactic(auto, unfolding(crate::specs::Sorts::shape_sort))]
 
-ghost use Rattle.std.specs.Prelude.{◌≡◌, ◌<◌, length, slice_get};
-ghost use Rattle.jh_tree.specs.Sorts.{tree_sort};
-ghost use Rattle.jh_table.specs.Entries.{the_value};
-ghost use Rattle.jh_table.specs.Nodes.{nodes};
+ghost use Rattle.std.specs.Prelude.{◌≡◌};
 ghost use Rattle.jh_table.specs.Sorts.{shape_sort};
 
-use crate::{Shape, Table};
+use crate::{Arena, Shape};
 use jh_name::Sort;
-
-impl Table {
-    /// The sort of a node. It takes no memory and looks at one node alone.
-    pub fn sort(&self, node: usize) -> Sort
-        requires { node < length (nodes self.now) }
-        ensures { result ≡ tree_sort (the_value (slice_get (nodes self.now) node)) }
-    {
-        self.shape(node).sort()
-    }
-}
 
 impl Shape {
     /// The sort of the shape's tree.

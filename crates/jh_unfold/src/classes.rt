@@ -132,17 +132,17 @@ fn add_invariants(
 /// Adds the formulas of methods of a class.
 fn add_methods(
     alloc: Global,
-    unfolding: &mut Unfolding,
+    visitor: &mut Unfolding,
     class: usize,
     methods: &[Method],
 ) -> Result<(), NoMemory>
-    requires { IsReady unfolding.old.gathered.table unfolding.old.context }
-    ensures ready { OnOk result (IsReady unfolding.new.gathered.table unfolding.new.context) }
-    ensures context { OnOk result (unfolding.new.context ≡ unfolding.old.context) }
-    ensures adds { OnOk result (Adds (program_of unfolding.old.context) unfolding.old.gathered unfolding.new.gathered (flat_map (opened.in_method (program_of unfolding.old.context) class) (map method_part methods.now))) }
+    requires { IsReady visitor.old.gathered.table visitor.old.context }
+    ensures ready { OnOk result (IsReady visitor.new.gathered.table visitor.new.context) }
+    ensures context { OnOk result (visitor.new.context ≡ visitor.old.context) }
+    ensures adds { OnOk result (Adds (program_of visitor.old.context) visitor.old.gathered visitor.new.gathered (flat_map (opened.in_method (program_of visitor.old.context) class) (map method_part methods.now))) }
 {
     for next in methods {
-        add_method(alloc, unfolding, class, next)?;
+        add_method(alloc, visitor, class, next)?;
     }
     Ok(())
 }
@@ -177,41 +177,35 @@ fn add_outer(
 /// Adds the formulas of a class.
 fn add_class(
     alloc: Global,
-    unfolding: &mut Unfolding,
+    visitor: &mut Unfolding,
     at: &ScopeTable,
     number: usize,
     class: &Class,
 ) -> Result<(), NoMemory>
-    requires ready { IsReady unfolding.old.gathered.table unfolding.old.context }
+    requires ready { IsReady visitor.old.gathered.table visitor.old.context }
     requires outside { (x : List ℕ) → (scope_by at.now).local x ≡ None }
-    ensures ready { OnOk result (IsReady unfolding.new.gathered.table unfolding.new.context) }
-    ensures context { OnOk result (unfolding.new.context ≡ unfolding.old.context) }
-    ensures adds { OnOk result (Adds (program_of unfolding.old.context) unfolding.old.gathered unfolding.new.gathered (opened.in_class (program_of unfolding.old.context) number (class_part class.now))) }
+    ensures ready { OnOk result (IsReady visitor.new.gathered.table visitor.new.context) }
+    ensures context { OnOk result (visitor.new.context ≡ visitor.old.context) }
+    ensures adds { OnOk result (Adds (program_of visitor.old.context) visitor.old.gathered visitor.new.gathered (opened.in_class (program_of visitor.old.context) number (class_part class.now))) }
 {
-    add_outer(
-        &mut unfolding.gathered,
-        &unfolding.context,
-        at,
-        number,
-        class,
-    )?;
-    add_methods(alloc, unfolding, number, class.methods.items())?;
+    add_outer(&mut visitor.gathered, &visitor.context, at, number, class)?;
+    add_methods(alloc, visitor, number, class.methods.items())?;
     Ok(())
 }
 
 /// Adds the formulas of classes.
 pub fn add_classes(
     alloc: Global,
-    unfolding: &mut Unfolding,
+    visitor: &mut Unfolding,
     at: &ScopeTable,
     classes: &[Class],
 ) -> Result<(), NoMemory>
-    requires ready { IsReady unfolding.old.gathered.table unfolding.old.context }
+    requires ready { IsReady visitor.old.gathered.table visitor.old.context }
     requires outside { (x : List ℕ) → (scope_by at.now).local x ≡ None }
-    ensures adds { OnOk result (Adds (program_of unfolding.old.context) unfolding.old.gathered unfolding.new.gathered (opened.in_classes (program_of unfolding.old.context) 0 (map class_part classes.now))) }
+    ensures adds { OnOk result (Adds (program_of visitor.old.context) visitor.old.gathered visitor.new.gathered (opened.in_classes (program_of visitor.old.context) 0 (map class_part classes.now))) }
 {
     for number in 0..classes.len() {
-        add_class(alloc, unfolding, at, number, &classes[number])?;
+        add_class(alloc, visitor, at, number, &classes[number])?;
     }
     Ok(())
 }

@@ -58,15 +58,15 @@ fn gather_in(
     ensures { IfOk result (λ made. AreOpened (program_of context.entry) made.table made.places) }
 {
     let places = Places::new(alloc);
-    let mut unfolding = Unfolding {
+    let mut visitor = Unfolding {
         context,
         gathered: Gathered { table, places },
     };
-    add_classes(alloc, &mut unfolding, at, context.classes)?;
+    add_classes(alloc, &mut visitor, at, context.classes)?;
     let Unfolding {
         context: _context,
         gathered,
-    } = unfolding;
+    } = visitor;
     Ok(gathered)
 }
 

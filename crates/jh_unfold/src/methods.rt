@@ -19,54 +19,44 @@ use jh_visit::{entry, visit_all};
 use std::alloc::Global;
 
 /// Adds `requires` and `ensures` of a method.
-fn add_contract(unfolding: &mut Unfolding, at: &ScopeTable, method: &Method) -> Result<(), NoMemory>
-    requires { IsReady unfolding.old.gathered.table unfolding.old.context }
-    ensures ready { OnOk result (IsReady unfolding.new.gathered.table unfolding.new.context) }
-    ensures context { OnOk result (unfolding.new.context ≡ unfolding.old.context) }
-    ensures adds { OnOk result (Adds (program_of unfolding.old.context) unfolding.old.gathered unfolding.new.gathered (opened.valued_some (program_of unfolding.old.context) (opened.inside (kind_of_word method.now.result) (scope_by at.now)) (option_map spec_part method.now.pre) ++ opened.valued_some (program_of unfolding.old.context) (opened.inside (kind_of_word method.now.result) (scope_by at.now)) (option_map spec_part method.now.post))) }
+fn add_contract(visitor: &mut Unfolding, at: &ScopeTable, method: &Method) -> Result<(), NoMemory>
+    requires { IsReady visitor.old.gathered.table visitor.old.context }
+    ensures ready { OnOk result (IsReady visitor.new.gathered.table visitor.new.context) }
+    ensures context { OnOk result (visitor.new.context ≡ visitor.old.context) }
+    ensures adds { OnOk result (Adds (program_of visitor.old.context) visitor.old.gathered visitor.new.gathered (opened.valued_some (program_of visitor.old.context) (opened.inside (kind_of_word method.now.result) (scope_by at.now)) (option_map spec_part method.now.pre) ++ opened.valued_some (program_of visitor.old.context) (opened.inside (kind_of_word method.now.result) (scope_by at.now)) (option_map spec_part method.now.post))) }
 {
     let spot = inside(at, kind_of_word(&method.result));
-    add_some(
-        &mut unfolding.gathered,
-        &unfolding.context,
-        &spot,
-        &method.pre,
-    )?;
-    add_some(
-        &mut unfolding.gathered,
-        &unfolding.context,
-        &spot,
-        &method.post,
-    )?;
+    add_some(&mut visitor.gathered, &visitor.context, &spot, &method.pre)?;
+    add_some(&mut visitor.gathered, &visitor.context, &spot, &method.post)?;
     Ok(())
 }
 
 /// Adds the formulas of the statements of a method.
-fn add_body(unfolding: &mut Unfolding, at: &mut ScopeTable, body: &[Stmt]) -> Result<(), NoMemory>
-    requires { IsReady unfolding.old.gathered.table unfolding.old.context }
-    ensures ready { OnOk result (IsReady unfolding.new.gathered.table unfolding.new.context) }
-    ensures context { OnOk result (unfolding.new.context ≡ unfolding.old.context) }
-    ensures adds { OnOk result (Adds (program_of unfolding.old.context) unfolding.old.gathered unfolding.new.gathered (flat_map (opened.values_of (program_of unfolding.old.context)) (all_statements (declared_by unfolding.old.context.lookups.now) (stmt_trees body.now) (scope_by at.old)))) }
+fn add_body(visitor: &mut Unfolding, at: &mut ScopeTable, body: &[Stmt]) -> Result<(), NoMemory>
+    requires { IsReady visitor.old.gathered.table visitor.old.context }
+    ensures ready { OnOk result (IsReady visitor.new.gathered.table visitor.new.context) }
+    ensures context { OnOk result (visitor.new.context ≡ visitor.old.context) }
+    ensures adds { OnOk result (Adds (program_of visitor.old.context) visitor.old.gathered visitor.new.gathered (flat_map (opened.values_of (program_of visitor.old.context)) (all_statements (declared_by visitor.old.context.lookups.now) (stmt_trees body.now) (scope_by at.old)))) }
 {
-    let lookups = unfolding.context.lookups;
-    visit_all(unfolding, lookups, at, body)?;
+    let lookups = visitor.context.lookups;
+    visit_all(visitor, lookups, at, body)?;
     Ok(())
 }
 
 /// Adds the formulas of a method.
 pub fn add_method(
     alloc: Global,
-    unfolding: &mut Unfolding,
+    visitor: &mut Unfolding,
     class: usize,
     method: &Method,
 ) -> Result<(), NoMemory>
-    requires { IsReady unfolding.old.gathered.table unfolding.old.context }
-    ensures ready { OnOk result (IsReady unfolding.new.gathered.table unfolding.new.context) }
-    ensures context { OnOk result (unfolding.new.context ≡ unfolding.old.context) }
-    ensures adds { OnOk result (Adds (program_of unfolding.old.context) unfolding.old.gathered unfolding.new.gathered (opened.in_method (program_of unfolding.old.context) class (method_part method.now))) }
+    requires { IsReady visitor.old.gathered.table visitor.old.context }
+    ensures ready { OnOk result (IsReady visitor.new.gathered.table visitor.new.context) }
+    ensures context { OnOk result (visitor.new.context ≡ visitor.old.context) }
+    ensures adds { OnOk result (Adds (program_of visitor.old.context) visitor.old.gathered visitor.new.gathered (opened.in_method (program_of visitor.old.context) class (method_part method.now))) }
 {
-    let mut at = entry(alloc, unfolding.context.lookups, class, method)?;
-    add_contract(unfolding, &at, method)?;
-    add_body(unfolding, &mut at, method.body.items())?;
+    let mut at = entry(alloc, visitor.context.lookups, class, method)?;
+    add_contract(visitor, &at, method)?;
+    add_body(visitor, &mut at, method.body.items())?;
     Ok(())
 }

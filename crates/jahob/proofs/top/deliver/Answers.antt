@@ -1,6 +1,6 @@
 use Rattle.std.proofs.Common.{refl, sym, ◌∙◌}
-use Rattle.jahob.specs.Causes.{reply_due}
-use Rattle.jahob.proofs.Findings.{delivered-by}
+use Rattle.jh_reply.specs.Causes.{reply_due}
+use Rattle.jh_reply.proofs.Findings.{delivered-by}
 use Rattle.jahob.proofs.top.deliver.Goals as goal
 
 pub returns-then-is_on_out : goal.returns-then-is_on_out

@@ -1,5 +1,5 @@
-use Rattle.jahob.proofs.Exactness.{answered-exact}
-use Rattle.jahob.proofs.Findings.{answered-by, answered-memory, answered-no-fault, answered-reports, answered-runs, answered-sums, answered-verifies}
+use Rattle.jh_reply.proofs.Exactness.{answered-exact}
+use Rattle.jh_reply.proofs.Findings.{answered-by, answered-memory, answered-no-fault, answered-reports, answered-runs, answered-sums, answered-verifies}
 use Rattle.jahob.proofs.top.jahob.Goals as goal
 
 pub returns-clause-cause : goal.returns-clause-cause

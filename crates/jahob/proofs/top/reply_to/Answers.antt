@@ -1,9 +1,9 @@
 use Rattle.std.proofs.Common.{ap, ◌∙◌}
 use Rattle.std.specs.Prelude.{Some, map, string_bytes}
 use Rattle.jh_words.specs.Held.{gen_in, job_in, run_in, verify_in}
-use Rattle.jahob.proofs.Fitting.{file-fits, gen-fits, run-fits, words-fits}
-use Rattle.jahob.proofs.Few.{has-few}
-use Rattle.jahob.proofs.Leaves.{has-leaves}
+use Rattle.jh_reply.proofs.Fitting.{file-fits, gen-fits, run-fits, words-fits}
+use Rattle.jh_reply.proofs.Few.{has-few}
+use Rattle.jh_reply.proofs.Leaves.{has-leaves}
 use Rattle.jahob.proofs.top.reply_to.Goals as goal
 
 -- src/top.rt

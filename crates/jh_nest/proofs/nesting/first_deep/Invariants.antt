@@ -10,6 +10,7 @@ invariant-each l = record {
   some : 0 < length l.levels.items;
   few : nest.nesting l.levels.items ≤ 64;
   inside : l.at ≤ length l.tokens;
+  leads : l.leads ≡ nest.leads_on (drop l.at l.tokens);
 }
 
 abbrev pub decreases-each : goal.decreases-each

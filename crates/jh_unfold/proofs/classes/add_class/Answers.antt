@@ -10,9 +10,9 @@ use Rattle.jh_unfold.proofs.classes.add_class.Goals as goal
 pub returns-clause-adds : goal.returns-clause-adds
 unfolding class_part in_class
 returns-clause-adds c =
-    let p = program_of c.args.unfolding.now.context in
-    let g0 = c.args.unfolding.now.gathered in
+    let p = program_of c.args.visitor.now.context in
+    let g0 = c.args.visitor.now.gathered in
     let g1 = c.add_outer.new.gathered in
-    let g2 = c.add_methods.new.unfolding.gathered in
+    let g2 = c.add_methods.new.visitor.gathered in
     let second = subst (λ us. Adds p g1 g2 us) (λ i. flat_map (opened.in_method p c.args.number) (map method_part (c.items.ensures i))) c.in_ok-add_methods.ensures.adds in
     adds-two p g0 g1 g2 _ _ c.in_ok-add_outer.ensures.adds second

@@ -10,9 +10,9 @@ loop-number-init c = record { ready = c.requires.ready; context = refl; adds = Î
 
 pub loop-number-preserved : goal.loop-number-preserved
 loop-number-preserved c =
-    let p = program_of c.args.unfolding.now.context in
-    let a = c.loop-number.unfolding.gathered in
-    let b = c.add_class.new.unfolding.gathered in
+    let p = program_of c.args.visitor.now.context in
+    let a = c.loop-number.visitor.gathered in
+    let b = c.add_class.new.visitor.gathered in
     let one = subst (Î» y. Adds (program_of y) a b (in_class (program_of y) c.loop-number.number (class_part c.index-classes-number.result))) c.loop-number.invariant.context c.in_ok-add_class.ensures.adds in
     record {
       ready = c.in_ok-add_class.ensures.ready;
@@ -21,4 +21,4 @@ loop-number-preserved c =
     }
 
 pub returns : goal.returns
-returns c = record { adds = c.loop-number.invariant.adds c.loop-number.unfolding.gathered (adds-classes-end (program_of c.args.unfolding.now.context) c.args.classes.now c.loop-number.unfolding.gathered c.loop-number.number (omega arith)) }
+returns c = record { adds = c.loop-number.invariant.adds c.loop-number.visitor.gathered (adds-classes-end (program_of c.args.visitor.now.context) c.args.classes.now c.loop-number.visitor.gathered c.loop-number.number (omega arith)) }

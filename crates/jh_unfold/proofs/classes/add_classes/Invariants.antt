@@ -8,7 +8,7 @@ use Rattle.jh_unfold.proofs.classes.add_classes.Given as goal
 -- what adds the rest adds all
 abbrev pub invariant-loop-number : goal.invariant-loop-number
 invariant-loop-number l = record {
-  ready : IsReady l.unfolding.gathered.table l.unfolding.context;
-  context : l.unfolding.context ≡ l.fn.unfolding.context;
-  adds : (new : Gathered) → Adds (program_of l.fn.unfolding.context) l.unfolding.gathered new (in_classes (program_of l.fn.unfolding.context) l.number (map class_part (drop l.number l.classes))) → Adds (program_of l.fn.unfolding.context) l.fn.unfolding.gathered new (in_classes (program_of l.fn.unfolding.context) 0 (map class_part l.classes));
+  ready : IsReady l.visitor.gathered.table l.visitor.context;
+  context : l.visitor.context ≡ l.fn.visitor.context;
+  adds : (new : Gathered) → Adds (program_of l.fn.visitor.context) l.visitor.gathered new (in_classes (program_of l.fn.visitor.context) l.number (map class_part (drop l.number l.classes))) → Adds (program_of l.fn.visitor.context) l.fn.visitor.gathered new (in_classes (program_of l.fn.visitor.context) 0 (map class_part l.classes));
 }

@@ -10,9 +10,9 @@ loop-next-init c = record { ready = c.requires; context = refl; adds = λ new re
 
 pub loop-next-preserved : goal.loop-next-preserved
 loop-next-preserved c =
-    let p = program_of c.args.unfolding.now.context in
-    let a = c.loop-next.unfolding.gathered in
-    let b = c.add_method.new.unfolding.gathered in
+    let p = program_of c.args.visitor.now.context in
+    let a = c.loop-next.visitor.gathered in
+    let b = c.add_method.new.visitor.gathered in
     let one = subst (λ y. Adds (program_of y) a b (in_method (program_of y) c.args.class (method_part c.next-item.result))) c.loop-next.invariant.context c.in_ok-add_method.ensures.adds in
     record {
       ready = c.in_ok-add_method.ensures.ready;
@@ -27,4 +27,4 @@ pub returns-clause-context : goal.returns-clause-context
 returns-clause-context c = c.loop-next.invariant.context
 
 pub returns-clause-adds : goal.returns-clause-adds
-returns-clause-adds c = c.loop-next.invariant.adds c.loop-next.unfolding.gathered (adds-end (program_of c.args.unfolding.now.context) method_part (in_method (program_of c.args.unfolding.now.context) c.args.class) c.args.methods.now c.loop-next.unfolding.gathered c.loop-next.next-index c.loop-next-test.false)
+returns-clause-adds c = c.loop-next.invariant.adds c.loop-next.visitor.gathered (adds-end (program_of c.args.visitor.now.context) method_part (in_method (program_of c.args.visitor.now.context) c.args.class) c.args.methods.now c.loop-next.visitor.gathered c.loop-next.next-index c.loop-next-test.false)

@@ -9,7 +9,7 @@ use Rattle.jh_unfold.proofs.classes.add_methods.Given as goal
 -- what adds the rest adds all
 abbrev pub invariant-loop-next : goal.invariant-loop-next
 invariant-loop-next l = record {
-  ready : IsReady l.unfolding.gathered.table l.unfolding.context;
-  context : l.unfolding.context ≡ l.fn.unfolding.context;
-  adds : (new : Gathered) → Adds (program_of l.fn.unfolding.context) l.unfolding.gathered new (flat_map (in_method (program_of l.fn.unfolding.context) l.class) (map method_part (drop l.next-index l.methods))) → Adds (program_of l.fn.unfolding.context) l.fn.unfolding.gathered new (flat_map (in_method (program_of l.fn.unfolding.context) l.class) (map method_part l.methods));
+  ready : IsReady l.visitor.gathered.table l.visitor.context;
+  context : l.visitor.context ≡ l.fn.visitor.context;
+  adds : (new : Gathered) → Adds (program_of l.fn.visitor.context) l.visitor.gathered new (flat_map (in_method (program_of l.fn.visitor.context) l.class) (map method_part (drop l.next-index l.methods))) → Adds (program_of l.fn.visitor.context) l.fn.visitor.gathered new (flat_map (in_method (program_of l.fn.visitor.context) l.class) (map method_part l.methods));
 }

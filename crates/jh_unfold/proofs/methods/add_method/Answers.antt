@@ -13,10 +13,10 @@ use Rattle.jh_unfold.proofs.methods.add_method.Goals as goal
 pub returns-clause-adds : goal.returns-clause-adds
 unfolding in_method method_part
 returns-clause-adds c =
-    let p = program_of c.args.unfolding.now.context in
-    let a = c.args.unfolding.now.gathered in
-    let b = c.add_contract.new.unfolding.gathered in
-    let d = c.add_body.new.unfolding.gathered in
+    let p = program_of c.args.visitor.now.context in
+    let a = c.args.visitor.now.gathered in
+    let b = c.add_contract.new.visitor.gathered in
+    let d = c.add_body.new.visitor.gathered in
     let m = c.args.method.now in
     let scope = c.in_ok-at.ensures p c.requires.declared in
     let first = subst (λ s. Adds p a b (opened.valued_some p (opened.inside (kind_of_word m.result) s) (option_map spec_part m.pre) ++ opened.valued_some p (opened.inside (kind_of_word m.result) s) (option_map spec_part m.post))) scope c.in_ok-add_contract.ensures.adds in

@@ -1,0 +1,13 @@
+use Rattle.std.proofs.Common.{sym, subst}
+use Rattle.jh_ast.specs.declared.program.Program.{Program}
+use Rattle.jh_ast.specs.Bare.{program_tree}
+use Rattle.jh_sound.specs.Laws.{IsAccepted}
+use Rattle.jahob_calls.proofs.sources.typed_of.Goals as goal
+
+pub returns-in-Ok-Ok : goal.returns-in-Ok-Ok
+returns-in-Ok-Ok c =
+    let ts = c.args.tokens.now in
+    let bytes = c.requires.0 in
+    let cut = c.requires.1 in
+    subst (λ (q : Program). IsAccepted (program_tree q)) (sym c.in-Ok-check.ensures.same)
+    (c.spelled_is_accepted.ensures ts (program_tree c.in-Ok.program) (c.shape_of_tokens.ensures.shape bytes ts cut) (c.places_rise.ensures bytes ts cut) c.in-Ok.ensures.parsed.1 c.in-Ok-check.ensures.sound)

@@ -1,0 +1,25 @@
+//! Calls over boxed formulas.
+
+use crate::{Called, called};
+use jh_form::{copy, open, subst};
+use jh_name::name;
+use jh_reach::axioms;
+use jh_tree::{Formula, Term, Value};
+use std::alloc::Global;
+
+fn answers_subst(alloc: Global) -> bool {
+    match name(alloc, "A.x", 0) {
+        Ok(name) => subst(alloc, &Formula::True, &name, &Value::Obj(Term::Null)).is_ok(),
+        Err(_) => false,
+    }
+}
+
+/// Makes them.
+pub fn all_called(alloc: Global) -> [Called; 4] {
+    [
+        called("copy", copy(alloc, &Formula::True).is_ok()),
+        called("open", open(alloc, &Formula::True, &Term::Null).is_ok()),
+        called("subst", answers_subst(alloc)),
+        called("axioms", axioms(alloc, &[]).is_ok()),
+    ]
+}

@@ -1,0 +1,40 @@
+//! Calls over boxed sequents.
+
+use crate::{Called, called};
+use jh_name::{MethodId, Place, Row};
+use jh_options::Options;
+use jh_proving::{bapa_of, prove};
+use jh_sequent::Sequent;
+use jh_tree::{Formula, Mark, MarkKind};
+use std::alloc::Global;
+
+/// A sequent without hypotheses whose goal is false.
+fn unprovable(alloc: Global) -> Sequent {
+    Sequent {
+        method: MethodId {
+            class: 0,
+            method: 0,
+        },
+        mark: Mark {
+            kind: MarkKind::Post,
+            place: Place { line: 1, column: 1 },
+            name: None,
+            from: Row::of(Vec::new(alloc)),
+        },
+        hyps: Row::of(Vec::new(alloc)),
+        goal: Formula::False,
+    }
+}
+
+/// Makes them.
+pub fn all_called(alloc: Global) -> [Called; 2] {
+    let sequent = unprovable(alloc);
+    let options = Options {
+        rounds: 1,
+        leaves: 1,
+    };
+    [
+        called("bapa_of", bapa_of(alloc, &sequent).is_ok()),
+        called("prove", prove(alloc, &sequent, options).is_ok()),
+    ]
+}

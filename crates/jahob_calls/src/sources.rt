@@ -1,0 +1,154 @@
+//! Calls over sources.
+
+ghost use Rattle.std.specs.Prelude.{IfOk, IfSome};
+ghost use Rattle.jh_asserting.specs.Told.{AreFormulas};
+ghost use Rattle.jh_ast.specs.Bare.{program_tree};
+ghost use Rattle.jh_sound.specs.Laws.{IsAccepted};
+ghost use Rattle.jh_vars.specs.Reading.{IsAcyclic};
+ghost use Rattle.jahob_calls.specs.Lexed.{IsLexed};
+
+use crate::{Called, called};
+use jh_lex::{LexError, Token, TokenKind, places_rise, shape_of_tokens, tokens};
+use jh_methods::{method_name, of_method};
+use jh_name::{MethodId, NoMemory};
+use jh_parse::program;
+use jh_selected::{modified_names, written_names};
+use jh_spec::{formula, spec};
+use jh_spelled::spelled_is_accepted;
+use jh_state::state_list;
+use jh_type::{Typed, check};
+use jh_unfold::{Parts, Unfolded, unfold};
+use jh_written::written;
+use std::alloc::Global;
+
+/// A source with one method, whose contract is its one specification.
+const SOURCE: &str =
+    "class A { static int n; static void m() /*: modifies n ensures \"n = 1\" */ { n = 1; } }";
+
+/// The method of the source.
+const METHOD: MethodId = MethodId {
+    class: 0,
+    method: 0,
+};
+
+/// The tokens of the source.
+fn source_tokens(alloc: Global) -> Result<Vec<Token>, LexError>
+    ensures { IfOk result (λ made. IsLexed made.items) }
+{
+    tokens(alloc, SOURCE.as_bytes())
+}
+
+/// Whether a specification is read from the first token behind its beginning.
+fn reads_spec(alloc: Global, tokens: &[Token]) -> bool {
+    match tokens
+        .iter()
+        .position(|token| matches!(token.kind, TokenKind::SpecOpen))
+    {
+        Some(at) if at + 1 < tokens.len() => spec(alloc, tokens, at + 1).is_ok(),
+        _ => false,
+    }
+}
+
+/// Whether a formula is read from the first token behind its quote.
+fn reads_formula(alloc: Global, tokens: &[Token]) -> bool {
+    match tokens
+        .iter()
+        .position(|token| matches!(token.kind, TokenKind::QuoteOpen))
+    {
+        Some(at) if at + 1 < tokens.len() => formula(alloc, tokens, at + 1).is_ok(),
+        _ => false,
+    }
+}
+
+/// Whether the state is named that the method may write.
+fn names_written(alloc: Global, typed: &Typed) -> Result<(), NoMemory> {
+    let states = state_list(alloc, typed.program())?;
+    let places = written(alloc, typed.program())?;
+    let _names = written_names(alloc, states.as_slice(), &places, 0, "m")?;
+    let _names = modified_names(alloc, states.as_slice(), &places, 0, "m")?;
+    Ok(())
+}
+
+/// Whether the command of a method is made, where there is such a method.
+fn makes_command(alloc: Global, parts: &mut Parts, id: MethodId) -> bool
+    requires accepted { IsAccepted (program_tree parts.old.typed) }
+    requires acyclic { IsAcyclic (program_tree parts.old.typed) }
+    requires formulas { AreFormulas (program_tree parts.old.typed) parts.old.table parts.old.formulas.items }
+{
+    let formulas = parts.formulas.as_slice();
+    match method_name(parts.typed.program(), id) {
+        None => false,
+        Some(_) => of_method(alloc, &parts.typed, &mut parts.table, formulas, id).is_ok(),
+    }
+}
+
+/// Whether the command of the method is made, over the table of the formulas.
+fn makes_from(alloc: Global, unfolded: Unfolded) -> Result<bool, NoMemory>
+    requires accepted { IsAccepted (program_tree unfolded.program) }
+    requires acyclic { IsAcyclic (program_tree unfolded.program) }
+{
+    let mut parts = unfolded.into_parts(alloc)?;
+    Ok(makes_command(alloc, &mut parts, METHOD))
+}
+
+/// Whether the command of the method of a program is made.
+fn answers_of_method(alloc: Global, typed: Typed) -> bool
+    requires { IsAccepted (program_tree typed) }
+{
+    match unfold(alloc, typed) {
+        Ok(unfolded) => makes_from(alloc, unfolded).unwrap_or(false),
+        Err(_) => false,
+    }
+}
+
+/// The source that tokens spell, which breaks no type rule, where it is one.
+fn typed_of(alloc: Global, tokens: &[Token]) -> Option<Typed>
+    requires { IsLexed tokens.now }
+    ensures { IfSome result (λ typed. IsAccepted (program_tree typed)) }
+{
+    if tokens.is_empty() {
+        return None;
+    }
+    shape_of_tokens();
+    places_rise();
+    spelled_is_accepted();
+    match program(alloc, tokens) {
+        Err(_) => None,
+        Ok(program) => match check(alloc, program) {
+            Ok(typed) => Some(typed),
+            Err(_) => None,
+        },
+    }
+}
+
+/// Makes the calls over a source that breaks no type rule.
+fn typed_called(alloc: Global, tokens: &[Token]) -> [Called; 2]
+    requires { IsLexed tokens.now }
+{
+    match typed_of(alloc, tokens) {
+        None => [called("source", false); 2],
+        Some(typed) => [
+            called(
+                "written_names, modified_names",
+                names_written(alloc, &typed).is_ok(),
+            ),
+            called("of_method", answers_of_method(alloc, typed)),
+        ],
+    }
+}
+
+/// Makes them.
+pub fn all_called(alloc: Global) -> [Called; 4] {
+    match source_tokens(alloc) {
+        Err(_) => [called("tokens", false); 4],
+        Ok(tokens) => {
+            let [names, of_method] = typed_called(alloc, tokens.as_slice());
+            [
+                called("spec", reads_spec(alloc, tokens.as_slice())),
+                called("formula", reads_formula(alloc, tokens.as_slice())),
+                names,
+                of_method,
+            ]
+        }
+    }
+}

@@ -1,3 +1,0 @@
-mod Formulas
-mod Standings
-mod Facts

@@ -1,8 +1,0 @@
-use Rattle.std.proofs.Common.{ap, ◌∙◌}
-use Rattle.jh_ast.specs.Bare.{program_tree}
-use Rattle.jh_ast.specs.declared.program.Program.{Program}
-use Rattle.jh_methods.specs.Methods.{callee_at}
-use Rattle.jh_logic_cases.proofs.commands.command_in.Goals as goal
-
-pub of_method-requires-clause-there : goal.of_method-requires-clause-there
-of_method-requires-clause-there c = λ e. c.in-Some.ensures.there (ap (λ (q : Program). callee_at (program_tree q) c.args.id) c.program.ensures.same ∙ e)

@@ -1,2 +1,0 @@
-mod Branches
-pub mod Steps

@@ -1,0 +1,5 @@
+use Rattle.std.proofs.iter.Serving.{serving}
+use Rattle.jh_reply.proofs.tallying.count_bapa.Goals as goal
+
+pub returns : goal.returns
+returns c = grind serving
