@@ -15,7 +15,6 @@ import resource
 import subprocess
 import sys
 import tempfile
-import time
 
 TOP = os.path.dirname(os.path.dirname(os.path.abspath(__file__)))
 # The stack that a host gives a program, in bytes.
@@ -68,7 +67,7 @@ def doubled_definitions(size):
     """Definitions that each use the last one twice."""
     declared = ' '.join(f'public static specvar v{i} :: bool;' for i in range(size + 1))
     defined = ' '.join(f'vardefs "v{i} == v{i + 1} & v{i + 1}";' for i in range(size))
-    method = f'static void m() /*: ensures "v0" */ {{ }}'
+    method = 'static void m() /*: ensures "v0" */ { }'
     return f'class A {{ static boolean b; /*: {declared} {defined} vardefs "v{size} == b"; */ {method} }}'
 
 
@@ -190,7 +189,6 @@ def call(program, words, folder, limit):
     child = subprocess.Popen([*program, *words], cwd=folder, stdin=subprocess.DEVNULL, stdout=subprocess.PIPE,
                              stderr=subprocess.STDOUT, preexec_fn=limited)
     ended, text = 'limit', b''
-    begun = time.time()
     try:
         text, _ = child.communicate(timeout=limit)
         ended = child.returncode
@@ -198,7 +196,7 @@ def call(program, words, folder, limit):
         child.kill()
         child.communicate()
     used = resource.getrusage(resource.RUSAGE_CHILDREN)
-    return used, ended, time.time() - begun, text
+    return used, ended, text
 
 
 def measured(program, kind, size, limit):
@@ -216,10 +214,13 @@ def measured(program, kind, size, limit):
             words = ['run', 'a.j', 'A.m', 'a.heap']
         reader, writer = os.pipe()
         if not os.fork():
-            used, ended, _, text = call(program, words, folder, limit)
-            last = text.decode(errors='replace').strip().split('\n')[-1][:40]
-            os.write(writer, f'{used.ru_utime + used.ru_stime}\t{used.ru_maxrss / 1024}\t{ended}\t{last}'.encode())
-            os._exit(0)
+            try:
+                used, ended, text = call(program, words, folder, limit)
+                last = text.decode(errors='replace').strip().split('\n')[-1][:40]
+                told = f'{used.ru_utime + used.ru_stime}\t{used.ru_maxrss / 1024}\t{ended}\t{last}'
+                os.write(writer, told.encode())
+            finally:
+                os._exit(0)
         os.close(writer)
         with os.fdopen(reader, 'rb') as file:
             seconds, memory, ended, last = file.read().decode().split('\t')
@@ -227,8 +228,11 @@ def measured(program, kind, size, limit):
     return float(seconds), float(memory), ended, last
 
 
-def power(kind, sizes, times):
+def power(sizes, ours):
     """By which power the time grows from the second size to the third, as a text."""
+    times = [it[0] for it in ours]
+    if 'limit' in [it[2] for it in ours]:
+        return 'past the limit'
     if min(times[1:]) < LEAST:
         return '-'
     return f'{math.log(times[2] / times[1]) / math.log(sizes[2] / sizes[1]):.1f}'
@@ -240,7 +244,7 @@ def line(kind, program, beside, limit):
     ours = [measured(program, kind, size, limit) for size in sizes]
     times = [it[0] for it in ours]
     told = f'{kind.__name__:20} {"/".join(map(str, sizes)):18} ' + ' '.join(f'{it:8.2f}' for it in times)
-    told += f' {max(it[1] for it in ours):7.0f} MB  power {power(kind, sizes, times):4} status {ours[-1][2]}'
+    told += f' {max(it[1] for it in ours):7.0f} MB  power {power(sizes, ours):4} status {ours[-1][2]}'
     if beside:
         theirs = measured(beside, kind, sizes[-1], limit)
         told += f'  beside {theirs[0]:.2f} s, {times[-1] / max(theirs[0], 0.001):.1f} times, status {theirs[2]}'
@@ -259,7 +263,13 @@ def main():
     unknown = set(asked.kinds) - set(kinds)
     if unknown:
         sys.exit(f'there is no kind {" ".join(sorted(unknown))}: {" ".join(kinds)}')
+    for path in filter(None, [asked.program, asked.beside]):
+        if not os.access(path, os.X_OK):
+            sys.exit(f'{path} is no program')
     program = [os.path.abspath(asked.program)] if asked.program else [f'{TOP}/jahob']
+    if not asked.program:
+        # So the first figure has no build in it.
+        subprocess.run([*program, 'verify', f'{TOP}/examples/swap.j'], stdout=subprocess.DEVNULL, check=False)
     beside = [os.path.abspath(asked.beside)] if asked.beside else None
     for name in asked.kinds or kinds:
         print(line(kinds[name], program, beside, asked.limit), flush=True)

@@ -95,11 +95,14 @@ def run(path, command):
 
 
 def joined(paths):
-    """What several files have together: of a crate what the latest one says."""
+    """What several files have together: of each kind what the latest one that has it says."""
     took = {}
     for path in paths:
-        with open(path, encoding='utf-8') as file:
-            took.update(json.load(file)['took'])
+        try:
+            with open(path, encoding='utf-8') as file:
+                took.update(json.load(file)['took'])
+        except (OSError, ValueError, KeyError) as fault:
+            sys.exit(f'{path} has no minutes: {fault!r}')
     return took
 
 

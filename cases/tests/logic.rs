@@ -55,6 +55,14 @@ const TRIED: u64 = 300;
 /// object, aren't entered, and break promises, each at least once.
 const FIRST: u64 = 277;
 
+/// What comes of these runs.
+const RUNS: &str = "returned 71, broke its promises 14, failed 75, found no object 50, not entered 90, overflowed 0
+tried 300, sequents 4546, differed 0";
+
+/// What comes of the answers for half as many methods of the second grammar.
+const ANSWERS: &str =
+    "asked 150, sequents 1761, refuted 140, accepted 91, entered 5255, differed 0";
+
 /// How many methods of the first grammar are tried.
 fn count() -> u64 {
     match std::env::var("LOGIC_METHODS") {
@@ -85,17 +93,9 @@ fn runs_agree_with_weakest_preconditions_and_sequents() {
     }
     println!("{tally}");
     assert_eq!(tally.differed, 0);
-    let each = [
-        tally.returned,
-        tally.broke,
-        tally.failed,
-        tally.no_object,
-        tally.not_entered,
-    ];
-    assert!(
-        each.iter().all(|count| *count > 0),
-        "one of the ways in which runs end isn't tried"
-    );
+    if count() == TRIED {
+        assert_eq!(tally.to_string(), RUNS);
+    }
 }
 
 #[test]
@@ -109,8 +109,7 @@ fn accepted_methods_break_no_promise() {
     }
     println!("{score}");
     assert_eq!(score.differed, 0);
-    assert!(
-        score.refuted > 0 && score.accepted > 0 && score.entered > 0,
-        "nothing is tried"
-    );
+    if count() == TRIED {
+        assert_eq!(score.to_string(), ANSWERS);
+    }
 }

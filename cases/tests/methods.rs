@@ -47,8 +47,8 @@ fn cases_of(text: &str) -> Vec<(String, String)> {
     cases
 }
 
-/// Goes through the cases of some files, and prints how many there are.
-fn go_through(what: &str, files: &[&str], made_of: fn(&str) -> String) {
+/// Goes through the cases of some files, and prints how many there are, which is to be that many.
+fn go_through(what: &str, count: usize, files: &[&str], made_of: fn(&str) -> String) {
     let cases: Vec<_> = files.iter().flat_map(|text| cases_of(text)).collect();
     let mut differing = 0;
     for (source, wanted) in &cases {
@@ -62,20 +62,19 @@ fn go_through(what: &str, files: &[&str], made_of: fn(&str) -> String) {
         "{} cases of {what}, {differing} of them differ",
         cases.len()
     );
-    assert!(!cases.is_empty());
-    assert_eq!(differing, 0);
+    assert_eq!((cases.len(), differing), (count, 0));
 }
 
 #[test]
 fn formulas_have_these_values() {
     let files = [include_str!("../data/methods/formulas.cases")];
-    go_through("values of formulas", &files, |source| shown(source, values));
+    go_through("values of formulas", 41, &files, |source| shown(source, values));
 }
 
 #[test]
 fn methods_write_and_name_this_state() {
     let files = [include_str!("../data/methods/state.cases")];
-    go_through("the state of methods", &files, |source| {
+    go_through("the state of methods", 54, &files, |source| {
         shown(source, state)
     });
 }
@@ -88,7 +87,7 @@ fn methods_have_these_sequents() {
         include_str!("../data/methods/calls.cases"),
         include_str!("../data/methods/methods.cases"),
     ];
-    go_through("the sequents of methods", &files, |source| {
+    go_through("the sequents of methods", 45, &files, |source| {
         shown(source, |unfolded| sequents(unfolded, true))
     });
     if let Ok(path) = std::env::var("SEQUENTS_OF") {
@@ -100,7 +99,7 @@ fn methods_have_these_sequents() {
 #[test]
 fn methods_have_these_commands() {
     let files = [include_str!("../data/methods/commands.cases")];
-    go_through("the commands of methods", &files, |source| {
+    go_through("the commands of methods", 5, &files, |source| {
         shown(source, commands)
     });
 }

@@ -2,7 +2,8 @@
 
 use crate::judging::is_false;
 use crate::keeping::{kept_hyps, name_there};
-use cases::values::{name, row};
+use cases::row;
+use cases::values::name;
 use jh_enter::enter_formula;
 use jh_interp::Interp;
 use jh_name::{Name, Sort};

@@ -3,7 +3,8 @@
 
 use crate::random::Random;
 use cases::text;
-use cases::values::{name, row};
+use cases::row;
+use cases::values::name;
 use jh_interp::FieldValue::{self, Bool, Int, Obj, Set};
 use jh_interp::Interp;
 use jh_name::{Name, Row};

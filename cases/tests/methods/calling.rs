@@ -2,7 +2,8 @@
 //! the static `C.n`, requires that `x` is less than it and ensures that its result is what it was.
 
 use cases::text::name_text;
-use cases::values::{name, row};
+use cases::row;
+use cases::values::name;
 use jh_asserting::bare_mark;
 use jh_calls::{push_call, Called, Surroundings};
 use jh_changes::SortedName;
