@@ -1,1 +1,1 @@
-mod Formulas
+mod Standing

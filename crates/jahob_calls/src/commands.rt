@@ -1,6 +1,6 @@
 //! Calls over boxed commands.
 
-use crate::{Called, called};
+use crate::Called;
 use jh_conditions::{count, split, wp};
 use jh_guarded::Command;
 use jh_name::MethodId;
@@ -16,14 +16,14 @@ const FIRST: MethodId = MethodId {
 pub fn all_called(alloc: Global) -> [Called; 3] {
     let leave = Command::Leave;
     [
-        called(
+        Called::of(
             "wp",
             wp(alloc, &leave, &Formula::True, &Formula::False).is_ok(),
         ),
-        called(
+        Called::of(
             "count",
             count(alloc, &leave, &Formula::True, &Formula::False).is_ok(),
         ),
-        called("split", split(alloc, FIRST, &Formula::False).is_ok()),
+        Called::of("split", split(alloc, FIRST, &Formula::False).is_ok()),
     ]
 }

@@ -1,6 +1,6 @@
 //! Calls over boxed formulas.
 
-use crate::{Called, called};
+use crate::Called;
 use jh_form::{copy, open, subst};
 use jh_name::name;
 use jh_reach::axioms;
@@ -17,9 +17,9 @@ fn answers_subst(alloc: Global) -> bool {
 /// Makes them.
 pub fn all_called(alloc: Global) -> [Called; 4] {
     [
-        called("copy", copy(alloc, &Formula::True).is_ok()),
-        called("open", open(alloc, &Formula::True, &Term::Null).is_ok()),
-        called("subst", answers_subst(alloc)),
-        called("axioms", axioms(alloc, &[]).is_ok()),
+        Called::of("copy", copy(alloc, &Formula::True).is_ok()),
+        Called::of("open", open(alloc, &Formula::True, &Term::Null).is_ok()),
+        Called::of("subst", answers_subst(alloc)),
+        Called::of("axioms", axioms(alloc, &[]).is_ok()),
     ]
 }

@@ -21,9 +21,11 @@ pub struct Called {
     pub answers: bool,
 }
 
-/// A call by its name, and whether it answers.
-pub fn called(name: &'static str, answers: bool) -> Called {
-    Called { name, answers }
+impl Called {
+    /// A call by its name, and whether it answers.
+    pub fn of(name: &'static str, answers: bool) -> Called {
+        Called { name, answers }
+    }
 }
 
 /// Prints whether each of some calls answers, and answers whether all of them do.

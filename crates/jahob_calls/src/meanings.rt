@@ -2,7 +2,7 @@
 
 ghost use Rattle.std.specs.Prelude.{◌≡◌, true};
 
-use crate::{Called, called};
+use crate::Called;
 use jh_interp::{Interp, member, number, object, truth};
 use jh_name::Row;
 use jh_tree::{Formula, IntTerm, SetTerm, Term};
@@ -24,18 +24,18 @@ fn empty(alloc: Global) -> Interp {
 pub fn all_called(alloc: Global) -> [Called; 4] {
     let interp = empty(alloc);
     if !interp.is_inside() || !interp.has_all(&[]) {
-        return [called("is_inside", false); 4];
+        return [Called::of("is_inside", false); 4];
     }
     [
-        called("truth", truth(alloc, &interp, &Formula::True, &[]).is_ok()),
-        called(
+        Called::of("truth", truth(alloc, &interp, &Formula::True, &[]).is_ok()),
+        Called::of(
             "member",
             member(alloc, &interp, 0, &SetTerm::Univ, &[]).is_ok(),
         ),
-        called(
+        Called::of(
             "number",
             number(alloc, &interp, &IntTerm::Const(1), &[]).is_ok(),
         ),
-        called("object", object(alloc, &interp, &Term::Null, &[]).is_ok()),
+        Called::of("object", object(alloc, &interp, &Term::Null, &[]).is_ok()),
     ]
 }

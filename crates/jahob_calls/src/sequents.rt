@@ -1,6 +1,6 @@
 //! Calls over boxed sequents.
 
-use crate::{Called, called};
+use crate::Called;
 use jh_name::{MethodId, Place, Row};
 use jh_options::Options;
 use jh_proving::{bapa_of, prove};
@@ -34,7 +34,7 @@ pub fn all_called(alloc: Global) -> [Called; 2] {
         leaves: 1,
     };
     [
-        called("bapa_of", bapa_of(alloc, &sequent).is_ok()),
-        called("prove", prove(alloc, &sequent, options).is_ok()),
+        Called::of("bapa_of", bapa_of(alloc, &sequent).is_ok()),
+        Called::of("prove", prove(alloc, &sequent, options).is_ok()),
     ]
 }

@@ -7,7 +7,7 @@ ghost use Rattle.jh_sound.specs.Laws.{IsAccepted};
 ghost use Rattle.jh_vars.specs.Reading.{IsAcyclic};
 ghost use Rattle.jahob_calls.specs.Lexed.{IsLexed};
 
-use crate::{Called, called};
+use crate::Called;
 use jh_lex::{LexError, Token, TokenKind, places_rise, shape_of_tokens, tokens};
 use jh_methods::{method_name, of_method};
 use jh_name::{MethodId, NoMemory};
@@ -126,13 +126,13 @@ fn typed_called(alloc: Global, tokens: &[Token]) -> [Called; 2]
     requires { IsLexed tokens.now }
 {
     match typed_of(alloc, tokens) {
-        None => [called("source", false); 2],
+        None => [Called::of("source", false); 2],
         Some(typed) => [
-            called(
+            Called::of(
                 "written_names, modified_names",
                 names_written(alloc, &typed).is_ok(),
             ),
-            called("of_method", answers_of_method(alloc, typed)),
+            Called::of("of_method", answers_of_method(alloc, typed)),
         ],
     }
 }
@@ -140,12 +140,12 @@ fn typed_called(alloc: Global, tokens: &[Token]) -> [Called; 2]
 /// Makes them.
 pub fn all_called(alloc: Global) -> [Called; 4] {
     match source_tokens(alloc) {
-        Err(_) => [called("tokens", false); 4],
+        Err(_) => [Called::of("tokens", false); 4],
         Ok(tokens) => {
             let [names, of_method] = typed_called(alloc, tokens.as_slice());
             [
-                called("spec", reads_spec(alloc, tokens.as_slice())),
-                called("formula", reads_formula(alloc, tokens.as_slice())),
+                Called::of("spec", reads_spec(alloc, tokens.as_slice())),
+                Called::of("formula", reads_formula(alloc, tokens.as_slice())),
                 names,
                 of_method,
             ]

@@ -4,7 +4,7 @@ use Rattle.jh_ast.specs.Programs.{ProgramTree}
 use Rattle.jh_asserting.specs.Told.{AreFormulas}
 use Rattle.jh_sound.specs.Laws.{IsAccepted}
 use Rattle.jh_vars.specs.Reading.{IsAcyclic}
-use Rattle.jahob_calls.proofs.Formulas.{formulas-there}
+use Rattle.jahob_calls.proofs.Standing.{formulas-there}
 use Rattle.jahob_calls.proofs.sources.makes_from.Goals as goal
 
 pub makes_command-requires-clause-accepted : goal.makes_command-requires-clause-accepted
