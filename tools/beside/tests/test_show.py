@@ -126,8 +126,11 @@ class Page(Case):
         self.assertNotIn('http', out)
 
     def test_a_formula_over_several_lines_is_marked_on_each(self):
-        path = self.put('a.j', 'class A { static int n; /*: invariant "n = 0 |\n <b> ~= null"; */ }')
-        self.assertEqual(Marks(call('show', '--html', path)[1]).open, [])
+        path = self.put('a.j', 'class A { /* <b> */ static int n;\n public void m()\n'
+                        ' /*: ensures "n = 0 |\n 0 <= n & n < 1" */ { } }\n')
+        page = Marks(call('show', '--html', path)[1])
+        self.assertEqual((page.open, page.marked[:2]),
+                         ([], [('unproved', '"n = 0 |'), ('unproved', ' 0 <= n & n < 1"')]))
 
     def test_chromium_draws_it(self):
         browser = next((found for name in ('chromium', 'google-chrome') if (found := shutil.which(name))), None)
