@@ -1,4 +1,5 @@
 //! Calls over boxed formulas.
+#![tactic(auto, using(jh_tree::proofs::Steps::tree_steps), unfolding(jh_tree::specs::Closed::is_closed_value, jh_tree::specs::Closed::is_closed_term))]
 
 use crate::Called;
 use jh_form::{copy, open, subst};

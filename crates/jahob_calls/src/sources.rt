@@ -1,6 +1,6 @@
 //! Calls over sources.
 
-ghost use Rattle.std.specs.Prelude.{IfOk, IfSome};
+ghost use Rattle.std.specs.Prelude.{IfOk};
 ghost use Rattle.jh_asserting.specs.Told.{AreFormulas};
 ghost use Rattle.jh_ast.specs.Bare.{program_tree};
 ghost use Rattle.jh_sound.specs.Laws.{IsAccepted};
@@ -101,39 +101,35 @@ fn answers_of_method(alloc: Global, typed: Typed) -> bool
     }
 }
 
-/// The source that tokens spell, which breaks no type rule, where it is one.
-fn typed_of(alloc: Global, tokens: &[Token]) -> Option<Typed>
+/// Makes the calls over a source that breaks no type rule.
+fn typed_called(alloc: Global, typed: Typed) -> [Called; 2]
+    requires { IsAccepted (program_tree typed) }
+{
+    [
+        Called::of(
+            "written_names, modified_names",
+            names_written(alloc, &typed).is_ok(),
+        ),
+        Called::of("of_method", answers_of_method(alloc, typed)),
+    ]
+}
+
+/// Makes the calls over the source that tokens spell.
+fn tokens_called(alloc: Global, tokens: &[Token]) -> [Called; 2]
     requires { IsLexed tokens.now }
-    ensures { IfSome result (λ typed. IsAccepted (program_tree typed)) }
 {
     if tokens.is_empty() {
-        return None;
+        return [Called::of("tokens", false); 2];
     }
     shape_of_tokens();
     places_rise();
     spelled_is_accepted();
     match program(alloc, tokens) {
-        Err(_) => None,
+        Err(_) => [Called::of("program", false); 2],
         Ok(program) => match check(alloc, program) {
-            Ok(typed) => Some(typed),
-            Err(_) => None,
+            Ok(typed) => typed_called(alloc, typed),
+            Err(_) => [Called::of("check", false); 2],
         },
-    }
-}
-
-/// Makes the calls over a source that breaks no type rule.
-fn typed_called(alloc: Global, tokens: &[Token]) -> [Called; 2]
-    requires { IsLexed tokens.now }
-{
-    match typed_of(alloc, tokens) {
-        None => [Called::of("source", false); 2],
-        Some(typed) => [
-            Called::of(
-                "written_names, modified_names",
-                names_written(alloc, &typed).is_ok(),
-            ),
-            Called::of("of_method", answers_of_method(alloc, typed)),
-        ],
     }
 }
 
@@ -142,7 +138,7 @@ pub fn all_called(alloc: Global) -> [Called; 4] {
     match source_tokens(alloc) {
         Err(_) => [Called::of("tokens", false); 4],
         Ok(tokens) => {
-            let [names, of_method] = typed_called(alloc, tokens.as_slice());
+            let [names, of_method] = tokens_called(alloc, tokens.as_slice());
             [
                 Called::of("spec", reads_spec(alloc, tokens.as_slice())),
                 Called::of("formula", reads_formula(alloc, tokens.as_slice())),

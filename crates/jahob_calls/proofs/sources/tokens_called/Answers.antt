@@ -2,10 +2,11 @@ use Rattle.std.proofs.Common.{sym, subst}
 use Rattle.jh_ast.specs.declared.program.Program.{Program}
 use Rattle.jh_ast.specs.Bare.{program_tree}
 use Rattle.jh_sound.specs.Laws.{IsAccepted}
-use Rattle.jahob_calls.proofs.sources.typed_of.Goals as goal
+use Rattle.jahob_calls.proofs.sources.tokens_called.Goals as goal
 
-pub returns-in-Ok-Ok : goal.returns-in-Ok-Ok
-returns-in-Ok-Ok c =
+-- src/sources.rt
+pub typed_called-requires : goal.typed_called-requires
+typed_called-requires c =
     let ts = c.args.tokens.now in
     let bytes = c.requires.0 in
     let cut = c.requires.1 in
