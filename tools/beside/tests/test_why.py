@@ -107,6 +107,13 @@ class Heaps(Case):
         self.assertEqual(status, 0)
         self.assertTrue(out.startswith('No heap was found: ') and out.endswith('That proves nothing.\n'))
 
+    def test_what_breaks_an_invariant_or_requires_is_passed_over(self):
+        path = self.put('a.j', 'class A { static int n; /*: invariant "0 <= n"; */\n public static int get()\n'
+                        ' /*: requires "n ~= 3" ensures "0 <= result & result ~= 3" */ { return n; } }\n')
+        found = Search(path, 'A.get').found()
+        self.assertEqual(found.heap, None)
+        self.assertTrue(0 < found.passed < found.tried)
+
     def test_null(self):
         path = self.put('a.j', 'class A { A f; static A m(A a) { return a.f; } }')
         status, out, _ = self.why(path, 'A.m')
