@@ -13,6 +13,8 @@ from .wrapper import AFTER, AT, BEFORE, LEFT, TRY, meanings, stepped, wrapped
 # How many heaps are tried with so many objects.
 TRIES = {0: 20, 1: 200, 2: 600, 3: 1200, 4: 2000}
 GUESSED = 400
+# How many are made before what came of them is looked at.
+PART = 64
 FREE = 2
 STEPS = 40
 NUMBERS = 0, 1, -1, 2, 3, 4
@@ -37,19 +39,19 @@ class Heaps:
         guesses = [(count, True) for count in (1, 2, 3, 4) for _ in range(GUESSED // 4)] if self.same else []
         for count, is_guess in guesses + [(count, False) for count, tries in TRIES.items() for _ in range(tries)]:
             heap = self.heap(count, is_guess)
-            if heap not in seen:
+            if heap and heap not in seen:
                 seen.add(heap)
                 yield heap
 
     def heap(self, count, is_guess):
-        """The text of a heap with so many objects."""
-        classes = {it: sorted(self.chance.choices(self.classes, k=count)).count(it) for it in self.classes}
+        """The text of a heap with so many objects, or nothing where there is none that the method can be called on."""
+        drawn = self.chance.choices(self.classes, k=count)
         objects, first = {it: [] for it in self.model.ends}, 1
-        for name, size in classes.items():
-            objects[name] = list(range(first, first + size))
-            first += size
+        for name in self.classes:
+            objects[name] = list(range(first, first + drawn.count(name)))
+            first += drawn.count(name)
         if not self.method.fixed and not objects[self.method.of]:
-            return f'universe {count + FREE}\n'
+            return None
         lines = [f'universe {count + FREE}']
         lines += [f'class {name} {" ".join(map(str, held))}' for name, held in objects.items() if held]
         values = self.values(objects, count, is_guess)
@@ -115,16 +117,18 @@ class Search:
             with open(f'{folder}/wrapped.j', 'w', encoding='utf-8', errors='surrogateescape') as file:
                 file.write(self.text)
             heaps = list(Heaps(self.model, self.method, self.equations).all())
-            size = 64
-            for start in range(0, len(heaps), size):
-                part = heaps[start:start + size]
+            for start in range(0, len(heaps), PART):
+                part = heaps[start:start + PART]
                 for heap, run in zip(part, pool.map(lambda it: self.run(folder, *it), enumerate(part))):
-                    if run.status in (2, 3, 4, 70):
+                    if run.status in (2, 3, 4, 15, 70):
                         return run.err
                     tried += 1
                     if (broken := self.places.broken(run, self.meanings)):
+                        program.tell('')
                         return Found(heap, broken, tried, passed)
                     passed += self.places.is_passed_over(run)
+                program.tell(f'{tried} of {len(heaps)} heaps tried')
+        program.tell('')
         return Found(None, None, tried, passed)
 
     def steps(self, heap):

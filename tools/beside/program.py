@@ -57,13 +57,20 @@ def about():
 
 
 class Run:
-    """What came of the program: its status, and the texts on standard output and standard error."""
+    """What came of the program: its status, and the texts on standard output and standard error. Where it takes longer
+    than so many seconds it is ended, and has no status."""
 
-    def __init__(self, *words, patient=False):
+    def __init__(self, *words, patient=False, limit=None):
         process = subprocess.Popen([*found()[0], *words], stdin=subprocess.DEVNULL, stdout=subprocess.PIPE,
                                    stderr=subprocess.PIPE)
-        out, err = waited_for(process) if patient else process.communicate()
-        self.status, self.out, self.err = process.returncode, told(out), told(err)
+        try:
+            out, err = waited_for(process) if patient else process.communicate(timeout=limit)
+            self.status = process.returncode
+        except subprocess.TimeoutExpired:
+            process.kill()
+            out, err = process.communicate()
+            self.status = None
+        self.out, self.err = told(out), told(err)
 
 
 def told(data):
@@ -79,8 +86,13 @@ def waited_for(process):
             texts = process.communicate(timeout=wait)
             break
         except subprocess.TimeoutExpired:
-            if sys.stderr.isatty():
-                print(f'\rjahob is working, {time.time() - start:.0f} s', end='', file=sys.stderr, flush=True)
-    if sys.stderr.isatty() and time.time() - start >= PATIENCE:
-        print('\r\033[K', end='', file=sys.stderr, flush=True)
+            tell(f'jahob is working, {time.time() - start:.0f} s')
+    if time.time() - start >= PATIENCE:
+        tell('')
     return texts
+
+
+def tell(text):
+    """Says on a terminal what is being done, in the place of what was said before."""
+    if sys.stderr.isatty():
+        print(f'\r\033[K{text}', end='', file=sys.stderr, flush=True)

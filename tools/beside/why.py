@@ -15,6 +15,8 @@ from .findings import Findings, hint_text, title
 from .heaps import Search
 from .words import KINDS
 
+# How many seconds the report may take before heaps are made without it.
+LIMIT = 10
 TESTED = 'That the asserts round the call say what the contract says is tested only.'
 
 
@@ -41,9 +43,10 @@ def lines_of(finding, source):
 
 
 def equations(path, name, number):
-    """The equations of the ground model of the line, or of the first line of the method that has one."""
-    run = program.Run('verify', '--', path, patient=True)
-    for it in report.sequents(run.out)[0]:
+    """The equations of the ground model of the line, or of the first line of the method that has one; none where the
+    report takes long."""
+    run = program.Run('verify', '--', path, limit=LIMIT)
+    for it in report.sequents(run.out)[0] if run.status == 1 else []:
         if it.method == name and number in (None, it.number):
             for cause in it.causes:
                 what, _, told = cause.partition(': ')

@@ -1,5 +1,6 @@
 """What `jahob-why` says of a line, and the heaps that it finds."""
 from beside import program
+from beside.heaps import Heaps as Heap
 from beside.heaps import Search
 from beside.model import Model
 from beside.source import Source
@@ -43,6 +44,20 @@ class Models(Case):
 
     def test_words_behind_dots_stay(self):
         self.assertEqual(substituted('result = p & n.. result = k', {'result': 'r'}), 'r = p & n.. result = k')
+
+
+class Made(Case):
+    def test_heaps_are_heaps(self):
+        """Each heap that is made is one: the program refuses none of them."""
+        text = TREE.replace('n..result = k', 'k = 1').replace('return p', 'Object o = new Object(); return p')
+        text = text.replace('int n;', 'int n; static Object any; /*: static ghost specvar g :: obj; */', 1)
+        path = self.put('a.j', text)
+        search = Search(path, 'Pair.other', [('p', 'this'), ('Pair.any', 'null')])
+        heaps = list(Heap(search.model, search.method, search.equations).all())
+        self.assertEqual((len(heaps), len(set(heaps))), (len(heaps), len(heaps)))
+        for heap in heaps[::100]:
+            run = program.Run('run', path, 'Pair.other', self.put('a.heap', heap))
+            self.assertEqual((run.status, run.err), (0, ''), heap)
 
 
 class Heaps(Case):
@@ -91,6 +106,13 @@ class Heaps(Case):
         status, out, _ = self.why('examples/swap.j', 'Swap.swap')
         self.assertEqual(status, 0)
         self.assertTrue(out.startswith('No heap was found: ') and out.endswith('That proves nothing.\n'))
+
+    def test_what_breaks_an_invariant_or_requires_is_passed_over(self):
+        path = self.put('a.j', 'class A { static int n; /*: invariant "0 <= n"; */\n public static int get()\n'
+                        ' /*: requires "n ~= 3" ensures "0 <= result & result ~= 3" */ { return n; } }\n')
+        found = Search(path, 'A.get').found()
+        self.assertEqual(found.heap, None)
+        self.assertTrue(0 < found.passed < found.tried)
 
     def test_null(self):
         path = self.put('a.j', 'class A { A f; static A m(A a) { return a.f; } }')
