@@ -2,7 +2,7 @@
 class Buffer {
   private static int used; private static int room; private static int total;
   /*: public static ghost specvar items :: objset; public static ghost specvar taken :: objset;
-      invariant cap: "used <= room"; invariant count: "card items = used";
+      invariant cap: "0 <= used & used <= room"; invariant count: "card items = used";
       invariant done: "card taken + used = total"; */
   static boolean hasRoom() /*: ensures "~ ~ (result = (used < room))" */ { return used < room; }
   public static boolean put(Object x)
@@ -12,10 +12,10 @@ class Buffer {
   { boolean fits = hasRoom();
     //: note asked: "~ ~ (fits = (used < room))" from post;
     if (fits) {
-      //: note some: "used < room" from asked, cond;
+      //: note some: "used < room" from asked, cond; note low: "0 <= used" from cap;
       used = used + 1; total = total + 1;
       //: items := "items Un {x}";
-      //: note n1: "used <= room" from some;
+      //: note n1: "0 <= used & used <= room" from some, low;
       //: note n2: "card items = used" from count, pre;
       //: note n3: "card taken + used = total" from done;
     }
@@ -25,8 +25,8 @@ class Buffer {
       ensures "items = old items - {x} & taken = old taken Un {x} & used = old used - 1" */
   { used = used - 1;
     //: items := "items - {x}"; taken := "taken Un {x}";
-    //: note n1: "used <= room" from cap;
     //: note n2: "card items = used" from count, pre;
+    //: note n1: "0 <= used & used <= room" from cap, n2;
     //: note n3: "card taken + used = total" from done, pre;
   }
   public static int free() /*: ensures "result = room - card items & 0 <= result" */
