@@ -5,7 +5,7 @@ from collections import Counter, namedtuple
 from . import hints, mistakes, program, report, words
 from .source import Source
 
-# `span` is a range of offsets; `hint` is the number of an idiom of the cookbook, or nothing, and what to do.
+# `span` is a range of offsets; `hint` is an entry of the cookbook, or nothing, and what to do.
 Finding = namedtuple('Finding', 'name number kind span line column verdict causes hint')
 
 
@@ -91,9 +91,9 @@ def title(finding):
 
 
 def hint_text(finding):
-    """The hint of a finding, with the number of the cookbook."""
-    number, told = finding.hint
-    return f'cookbook {number}: {told}' if number else told
+    """The hint of a finding, with the entry of the cookbook that shows it."""
+    entry, told = finding.hint
+    return f'{told} (docs/COOKBOOK.md, "{entry}")' if entry else told
 
 
 def summary(findings):

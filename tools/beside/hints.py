@@ -1,51 +1,60 @@
-"""Which idiom of docs/COOKBOOK.md may help where a sequent is unproved."""
+"""Which entry of docs/COOKBOOK.md may help where a sequent is unproved."""
 import re
 
-IDIOMS = {
-    1: '`~ ~ (F)` keeps a goal whole',
-    2: 'a note is paid by all later goals: make few, and say little in each',
-    3: '`note a: "F" from ..; note b: "~ ~ (F)" from a;` proves a step from what it needs, and keeps it small',
-    4: '`from` drops the note\'s own premise: say it in a note before, and name that',
-    5: 'change the order of the stores: cut an object out before it is put in elsewhere',
-    6: 'return the new object, and say `result` instead of `EX`',
-    7: 'say it with sets alone, or at each object: `ALL x. (x : A) = ..`',
-    8: 'say what follows of the numbers as an equation or a membership, in a note before',
+WHOLE = 'Keep a truth whole'
+HELPER = 'A helper method'
+PARTS = 'In parts, then whole'
+PREMISE = 'The premise of a note'
+STORES = 'The order of stores'
+RETURN = 'Return the new object'
+SETS = 'Say it with sets'
+NUMBERS = 'Numbers'
+# What to do, by the entry of the cookbook that shows it.
+ENTRIES = {
+    WHOLE: '`~ ~ (F)` keeps a goal whole',
+    HELPER: 'a note is paid by all later goals: make few, and say little in each',
+    PARTS: '`note a: "F" from ..; note b: "~ ~ (F)" from a;` proves a step from what it needs, and keeps it small',
+    PREMISE: '`from` drops the note\'s own premise: say it in a note before, and name that',
+    STORES: 'change the order of the stores: cut an object out before it is put in elsewhere',
+    RETURN: 'return the new object, and say `result` instead of `EX`',
+    SETS: 'say it with sets alone, or at each object: `ALL x. (x : A) = ..`',
+    NUMBERS: 'say what follows of the numbers as an equation or a membership, in a note before',
 }
 PLAIN = 'put what is open into words, and ask which hypothesis it breaks (docs/ANSWERS.md); if none, the program or ' \
     'its specification is wrong'
 
 
 def hint(formula, sequent, alike):
-    """The number of the idiom, or nothing, and what to do. `alike` counts what a method owes of the same formula."""
-    number = idiom(formula, sequent, alike)
-    return number, IDIOMS.get(number, PLAIN)
+    """The entry of the cookbook, or nothing, and what to do. `alike` counts what a method owes of the same formula."""
+    entry = entry_of(formula, sequent, alike)
+    return entry, ENTRIES.get(entry, PLAIN)
 
 
-def idiom(formula, sequent, alike):
+def entry_of(formula, sequent, alike):
     causes = ' '.join(sequent.causes)
     if sequent.kind in ('post', 'assert', 'note') and re.search(r'\bEX\b', formula):
-        return 6
+        return RETURN
     if 'bapa too large' in causes:
-        return 3
+        return PARTS
     if 'local too many' in causes:
         return too_many(formula, sequent, alike)
     if 'local budget' in causes:
-        return 3
+        return PARTS
     if sequent.kind == 'note' and '-->' in formula:
-        return 4
+        return PREMISE
     if 'tree' in formula and sequent.kind in ('inv', 'post', 'kept'):
-        return 5
+        return STORES
     if re.search(r'\bcard\b|[<>]|\bdvd\b|[-+*] ?\d', formula):
-        return 8
+        return NUMBERS
     if re.search(r'\{\w+\. ', formula):
-        return 7
+        return SETS
     return None
 
 
 def too_many(formula, sequent, alike):
-    """The idiom where there are too many instances."""
+    """The entry where there are too many instances."""
     if re.search(r'\{\w+\. ', formula):
-        return 7
+        return SETS
     if sequent.kind in ('note', 'assert'):
-        return 2
-    return 1 if alike > 3 else 3
+        return HELPER
+    return WHOLE if alike > 3 else PARTS

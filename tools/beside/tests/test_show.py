@@ -8,6 +8,7 @@ import sys
 import unittest
 from html.parser import HTMLParser
 
+from .. import hints
 from . import CASES, TOP, Case, call, read
 
 STATUSES = {'stores': 1, 'fresh': 1, 'chain': 1, 'refused': 3}
@@ -34,8 +35,13 @@ class Show(Case):
         post = entries[2]
         self.assertEqual((post['method'], post['kind'], post['verdict']), ('List.grow', 'post', 'unproved'))
         self.assertEqual(post['range'], {'start': {'line': 10, 'column': 14}, 'end': {'line': 10, 'column': 83}})
-        self.assertEqual((post['hint']['cookbook'], len(post['cause'])), (6, 2))
+        self.assertEqual((post['hint']['cookbook'], len(post['cause'])), ('Return the new object', 2))
         self.assertEqual((entries[0]['cause'], entries[0]['hint']), ([], None))
+
+    def test_the_cookbook_has_each_entry_that_a_hint_names(self):
+        headings = {line.lstrip('#').strip() for line in read(f'{TOP}/docs/COOKBOOK.md').splitlines()
+                    if line.startswith('#')}
+        self.assertEqual(set(hints.ENTRIES) - headings, set())
 
     def test_json_of_a_refusal(self):
         status, out, _ = call('show', '--json', 'cases/show/refused.j')
