@@ -78,7 +78,9 @@ def look(root, seen):
 def watch(root, path, ended):
     """Looks at a process and those below it until it ends, and writes what they took."""
     seen, begun = {}, time.time()
-    while look(root, seen) and not ended():
+    if not look(root, seen):
+        sys.exit(f'there is no process {root}')
+    while not ended() and look(root, seen):
         time.sleep(PAUSE)
     took = {}
     for kind, seconds in seen.values():

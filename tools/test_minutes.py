@@ -46,6 +46,14 @@ class Counting(unittest.TestCase):
             self.assertEqual(minutes.run(f'{folder}/took', busy), 0)
             self.assertIn('other', minutes.joined([f'{folder}/took']))
 
+    def test_a_process_that_has_ended_is_refused(self):
+        ended = subprocess.Popen(['true'])
+        ended.wait()
+        with tempfile.TemporaryDirectory() as folder:
+            told = subprocess.run([sys.executable, minutes.__file__, 'beside', str(ended.pid), f'{folder}/took'],
+                                  stderr=subprocess.PIPE)
+            self.assertEqual((told.returncode, os.listdir(folder)), (1, []))
+
     def test_an_unknown_word_is_refused(self):
         told = subprocess.run([sys.executable, minutes.__file__, 'what'], stderr=subprocess.PIPE)
         self.assertEqual(told.returncode, 1)
