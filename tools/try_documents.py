@@ -1,7 +1,8 @@
 #!/usr/bin/env python3
 """Looks whether each program and each report that a page for users shows is one of a case of `jahob_cases`, and each
 program of `examples/` the file of one. A page may show some lines of a program or a report; `..` stands for what is
-left out, at the end of a line or as a line. Prints what has no case, and ends with 1 where something has none.
+left out, at the end of a line or as a line. Shown are fenced blocks of java, and indented ones with a line of a report
+or one that begins a class. Prints what has no case, and ends with 1 where something has none.
 """
 import glob
 import os
@@ -11,6 +12,7 @@ import sys
 TOP = os.path.dirname(os.path.dirname(os.path.abspath(__file__)))
 CASES = f'{TOP}/crates/jahob_cases/data/*.cases'
 PAGES = ['ANSWERS', 'CHEATSHEET', 'COOKBOOK', 'FORMATS', 'GALLERY', 'LANGUAGE', 'LIMITS', 'MEANING_OF_YES', 'TUTORIAL']
+CLASS = re.compile(r'class \w+ \{')
 REPORT = re.compile(r'\S+\.\S+ \d+ [a-z]+ \d+:\d+ (trivial|bapa|local|unproved)$|(accepted|rejected): methods [0-9]')
 
 
@@ -34,7 +36,7 @@ def blocks(page):
                           flags=re.MULTILINE)
     for block in fenced + indented:
         lines = [line.strip() for line in block.splitlines()]
-        if block in fenced or any(REPORT.match(line) for line in lines):
+        if block in fenced or any(REPORT.match(line) or CLASS.match(line) for line in lines):
             yield lines
 
 
