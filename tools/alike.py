@@ -83,7 +83,7 @@ use Rattle.jh_tree.specs.Tree as t
 use Rattle.jh_tree.specs.Meaning.{{Interp, InUniverse, every, some, agree, count_below, divides_number, reaches, is_forest, {', '.join(VALUE[c] for c in ORDER + 'L')}}}
 use Rattle.jh_tree.proofs.Universes.{{term_inside}}
 use Rattle.jh_compare.specs.Inside.{{SameMembers, SameFields, SameIn, AreInside}}
-use Rattle.jh_logic.proofs.Insides.{{AllSame, updated-same, count-same, every-same, some-same, reaches-same, forest-same}}
+use Rattle.jh_compare.proofs.Insides.{{AllSame, updated-same, count-same, every-same, some-same, reaches-same, forest-same}}
 use Rattle.jh_logic.specs.Histories.{{Alike}}
 
 -- one more object of the universe
