@@ -1,8 +1,9 @@
 #!/usr/bin/env python3
-"""Looks whether each program and each report that a page for users shows is one of a case of `jahob_cases`, and each
-program of `examples/` the file of one. A page may show some lines of a program or a report; `..` stands for what is
-left out, at the end of a line or as a line. Shown are fenced blocks of java, and indented ones with a line of a report
-or one that begins a class. Prints what has no case, and ends with 1 where something has none.
+"""Looks whether each program and each report that README.md or a page of docs/ shows is one of a case of `jahob_cases`,
+and each program of `examples/` the file of one. A page may show some lines of a program or a report; `..` stands for
+what is left out, at the end of a line or as a line. Shown are fenced blocks of java, and indented ones with a line of a
+report or one that begins a class; what `jahob-show` prints is tried by its own tests. Prints what has no case, and ends
+with 1 where something has none.
 """
 import glob
 import os
@@ -11,7 +12,7 @@ import sys
 
 TOP = os.path.dirname(os.path.dirname(os.path.abspath(__file__)))
 CASES = f'{TOP}/crates/jahob_cases/data/*.cases'
-PAGES = ['ANSWERS', 'CHEATSHEET', 'COOKBOOK', 'FORMATS', 'GALLERY', 'LANGUAGE', 'LIMITS', 'MEANING_OF_YES', 'TUTORIAL']
+PAGES = ['README.md', *sorted(os.path.relpath(path, TOP) for path in glob.glob(f'{TOP}/docs/*.md'))]
 CLASS = re.compile(r'class \w+ \{')
 REPORT = re.compile(r'\S+\.\S+ \d+ [a-z]+ \d+:\d+ (trivial|bapa|local|unproved)$|(accepted|rejected): methods [0-9]')
 
@@ -36,6 +37,8 @@ def blocks(page):
                           flags=re.MULTILINE)
     for block in fenced + indented:
         lines = [line.strip() for line in block.splitlines()]
+        if lines[0].startswith('--> '):
+            continue
         if block in fenced or any(REPORT.match(line) or CLASS.match(line) for line in lines):
             yield lines
 
@@ -84,10 +87,10 @@ def main():
         if text_of(path) not in whole:
             missing.append(path[len(TOP) + 1:])
     for name in PAGES:
-        for lines in blocks(text_of(f'{TOP}/docs/{name}.md')):
+        for lines in blocks(text_of(f'{TOP}/{name}')):
             count += 1
             if not is_shown(lines, texts):
-                missing.append(f'docs/{name}.md: {lines[0]}')
+                missing.append(f'{name}: {lines[0]}')
     for it in missing:
         print(f'{it} has no case')
     print(f'{count} programs and reports, {len(missing)} without a case')

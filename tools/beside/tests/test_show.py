@@ -38,6 +38,14 @@ class Show(Case):
         self.assertEqual((post['hint']['cookbook'], len(post['cause'])), ('Return the new object', 2))
         self.assertEqual((entries[0]['cause'], entries[0]['hint']), ([], None))
 
+    def test_the_first_page_shows_what_is_printed(self):
+        shown = re.search(r'(?:^ {4}.*\n)*^ {4}--> .*\n(?:^ {4}.*\n)+', read(f'{TOP}/README.md'), re.MULTILINE)[0]
+        lines = [line[4:] for line in shown.splitlines()]
+        printed = call('show', lines[0].removeprefix('--> '))[1].splitlines()
+        self.assertEqual(len(printed), len(lines))
+        for line, whole in zip(lines, printed):
+            self.assertEqual(line, f'{whole[:len(line) - 3]} ..' if line.endswith(' ..') else whole)
+
     def test_the_cookbook_has_each_entry_that_a_hint_names(self):
         headings = {line.lstrip('#').strip() for line in read(f'{TOP}/docs/COOKBOOK.md').splitlines()
                     if line.startswith('#')}
