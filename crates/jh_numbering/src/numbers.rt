@@ -1,4 +1,4 @@
-ghost use Rattle.std.specs.Prelude.{IfOk};
+ghost use Rattle.std.specs.Prelude.{◌≡◌, IfOk};
 ghost use Rattle.jh_table.specs.Growth.{Grows};
 ghost use Rattle.jh_numbering.specs.Numbered.{IsNumber};
 
@@ -9,6 +9,13 @@ use jh_memory::Names;
 use jh_name::NoMemory;
 use jh_operands::NumberExpr;
 use std::alloc::Global;
+
+/// An expression in a box. What can't be boxed is dropped here alone, which keeps the proofs of what makes it short.
+fn in_box(alloc: Global, made: NumberExpr) -> Result<Box<NumberExpr>, NoMemory>
+    ensures ok { IfOk result (λ boxed. boxed.value ≡ made) }
+{
+    Ok(Box::new(alloc, made)?)
+}
 
 /// The expression of a code for a number. Names that have no number get one.
 #[tactic(auto, using(crate::proofs::NumberSteps::number_steps))]
@@ -33,26 +40,26 @@ pub fn number_expr(
         }
         NumberCode::Add(place, left, right) => {
             let left = number_expr(alloc, names, left)?;
-            let left = Box::new(alloc, left)?;
+            let left = in_box(alloc, left)?;
             let right = number_expr(alloc, names, right)?;
-            let right = Box::new(alloc, right)?;
+            let right = in_box(alloc, right)?;
             Ok(NumberExpr::Add(*place, left, right))
         }
         NumberCode::Sub(place, left, right) => {
             let left = number_expr(alloc, names, left)?;
-            let left = Box::new(alloc, left)?;
+            let left = in_box(alloc, left)?;
             let right = number_expr(alloc, names, right)?;
-            let right = Box::new(alloc, right)?;
+            let right = in_box(alloc, right)?;
             Ok(NumberExpr::Sub(*place, left, right))
         }
         NumberCode::Minus(place, inner) => {
             let inner = number_expr(alloc, names, inner)?;
-            let inner = Box::new(alloc, inner)?;
+            let inner = in_box(alloc, inner)?;
             Ok(NumberExpr::Minus(*place, inner))
         }
         NumberCode::Times(place, factor, inner) => {
             let inner = number_expr(alloc, names, inner)?;
-            let inner = Box::new(alloc, inner)?;
+            let inner = in_box(alloc, inner)?;
             Ok(NumberExpr::Times(*place, *factor, inner))
         }
     }

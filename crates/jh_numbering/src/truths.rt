@@ -1,4 +1,4 @@
-ghost use Rattle.std.specs.Prelude.{IfOk};
+ghost use Rattle.std.specs.Prelude.{◌≡◌, IfOk};
 ghost use Rattle.jh_table.specs.Growth.{Grows};
 ghost use Rattle.jh_numbering.specs.Numbered.{IsTruth};
 
@@ -10,6 +10,13 @@ use jh_memory::Names;
 use jh_name::NoMemory;
 use jh_operands::TruthExpr;
 use std::alloc::Global;
+
+/// An expression in a box. What can't be boxed is dropped here alone, which keeps the proofs of what makes it short.
+fn in_box(alloc: Global, made: TruthExpr) -> Result<Box<TruthExpr>, NoMemory>
+    ensures ok { IfOk result (λ boxed. boxed.value ≡ made) }
+{
+    Ok(Box::new(alloc, made)?)
+}
 
 /// The expression of a code for a truth. Names that have no number get one.
 #[tactic(auto, using(crate::proofs::TruthSteps::truth_steps))]
@@ -30,21 +37,21 @@ pub fn truth_expr(alloc: Global, names: &mut Names, code: &TruthCode) -> Result<
         }
         TruthCode::Not(inner) => {
             let inner = truth_expr(alloc, names, inner)?;
-            let inner = Box::new(alloc, inner)?;
+            let inner = in_box(alloc, inner)?;
             Ok(TruthExpr::Not(inner))
         }
         TruthCode::And(left, right) => {
             let left = truth_expr(alloc, names, left)?;
-            let left = Box::new(alloc, left)?;
+            let left = in_box(alloc, left)?;
             let right = truth_expr(alloc, names, right)?;
-            let right = Box::new(alloc, right)?;
+            let right = in_box(alloc, right)?;
             Ok(TruthExpr::And(left, right))
         }
         TruthCode::Or(left, right) => {
             let left = truth_expr(alloc, names, left)?;
-            let left = Box::new(alloc, left)?;
+            let left = in_box(alloc, left)?;
             let right = truth_expr(alloc, names, right)?;
-            let right = Box::new(alloc, right)?;
+            let right = in_box(alloc, right)?;
             Ok(TruthExpr::Or(left, right))
         }
         TruthCode::SameObject(left, right) => {
@@ -58,9 +65,9 @@ pub fn truth_expr(alloc: Global, names: &mut Names, code: &TruthCode) -> Result<
         }
         TruthCode::SameTruth(left, right) => {
             let left = truth_expr(alloc, names, left)?;
-            let left = Box::new(alloc, left)?;
+            let left = in_box(alloc, left)?;
             let right = truth_expr(alloc, names, right)?;
-            let right = Box::new(alloc, right)?;
+            let right = in_box(alloc, right)?;
             Ok(TruthExpr::SameTruth(left, right))
         }
         TruthCode::Less(left, right) => {

@@ -1,4 +1,4 @@
-ghost use Rattle.std.specs.Prelude.{◌≡◌, Bool, IfOk, map, option_map};
+ghost use Rattle.std.specs.Prelude.{◌≡◌, ◌∷◌, ◌++◌, [], Bool, IfOk, OnOk, map, option_map};
 ghost use Rattle.jh_ast.specs.Programs.{ProgramTree};
 ghost use Rattle.jh_table.specs.Entries.{Listing};
 ghost use Rattle.jh_table.specs.Growth.{Grows};
@@ -54,6 +54,14 @@ fn receiver_of(
     }
 }
 
+/// Adds an argument. What can't be added is dropped here alone.
+fn push_value(made: &mut Vec<AnyExpr>, value: AnyExpr) -> Result<(), NoMemory>
+    ensures items { OnOk result (made.new.items ≡ made.old.items ++ value ∷ []) }
+{
+    made.push(value)?;
+    Ok(())
+}
+
 /// The arguments of a call.
 #[tactic(auto, using(crate::proofs::CallSteps::argument_steps))]
 fn arguments_of(
@@ -67,7 +75,7 @@ fn arguments_of(
     let mut made = Vec::new(alloc);
     for code in codes {
         let value = any_expr(alloc, names, code)?;
-        made.push(value)?;
+        push_value(&mut made, value)?;
     }
     Ok(Row::of(made))
 }

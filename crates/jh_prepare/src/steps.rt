@@ -1,6 +1,6 @@
 #![tactic(auto, using(crate::proofs::StepSteps::step_steps))]
 
-ghost use Rattle.std.specs.Prelude.{true, IfOk};
+ghost use Rattle.std.specs.Prelude.{◌≡◌, ◌∷◌, ◌++◌, [], true, IfOk, OnOk};
 ghost use Rattle.jh_ast.specs.Programs.{ProgramTree};
 ghost use Rattle.jh_table.specs.Growth.{Grows, Extends};
 ghost use Rattle.jh_lowered.specs.Statements.{code_in, codes_in};
@@ -21,6 +21,21 @@ use jh_numbering::truth_expr;
 use jh_table::Table;
 use std::alloc::Global;
 
+/// A step in a box. What can't be boxed, or added, is dropped here alone, which keeps the proofs of what makes it short.
+fn in_box(alloc: Global, step: Step) -> Result<Box<Step>, NoMemory>
+    ensures ok { IfOk result (λ boxed. boxed.value ≡ step) }
+{
+    Ok(Box::new(alloc, step)?)
+}
+
+/// Adds a step.
+fn push_step(made: &mut Vec<Step>, step: Step) -> Result<(), NoMemory>
+    ensures items { OnOk result (made.new.items ≡ made.old.items ++ step ∷ []) }
+{
+    made.push(step)?;
+    Ok(())
+}
+
 /// The steps of statements, one after another.
 #[cycle(step_of)]
 pub(crate) fn steps_of(
@@ -37,7 +52,7 @@ pub(crate) fn steps_of(
     let mut made = Vec::new(alloc);
     for code in codes {
         let step = step_of(alloc, source, names, table, code)?;
-        made.push(step)?;
+        push_step(&mut made, step)?;
     }
     Ok(Row::of(made))
 }
@@ -66,14 +81,14 @@ fn step_of(
         Code::Call(call) => call_step(alloc, source, names, call),
         Code::Branch(_, test, first, second) => {
             let first = step_of(alloc, source, names, table, first)?;
-            let first = Box::new(alloc, first)?;
+            let first = in_box(alloc, first)?;
             let second = steps_of(alloc, source, names, table, second.items())?;
             let test = truth_expr(alloc, names, test)?;
             Ok(Step::Branch(test, first, second))
         }
         Code::Loop(_, _, test, body) => {
             let body = step_of(alloc, source, names, table, body)?;
-            let body = Box::new(alloc, body)?;
+            let body = in_box(alloc, body)?;
             let test = truth_expr(alloc, names, test)?;
             Ok(Step::Loop(test, body))
         }

@@ -20,7 +20,7 @@ loop-code-preserved c =
     let i = c.loop-code.code-index in
     let a = c.code-item.result in
     let names = c.any_expr.new.names in
-    let pushed : c.push.new.self.items ≡ c.loop-code.made.items ++ c.in_ok-value.value ∷ [] = search rules in
+    let pushed : c.push_value.new.made.items ≡ c.loop-code.made.items ++ c.in_ok-value.value ∷ [] = c.in_ok-push_value.ensures.items in
     let more : map any_code (take (i + 1) xs) ≡ map any_code (take i xs) ++ any_code a ∷ [] = ap (map any_code) (take-next xs i a c.loop-code-test.true c.code-item.is) ∙ map_push any_code (take i xs) a in
     record {
       names = grows_twice c.loop-code.invariant.names c.any_expr.ensures.grows;

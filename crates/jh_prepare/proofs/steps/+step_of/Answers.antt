@@ -31,7 +31,7 @@ steps_of-loop-code-preserved t c =
     let a = c.code-item.result in
     let made = c.loop-code.made.items in
     let x = c.in_ok-step.step in
-    let pushed : c.push.new.self.items ≡ made ++ x ∷ [] = search rules in
+    let pushed : c.push_step.new.made.items ≡ made ++ x ∷ [] = c.in_ok-push_step.ensures.items in
     record {
       names = grows_twice c.loop-code.invariant.names c.step_of.ensures.names;
       table = extends-trans c.args.table.now c.loop-code.table c.step_of.new.table c.loop-code.invariant.table c.step_of.ensures.table;
