@@ -145,24 +145,26 @@ def any_formula(variant, kinds):
     return apply('formula.' + head.split('.')[1], ['_'] * len(words))
 
 
-def snake(variant):
-    return ''.join('_' + c.lower() if c.isupper() else c for c in variant).lstrip('_')
+# the formulas that are mapped in one function
+SHAPES = {
+    'is_read': 'Read', 'is_not': 'Not', 'is_connective': 'And Or Implies Iff', 'is_binder': 'All Ex', 'is_eq_obj': 'EqObj',
+    'compares_numbers': 'EqInt Less LessEq', 'compares_sets': 'EqSet Subset', 'is_divides': 'Divides', 'is_member': 'Member',
+    'is_reach': 'Reach', 'is_tree': 'Tree', 'is_mark': 'Mark',
+}
 
 
 def shapes_file():
-    out = ["""-- Which connective or atom a formula is. Each function that maps one of them alone asks for it.
+    arguments = {variant: kinds for variant, _, kinds in TYPES['P'][3]}
+    out = ["""-- Which connective or atom a formula is. Each function that maps one of them, or a few, asks for it.
 use Rattle.std.specs.Prelude.{Bool, true, false}
 use Rattle.jh_tree.specs.declared.form.Formula.{Formula}
 use Rattle.jh_tree.specs.declared.form.Formula.TheVariants as formula
 """]
-    for variant, _, kinds in TYPES['P'][3]:
-        if any(is_part(k) for k in kinds):
-            name = f"is_{snake(variant)}"
-            out.append(f"""
-abbrev pub {name} : Formula → Bool
-{name} {any_formula(variant, kinds)} = true
-{name} _ = false
-""")
+    for name, variants in SHAPES.items():
+        out.append(f"\nabbrev pub {name} : Formula → Bool\n")
+        for variant in variants.split():
+            out.append(f"{name} {any_formula(variant, arguments[variant])} = true\n")
+        out.append(f"{name} _ = false\n")
     return ''.join(out)
 
 

@@ -4,3 +4,5 @@ pub mod Identity
 pub mod Meanings
 pub mod PartLemmas
 pub mod Rows
+pub mod Extents
+pub mod Tests

@@ -2,8 +2,7 @@
 
 ghost use Rattle.std.specs.Prelude.{◌≡◌, IfOk, true};
 ghost use Rattle.jh_tree.specs.Bare.{term_tree, int_tree, set_tree, field_tree, value_tree, formula_tree, list_tree};
-ghost use Rattle.jh_tree.specs.Tree as tree;
-ghost use Rattle.jh_walk.specs.Shapes.{is_read, is_not, is_and, is_or, is_implies, is_iff, is_all, is_ex, is_eq_obj, is_eq_int, is_eq_set, is_less, is_less_eq, is_divides, is_member, is_subset, is_reach, is_tree, is_mark};
+ghost use Rattle.jh_walk.specs.Shapes.{is_read, is_not, is_connective, is_binder, is_eq_obj, compares_numbers, compares_sets, is_divides, is_member, is_reach, is_tree, is_mark};
 ghost use Rattle.jh_walk.specs.Mapped.{mapped_term, mapped_int, mapped_set, mapped_field, mapped_value, mapped_formula, mapped_fields};
 
 use crate::boxes::boxed;
@@ -156,82 +155,27 @@ pub fn map_value<L: Leaves>(
     ensures { IfOk result (λ made. value_tree made ≡ mapped_value (value_tree value.now) (L.leaves leaves.now) depth) }
 {
     match value {
-        Value::Obj(a) => object_value(alloc, a, depth, leaves),
-        Value::Int(a) => integer_value(alloc, a, depth, leaves),
-        Value::Bool(a) => truth_value(alloc, a, depth, leaves),
-        Value::Set(a) => set_value(alloc, a, depth, leaves),
-        Value::Field(a) => field_value(alloc, a, depth, leaves),
+        Value::Obj(a) => {
+            let made = map_term(alloc, a, depth, leaves)?;
+            Ok(Value::Obj(made))
+        }
+        Value::Int(a) => {
+            let made = map_int(alloc, a, depth, leaves)?;
+            Ok(Value::Int(made))
+        }
+        Value::Bool(a) => {
+            let made = map_formula(alloc, a, depth, leaves)?;
+            Ok(Value::Bool(made))
+        }
+        Value::Set(a) => {
+            let made = map_set(alloc, a, depth, leaves)?;
+            Ok(Value::Set(made))
+        }
+        Value::Field(a) => {
+            let made = map_field(alloc, a, depth, leaves)?;
+            Ok(Value::Field(made))
+        }
     }
-}
-
-#[cycle(map)]
-#[inline(never)]
-fn object_value<L: Leaves>(
-    alloc: Global,
-    term: &Term,
-    depth: u32,
-    leaves: &L,
-) -> Result<Value, NoMemory>
-    ensures { IfOk result (λ made. value_tree made ≡ mapped_value (tree.of_object (term_tree term.now)) (L.leaves leaves.now) depth) }
-{
-    let made = map_term(alloc, term, depth, leaves)?;
-    Ok(Value::Obj(made))
-}
-
-#[cycle(map)]
-#[inline(never)]
-fn integer_value<L: Leaves>(
-    alloc: Global,
-    term: &IntTerm,
-    depth: u32,
-    leaves: &L,
-) -> Result<Value, NoMemory>
-    ensures { IfOk result (λ made. value_tree made ≡ mapped_value (tree.of_number (int_tree term.now)) (L.leaves leaves.now) depth) }
-{
-    let made = map_int(alloc, term, depth, leaves)?;
-    Ok(Value::Int(made))
-}
-
-#[cycle(map)]
-#[inline(never)]
-fn truth_value<L: Leaves>(
-    alloc: Global,
-    formula: &Formula,
-    depth: u32,
-    leaves: &L,
-) -> Result<Value, NoMemory>
-    ensures { IfOk result (λ made. value_tree made ≡ mapped_value (tree.of_truth (formula_tree formula.now)) (L.leaves leaves.now) depth) }
-{
-    let made = map_formula(alloc, formula, depth, leaves)?;
-    Ok(Value::Bool(made))
-}
-
-#[cycle(map)]
-#[inline(never)]
-fn set_value<L: Leaves>(
-    alloc: Global,
-    term: &SetTerm,
-    depth: u32,
-    leaves: &L,
-) -> Result<Value, NoMemory>
-    ensures { IfOk result (λ made. value_tree made ≡ mapped_value (tree.of_set (set_tree term.now)) (L.leaves leaves.now) depth) }
-{
-    let made = map_set(alloc, term, depth, leaves)?;
-    Ok(Value::Set(made))
-}
-
-#[cycle(map)]
-#[inline(never)]
-fn field_value<L: Leaves>(
-    alloc: Global,
-    field: &FieldTerm,
-    depth: u32,
-    leaves: &L,
-) -> Result<Value, NoMemory>
-    ensures { IfOk result (λ made. value_tree made ≡ mapped_value (tree.of_field (field_tree field.now)) (L.leaves leaves.now) depth) }
-{
-    let made = map_field(alloc, field, depth, leaves)?;
-    Ok(Value::Field(made))
 }
 
 #[cycle(map)]
@@ -249,20 +193,20 @@ pub fn map_formula<L: Leaves>(
         Formula::Free(name) => leaves.truth(alloc, name, depth),
         Formula::Read(_, _) => map_read(alloc, formula, depth, leaves),
         Formula::Not(_) => map_not(alloc, formula, depth, leaves),
-        Formula::And(_, _) => map_and(alloc, formula, depth, leaves),
-        Formula::Or(_, _) => map_or(alloc, formula, depth, leaves),
-        Formula::Implies(_, _) => map_implies(alloc, formula, depth, leaves),
-        Formula::Iff(_, _) => map_iff(alloc, formula, depth, leaves),
-        Formula::All(_) => map_all(alloc, formula, depth, leaves),
-        Formula::Ex(_) => map_ex(alloc, formula, depth, leaves),
+        Formula::And(_, _) => map_connective(alloc, formula, depth, leaves),
+        Formula::Or(_, _) => map_connective(alloc, formula, depth, leaves),
+        Formula::Implies(_, _) => map_connective(alloc, formula, depth, leaves),
+        Formula::Iff(_, _) => map_connective(alloc, formula, depth, leaves),
+        Formula::All(_) => map_binder(alloc, formula, depth, leaves),
+        Formula::Ex(_) => map_binder(alloc, formula, depth, leaves),
         Formula::EqObj(_, _) => map_eq_obj(alloc, formula, depth, leaves),
-        Formula::EqInt(_, _) => map_eq_int(alloc, formula, depth, leaves),
-        Formula::EqSet(_, _) => map_eq_set(alloc, formula, depth, leaves),
-        Formula::Less(_, _) => map_less(alloc, formula, depth, leaves),
-        Formula::LessEq(_, _) => map_less_eq(alloc, formula, depth, leaves),
+        Formula::EqInt(_, _) => map_numbers(alloc, formula, depth, leaves),
+        Formula::EqSet(_, _) => map_sets(alloc, formula, depth, leaves),
+        Formula::Less(_, _) => map_numbers(alloc, formula, depth, leaves),
+        Formula::LessEq(_, _) => map_numbers(alloc, formula, depth, leaves),
         Formula::Divides(_, _) => map_divides(alloc, formula, depth, leaves),
         Formula::Member(_, _) => map_member(alloc, formula, depth, leaves),
-        Formula::Subset(_, _) => map_subset(alloc, formula, depth, leaves),
+        Formula::Subset(_, _) => map_sets(alloc, formula, depth, leaves),
         Formula::Reach(_, _, _) => map_reach(alloc, formula, depth, leaves),
         Formula::Tree(_) => map_tree(alloc, formula, depth, leaves),
         Formula::Mark(_, _) => map_mark(alloc, formula, depth, leaves),
@@ -308,116 +252,64 @@ fn map_not<L: Leaves>(
 
 #[cycle(map)]
 #[inline(never)]
-fn map_and<L: Leaves>(
+fn map_connective<L: Leaves>(
     alloc: Global,
     formula: &Formula,
     depth: u32,
     leaves: &L,
 ) -> Result<Formula, NoMemory>
-    requires { is_and formula.now ≡ true }
+    requires { is_connective formula.now ≡ true }
     ensures { IfOk result (λ made. formula_tree made ≡ mapped_formula (formula_tree formula.now) (L.leaves leaves.now) depth) }
 {
-    let Formula::And(a, b) = formula else {
-        unreachable!()
-    };
-    let a = formula_box(alloc, a, depth, leaves)?;
-    let b = formula_box(alloc, b, depth, leaves)?;
-    Ok(Formula::And(a, b))
+    match formula {
+        Formula::And(a, b) => {
+            let a = formula_box(alloc, a, depth, leaves)?;
+            let b = formula_box(alloc, b, depth, leaves)?;
+            Ok(Formula::And(a, b))
+        }
+        Formula::Or(a, b) => {
+            let a = formula_box(alloc, a, depth, leaves)?;
+            let b = formula_box(alloc, b, depth, leaves)?;
+            Ok(Formula::Or(a, b))
+        }
+        Formula::Implies(a, b) => {
+            let a = formula_box(alloc, a, depth, leaves)?;
+            let b = formula_box(alloc, b, depth, leaves)?;
+            Ok(Formula::Implies(a, b))
+        }
+        Formula::Iff(a, b) => {
+            let a = formula_box(alloc, a, depth, leaves)?;
+            let b = formula_box(alloc, b, depth, leaves)?;
+            Ok(Formula::Iff(a, b))
+        }
+        _ => unreachable!(),
+    }
 }
 
 #[cycle(map)]
 #[inline(never)]
-fn map_or<L: Leaves>(
+fn map_binder<L: Leaves>(
     alloc: Global,
     formula: &Formula,
     depth: u32,
     leaves: &L,
 ) -> Result<Formula, NoMemory>
-    requires { is_or formula.now ≡ true }
+    requires { is_binder formula.now ≡ true }
     ensures { IfOk result (λ made. formula_tree made ≡ mapped_formula (formula_tree formula.now) (L.leaves leaves.now) depth) }
 {
-    let Formula::Or(a, b) = formula else {
-        unreachable!()
-    };
-    let a = formula_box(alloc, a, depth, leaves)?;
-    let b = formula_box(alloc, b, depth, leaves)?;
-    Ok(Formula::Or(a, b))
-}
-
-#[cycle(map)]
-#[inline(never)]
-fn map_implies<L: Leaves>(
-    alloc: Global,
-    formula: &Formula,
-    depth: u32,
-    leaves: &L,
-) -> Result<Formula, NoMemory>
-    requires { is_implies formula.now ≡ true }
-    ensures { IfOk result (λ made. formula_tree made ≡ mapped_formula (formula_tree formula.now) (L.leaves leaves.now) depth) }
-{
-    let Formula::Implies(a, b) = formula else {
-        unreachable!()
-    };
-    let a = formula_box(alloc, a, depth, leaves)?;
-    let b = formula_box(alloc, b, depth, leaves)?;
-    Ok(Formula::Implies(a, b))
-}
-
-#[cycle(map)]
-#[inline(never)]
-fn map_iff<L: Leaves>(
-    alloc: Global,
-    formula: &Formula,
-    depth: u32,
-    leaves: &L,
-) -> Result<Formula, NoMemory>
-    requires { is_iff formula.now ≡ true }
-    ensures { IfOk result (λ made. formula_tree made ≡ mapped_formula (formula_tree formula.now) (L.leaves leaves.now) depth) }
-{
-    let Formula::Iff(a, b) = formula else {
-        unreachable!()
-    };
-    let a = formula_box(alloc, a, depth, leaves)?;
-    let b = formula_box(alloc, b, depth, leaves)?;
-    Ok(Formula::Iff(a, b))
-}
-
-#[cycle(map)]
-#[inline(never)]
-fn map_all<L: Leaves>(
-    alloc: Global,
-    formula: &Formula,
-    depth: u32,
-    leaves: &L,
-) -> Result<Formula, NoMemory>
-    requires { is_all formula.now ≡ true }
-    ensures { IfOk result (λ made. formula_tree made ≡ mapped_formula (formula_tree formula.now) (L.leaves leaves.now) depth) }
-{
-    let Formula::All(a) = formula else {
-        unreachable!()
-    };
-    let below = deeper(depth)?;
-    let a = formula_box(alloc, a, below, leaves)?;
-    Ok(Formula::All(a))
-}
-
-#[cycle(map)]
-#[inline(never)]
-fn map_ex<L: Leaves>(
-    alloc: Global,
-    formula: &Formula,
-    depth: u32,
-    leaves: &L,
-) -> Result<Formula, NoMemory>
-    requires { is_ex formula.now ≡ true }
-    ensures { IfOk result (λ made. formula_tree made ≡ mapped_formula (formula_tree formula.now) (L.leaves leaves.now) depth) }
-{
-    let Formula::Ex(a) = formula else {
-        unreachable!()
-    };
-    let below = deeper(depth)?;
-    let a = formula_box(alloc, a, below, leaves)?;
-    Ok(Formula::Ex(a))
+    match formula {
+        Formula::All(a) => {
+            let below = deeper(depth)?;
+            let a = formula_box(alloc, a, below, leaves)?;
+            Ok(Formula::All(a))
+        }
+        Formula::Ex(a) => {
+            let below = deeper(depth)?;
+            let a = formula_box(alloc, a, below, leaves)?;
+            Ok(Formula::Ex(a))
+        }
+        _ => unreachable!(),
+    }
 }
 
 #[cycle(map)]
@@ -441,78 +333,59 @@ fn map_eq_obj<L: Leaves>(
 
 #[cycle(map)]
 #[inline(never)]
-fn map_eq_int<L: Leaves>(
+fn map_numbers<L: Leaves>(
     alloc: Global,
     formula: &Formula,
     depth: u32,
     leaves: &L,
 ) -> Result<Formula, NoMemory>
-    requires { is_eq_int formula.now ≡ true }
+    requires { compares_numbers formula.now ≡ true }
     ensures { IfOk result (λ made. formula_tree made ≡ mapped_formula (formula_tree formula.now) (L.leaves leaves.now) depth) }
 {
-    let Formula::EqInt(a, b) = formula else {
-        unreachable!()
-    };
-    let a = map_int(alloc, a, depth, leaves)?;
-    let b = map_int(alloc, b, depth, leaves)?;
-    Ok(Formula::EqInt(a, b))
+    match formula {
+        Formula::EqInt(a, b) => {
+            let a = map_int(alloc, a, depth, leaves)?;
+            let b = map_int(alloc, b, depth, leaves)?;
+            Ok(Formula::EqInt(a, b))
+        }
+        Formula::Less(a, b) => {
+            let a = map_int(alloc, a, depth, leaves)?;
+            let b = map_int(alloc, b, depth, leaves)?;
+            Ok(Formula::Less(a, b))
+        }
+        Formula::LessEq(a, b) => {
+            let a = map_int(alloc, a, depth, leaves)?;
+            let b = map_int(alloc, b, depth, leaves)?;
+            Ok(Formula::LessEq(a, b))
+        }
+        _ => unreachable!(),
+    }
 }
 
 #[cycle(map)]
 #[inline(never)]
-fn map_eq_set<L: Leaves>(
+fn map_sets<L: Leaves>(
     alloc: Global,
     formula: &Formula,
     depth: u32,
     leaves: &L,
 ) -> Result<Formula, NoMemory>
-    requires { is_eq_set formula.now ≡ true }
+    requires { compares_sets formula.now ≡ true }
     ensures { IfOk result (λ made. formula_tree made ≡ mapped_formula (formula_tree formula.now) (L.leaves leaves.now) depth) }
 {
-    let Formula::EqSet(a, b) = formula else {
-        unreachable!()
-    };
-    let a = map_set(alloc, a, depth, leaves)?;
-    let b = map_set(alloc, b, depth, leaves)?;
-    Ok(Formula::EqSet(a, b))
-}
-
-#[cycle(map)]
-#[inline(never)]
-fn map_less<L: Leaves>(
-    alloc: Global,
-    formula: &Formula,
-    depth: u32,
-    leaves: &L,
-) -> Result<Formula, NoMemory>
-    requires { is_less formula.now ≡ true }
-    ensures { IfOk result (λ made. formula_tree made ≡ mapped_formula (formula_tree formula.now) (L.leaves leaves.now) depth) }
-{
-    let Formula::Less(a, b) = formula else {
-        unreachable!()
-    };
-    let a = map_int(alloc, a, depth, leaves)?;
-    let b = map_int(alloc, b, depth, leaves)?;
-    Ok(Formula::Less(a, b))
-}
-
-#[cycle(map)]
-#[inline(never)]
-fn map_less_eq<L: Leaves>(
-    alloc: Global,
-    formula: &Formula,
-    depth: u32,
-    leaves: &L,
-) -> Result<Formula, NoMemory>
-    requires { is_less_eq formula.now ≡ true }
-    ensures { IfOk result (λ made. formula_tree made ≡ mapped_formula (formula_tree formula.now) (L.leaves leaves.now) depth) }
-{
-    let Formula::LessEq(a, b) = formula else {
-        unreachable!()
-    };
-    let a = map_int(alloc, a, depth, leaves)?;
-    let b = map_int(alloc, b, depth, leaves)?;
-    Ok(Formula::LessEq(a, b))
+    match formula {
+        Formula::EqSet(a, b) => {
+            let a = map_set(alloc, a, depth, leaves)?;
+            let b = map_set(alloc, b, depth, leaves)?;
+            Ok(Formula::EqSet(a, b))
+        }
+        Formula::Subset(a, b) => {
+            let a = map_set(alloc, a, depth, leaves)?;
+            let b = map_set(alloc, b, depth, leaves)?;
+            Ok(Formula::Subset(a, b))
+        }
+        _ => unreachable!(),
+    }
 }
 
 #[cycle(map)]
@@ -550,25 +423,6 @@ fn map_member<L: Leaves>(
     let a = map_term(alloc, a, depth, leaves)?;
     let b = map_set(alloc, b, depth, leaves)?;
     Ok(Formula::Member(a, b))
-}
-
-#[cycle(map)]
-#[inline(never)]
-fn map_subset<L: Leaves>(
-    alloc: Global,
-    formula: &Formula,
-    depth: u32,
-    leaves: &L,
-) -> Result<Formula, NoMemory>
-    requires { is_subset formula.now ≡ true }
-    ensures { IfOk result (λ made. formula_tree made ≡ mapped_formula (formula_tree formula.now) (L.leaves leaves.now) depth) }
-{
-    let Formula::Subset(a, b) = formula else {
-        unreachable!()
-    };
-    let a = map_set(alloc, a, depth, leaves)?;
-    let b = map_set(alloc, b, depth, leaves)?;
-    Ok(Formula::Subset(a, b))
 }
 
 #[cycle(map)]
