@@ -7,7 +7,7 @@ ghost use Rattle.jh_cong.specs.declared.literal.CongError.TheVariants.{Conflict}
 
 use crate::following::following;
 use crate::sorts::can_be_said;
-use crate::state::{State, into_table};
+use crate::state::State;
 use crate::telling::{add, back, begin};
 use crate::{CongError, Said};
 use jh_closure::Equation;
@@ -48,13 +48,6 @@ impl Classes {
         ensures { result.now ≡ self.now.table }
     {
         &self.state.table
-    }
-
-    /// The table, with the classes given up.
-    pub fn into_table(self) -> Table
-        ensures { result ≡ self.table }
-    {
-        into_table(self.state)
     }
 
     /// Whether two numbers are nodes of one sort, which is not that of fields, so that their equation can be asserted.

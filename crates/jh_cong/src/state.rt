@@ -1,5 +1,3 @@
-ghost use Rattle.std.specs.Prelude.{◌≡◌};
-
 use crate::Said;
 use jh_closure::{Closure, Equation};
 use jh_table::Table;
@@ -14,19 +12,4 @@ pub(crate) struct State {
     pub(crate) said: Vec<Said>,
     pub(crate) denied: Vec<usize>,
     pub(crate) enough: usize,
-}
-
-/// The table of a state that is given up.
-pub(crate) fn into_table(state: State) -> Table
-    ensures { result ≡ state.table }
-{
-    let State {
-        table,
-        closure: _closure,
-        apart: _apart,
-        said: _said,
-        denied: _denied,
-        enough: _enough,
-    } = state;
-    table
 }

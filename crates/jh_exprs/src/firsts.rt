@@ -1,7 +1,6 @@
-ghost use Rattle.std.specs.Prelude.{◌≡◌, ◌||◌, false, OnOk, IfOk};
+ghost use Rattle.std.specs.Prelude.{◌≡◌, ◌||◌, false, OnOk};
 ghost use Rattle.std.specs.Prelude.{List, ℕ};
 ghost use Rattle.jh_ast.specs.declared.word.Word.{Word};
-ghost use Rattle.jh_rules.specs.Words.{used_before};
 ghost use Rattle.jh_exprs.specs.Firsts as firsts;
 
 use indexmap::IndexMap;
@@ -70,18 +69,4 @@ impl Firsts {
             Some(place) => is_before(place, word.place),
         }
     }
-}
-
-/// The first places of the names of some words: what stands behind the first place of its name is what an
-/// earlier word names.
-pub fn firsts_of(alloc: Global, words: &[Word]) -> Result<Firsts, NoMemory>
-    ensures { IfOk result (λ found. (w : Word) → firsts.is_behind found w ≡ used_before words.now w) }
-{
-    let mut found = Firsts {
-        places: IndexMap::new(alloc),
-    };
-    for word in words.iter() {
-        found.add(alloc, word)?;
-    }
-    Ok(found)
 }

@@ -9,6 +9,6 @@ mod scope;
 
 pub use calls::{call_place, call_type};
 pub use expressions::{as_boolean, class_spelled, expr_type};
-pub use firsts::{Firsts, firsts_of};
+pub use firsts::Firsts;
 pub use looking::{Lookups, Member, MemberEntry, Members, state_in};
 pub use scope::{ScopeTable, Undo, class_type, kind_of_word, type_of};

@@ -8,7 +8,7 @@ use Rattle.jh_lex.specs.declared.symbol.Symbol.TheVariants as symbol
 use Rattle.jh_lex.specs.declared.token.Token.{Token}
 use Rattle.jh_lex.specs.declared.token.TokenKind.{TokenKind}
 use Rattle.jh_lex.specs.declared.token.TokenKind.TheVariants as kind
-use Rattle.jh_nest.specs.Nesting.{is, with_token, behind_token, is_else, is_inside, ends_specification, leads_on, goes_on, nesting, nestings, AllShallow}
+use Rattle.jh_nest.specs.Nesting.{is, with_token, behind_token, is_else, continues, ends_specification, leads_on, goes_on, nesting, nestings, AllShallow}
 use Rattle.jh_gen.specs.Generated.{number_of}
 use Rattle.jh_made_text.specs.Laws.{kind_of}
 use Rattle.jh_made_text.specs.Pieces.{items_kinds, swap_items, sum_items, cells_items, method_items, first_items, last_items, methods_kinds, source_kinds}
@@ -40,7 +40,7 @@ else-same : (ts : List Token) → is_else ts ≡ else_first (map kind_of ts)
 else-same [] = refl
 else-same (t ∷ ts) = refl
 
-inside-same : (ts : List Token) → is_inside ts ≡ inside_first (map kind_of ts)
+inside-same : (ts : List Token) → continues ts ≡ inside_first (map kind_of ts)
 inside-same [] = refl
 inside-same (t ∷ ts) = refl
 

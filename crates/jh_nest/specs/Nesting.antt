@@ -58,8 +58,8 @@ abbrev pub is_else : List Token → Bool
 is_else ts = option_map_or (λ (t : Token). is t.kind symbol.Else) (slice_get ts 0) false
 
 -- whether these tokens begin with `else` or `(`, so that what stands before them is no whole statement
-abbrev pub is_inside : List Token → Bool
-is_inside ts = option_map_or (λ (t : Token). is t.kind symbol.Else || is t.kind symbol.LeftParenthesis) (slice_get ts 0) false
+abbrev pub continues : List Token → Bool
+continues ts = option_map_or (λ (t : Token). is t.kind symbol.Else || is t.kind symbol.LeftParenthesis) (slice_get ts 0) false
 
 abbrev pub ends_specification : TokenKind → Bool
 ends_specification kind.SpecClose = true
@@ -68,7 +68,7 @@ ends_specification k = false
 -- whether `else` or `(` stands behind the end of the specification in which these tokens stand
 abbrev pub leads_on : List Token → Bool
 leads_on [] = false
-leads_on (t ∷ ts) = if ends_specification t.kind then is_inside ts else leads_on ts
+leads_on (t ∷ ts) = if ends_specification t.kind then continues ts else leads_on ts
 
 -- Whether the statement goes on behind a separator, in front of these tokens: `else` comes, or it is a semicolon of a specification
 -- behind whose end `else` or `(` stands. So what specifications hold doesn't hide how deep statements nest round them.

@@ -163,8 +163,8 @@ fn is_else(tokens: &[Token], at: usize) -> bool
 }
 
 /// Whether `else` or `(` stands there.
-fn is_inside(tokens: &[Token], at: usize) -> bool
-    ensures { result ≡ nest.is_inside (drop at tokens.now) }
+fn continues(tokens: &[Token], at: usize) -> bool
+    ensures { result ≡ nest.continues (drop at tokens.now) }
 {
     match tokens.get(at) {
         Some(token) => { is(&token.kind, Symbol::Else) || is(&token.kind, Symbol::LeftParenthesis) }
@@ -185,7 +185,7 @@ fn leads_on(tokens: &[Token], from: usize) -> bool
 {
     for at in from..tokens.len() {
         if ends_specification(&tokens[at].kind) {
-            return is_inside(tokens, at + 1);
+            return continues(tokens, at + 1);
         }
     }
     false

@@ -14,6 +14,6 @@ mod telling;
 pub use branch::{Branch, Cause, Reason, decide};
 pub use cutting::cut;
 pub use problem::{Problem, pose};
-pub use propagating::{propagate, propagate_on};
+pub use propagating::propagate_on;
 pub use speaking::spoken;
 pub use starting::begin;

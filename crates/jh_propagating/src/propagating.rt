@@ -109,20 +109,3 @@ pub fn propagate_on(
         }
     }
 }
-
-/// Adds to the trail all that propagation adds to the decisions. The answer is why the branch is closed, where it is; where it
-/// isn't, nothing more can be added.
-pub fn propagate(problem: &Problem, branch: &mut Branch) -> Result<Option<Cause>, NoMemory>
-    requires branch { IsBranch problem.now [] branch.old }
-    ensures fixpoint { IfOk result (λ found. IfNone found (IsFixpoint (instances_in (nodes problem.now.table) problem.now) (literals_at (nodes problem.now.table) branch.new.decisions.items) (literals_at (nodes problem.now.table) branch.new.trail))) }
-    ensures branch { IfOk result (λ found. IfNone found (IsBranch problem.now [] branch.new)) }
-    ensures over { IfOk result (λ found. IfNone found (drop branch.new.head branch.new.waiting.items ≡ [])) }
-    ensures cause { IfOk result (λ found. IfSome found (λ cause. IsCause (nodes problem.now.table) problem.now branch.new.trail cause)) }
-    ensures closed { IfOk result (λ found. IfSome found (λ cause. (busy : List ℕ) × IsBranch problem.now busy branch.new)) }
-    ensures table { OnOk result (branch.new.classes.table ≡ branch.old.classes.table) }
-    ensures decisions { OnOk result (branch.new.decisions.items ≡ branch.old.decisions.items) }
-    ensures longer { OnOk result (IsLonger branch.old branch.new) }
-    ensures count { OnOk result (undecided_count problem.now branch.new ≤ undecided_count problem.now branch.old) }
-{
-    propagate_on(problem, branch, false)
-}

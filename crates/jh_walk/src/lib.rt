@@ -12,7 +12,7 @@ mod same_leaves;
 mod walk;
 mod walking;
 
-pub use boxes::{boxed, boxed_three, boxed_two};
+pub use boxes::{boxed, boxed_two};
 pub use copying::{copy_mark, copy_names};
 pub use counting::{Extent, NOTHING, beside, deeper, over};
 pub use laws::{map_keeps_meaning, part_is_smaller};
