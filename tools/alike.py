@@ -78,13 +78,13 @@ def alike():
 -- Two interpretations that say the same of a universe give a formula the same meaning.
 use Rattle.std.proofs.Common.{{◌≡◌, refl, sym, ap, ◌∙◌, ℕ, zero, suc, ◌<◌, ◌==◌, not, ◌&&◌, ◌||◌, List, [], ◌∷◌, pos, ◌+ℤ◌, ◌-ℤ◌, ◌*ℤ◌, neg_ℤ, int_lt, int_le}}
 use Rattle.std.specs.Ordering.{{int_eq}}
-use Rattle.jh_tree.specs.Tree.{{{TREES}}}
-use Rattle.jh_tree.specs.Tree as t
-use Rattle.jh_tree.specs.Meaning.{{Interp, InUniverse, every, some, agree, count_below, divides_number, reaches, is_forest, {', '.join(VALUE[c] for c in ORDER + 'L')}}}
-use Rattle.jh_tree.proofs.Universes.{{term_inside}}
-use Rattle.jh_compare.specs.Inside.{{SameMembers, SameFields, SameIn, AreInside}}
-use Rattle.jh_compare.proofs.Insides.{{AllSame, updated-same, count-same, every-same, some-same, reaches-same, forest-same}}
-use Rattle.jh_logic.specs.Histories.{{Alike}}
+use Rattle.jh_form.specs.Tree.{{{TREES}}}
+use Rattle.jh_form.specs.Tree as t
+use Rattle.jh_form.specs.Meaning.{{Interp, InUniverse, every, some, agree, count_below, divides_number, reaches, is_forest, {', '.join(VALUE[c] for c in ORDER + 'L')}}}
+use Rattle.jh_form.proofs.Universes.{{term_inside}}
+use Rattle.jh_boxed_operations.specs.comparison.Inside.{{SameMembers, SameFields, SameIn, AreInside}}
+use Rattle.jh_boxed_operations.proofs.comparison.Insides.{{AllSame, updated-same, count-same, every-same, some-same, reaches-same, forest-same}}
+use Rattle.jh_logic.specs.logic.Histories.{{Alike}}
 
 -- one more object of the universe
 inside-more : (n x : ℕ) (e : List ℕ) → x < suc n → AreInside n e → AreInside n (x ∷ e)
@@ -108,4 +108,4 @@ module _ (m w : Interp) (universe : InUniverse m) (same : Alike m w) where
 
 
 if __name__ == '__main__':
-    open(f'{sys.argv[1]}/crates/jh_logic/proofs/Alikes.antt', 'w').write(alike())
+    open(f'{sys.argv[1]}/crates/jh_logic/proofs/logic/Alikes.antt', 'w').write(alike())

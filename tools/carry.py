@@ -10,14 +10,14 @@ HEAD = """-- Written by tools/carry.py.
 -- A shape over the carried parts is the tree that it was over the parts.
 use Rattle.std.proofs.Common.{◌≡◌, refl, sym, ap, ◌∙◌, ℕ, Bool, true, false, ◌&&◌, List, [], ◌∷◌, slice_get, slice_index, Some, is_some}
 use Rattle.std.proofs.lemmas.Bool.{true≢false}
-use Rattle.jh_tree.specs.Tree.{ValueTree, of_object, of_number, of_truth, of_set, of_field, more}
-use Rattle.jh_tree.specs.Tree as t
-use Rattle.jh_table.specs.Entries.{Pools, the_name, the_mark, the_list, is_object, is_number, is_truth, is_set, is_field, the_object, the_number, the_truth, the_set, the_field, the_value, are_fields, fields_at}
-use Rattle.jh_table.specs.Nodes.{fits, shape_tree}
-use Rattle.jh_table.specs.Parts.{own_parts, list_parts, has_list, put}
-use Rattle.jh_table.specs.declared.shapes.Shape.{Shape}
-use Rattle.jh_table.specs.declared.shapes.Shape.TheVariants as s
-use Rattle.jh_carry.specs.Carried.{AllCarried, HasEntry, renamed}
+use Rattle.jh_form.specs.Tree.{ValueTree, of_object, of_number, of_truth, of_set, of_field, more}
+use Rattle.jh_form.specs.Tree as t
+use Rattle.jh_arena.specs.table.Entries.{Pools, the_name, the_mark, the_list, is_object, is_number, is_truth, is_set, is_field, the_object, the_number, the_truth, the_set, the_field, the_value, are_fields, fields_at}
+use Rattle.jh_arena.specs.table.Nodes.{fits, shape_tree}
+use Rattle.jh_arena.specs.table.Parts.{own_parts, list_parts, has_list, put}
+use Rattle.jh_arena.specs.declared.table.shapes.Shape.{Shape}
+use Rattle.jh_arena.specs.declared.table.shapes.Shape.TheVariants as s
+use Rattle.jh_import.specs.carrying.Carried.{AllCarried, HasEntry, renamed}
 
 without-two : (a b : Bool) → (a && b) ≡ true → (true && b) ≡ true
 without-two true b h = h
@@ -138,6 +138,6 @@ def placements():
 
 
 if __name__ == '__main__':
-    root = os.path.join(os.path.dirname(os.path.abspath(__file__)), '..', 'crates', 'jh_carry')
-    with open(os.path.join(root, 'proofs/Placements.antt'), 'w') as out:
+    root = os.path.join(os.path.dirname(os.path.abspath(__file__)), '..', 'crates', 'jh_import')
+    with open(os.path.join(root, 'proofs/carrying/Placements.antt'), 'w') as out:
         out.write(placements())

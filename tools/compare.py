@@ -16,10 +16,10 @@ def others(ns):
 def related_specs():
     out = [f"""-- One tree with some parts exchanged for others.
 use Rattle.std.specs.Prelude.{{ℕ, ℤ}}
-use Rattle.jh_name.specs.declared.naming.Name.{{Name}}
-use Rattle.jh_tree.specs.declared.mark.Mark.{{Mark}}
-use Rattle.jh_tree.specs.Tree.{{{TREES}}}
-use Rattle.jh_tree.specs.Tree as t
+use Rattle.jh_boxed.specs.jh_name.declared.naming.Name.{{Name}}
+use Rattle.jh_form.specs.declared.mark.Mark.{{Mark}}
+use Rattle.jh_form.specs.Tree.{{{TREES}}}
+use Rattle.jh_form.specs.Tree as t
 
 -- The second tree is the first with some parts exchanged: a part for one that X allows in its place.
 -- Labels are compared.
@@ -79,12 +79,12 @@ def tests_specs():
     out = [f"""-- The test of whether a tree is another with some parts exchanged, as the code asks it. Labels are compared, or passed.
 use Rattle.std.specs.Prelude.{{ℕ, ℤ, Bool, true, false, ◌&&◌, ◌||◌, nat_eq}}
 use Rattle.std.specs.Ordering.{{int_eq}}
-use Rattle.jh_name.specs.declared.naming.Name.{{Name}}
-use Rattle.jh_tree.specs.declared.mark.Mark.{{Mark}}
-use Rattle.jh_tree.specs.Tree.{{{TREES}}}
-use Rattle.jh_tree.specs.Tree as t
-use Rattle.jh_tree.specs.Passing.{{name_equal}}
-use Rattle.jh_compare.specs.Marks.{{mark_equal}}
+use Rattle.jh_boxed.specs.jh_name.declared.naming.Name.{{Name}}
+use Rattle.jh_form.specs.declared.mark.Mark.{{Mark}}
+use Rattle.jh_form.specs.Tree.{{{TREES}}}
+use Rattle.jh_form.specs.Tree as t
+use Rattle.jh_form.specs.Passing.{{name_equal}}
+use Rattle.jh_boxed_operations.specs.comparison.Marks.{{mark_equal}}
 
 -- a test of the parts of a tree of one form; a tree of another form doesn't pass"""]
     for code, variant, ctor, kinds, ns in all_ctors():
@@ -126,12 +126,12 @@ by_labels false x y = y
 
 
 HEAD = f"""use Rattle.std.specs.Ordering.{{int_eq}}
-use Rattle.jh_name.specs.declared.naming.Name.{{Name}}
-use Rattle.jh_tree.specs.declared.mark.Mark.{{Mark}}
-use Rattle.jh_tree.specs.Tree.{{{TREES}}}
-use Rattle.jh_tree.specs.Tree as t
-use Rattle.jh_tree.specs.Passing.{{name_equal}}
-use Rattle.jh_compare.specs.Marks.{{mark_equal}}
+use Rattle.jh_boxed.specs.jh_name.declared.naming.Name.{{Name}}
+use Rattle.jh_form.specs.declared.mark.Mark.{{Mark}}
+use Rattle.jh_form.specs.Tree.{{{TREES}}}
+use Rattle.jh_form.specs.Tree as t
+use Rattle.jh_form.specs.Passing.{{name_equal}}
+use Rattle.jh_boxed_operations.specs.comparison.Marks.{{mark_equal}}
 """
 
 
@@ -147,15 +147,15 @@ def steps_file():
     """Equations of the test at each constructor and of each `with` at its own form and at others of the program."""
     out = [f"""-- The test at each constructor, and a form's test at the program's values.
 use Rattle.std.proofs.Common.{{◌≡◌, refl, sym, ap, ◌∙◌, ℕ, ℤ, Bool, true, false, ◌&&◌, ◌||◌, nat_eq, List}}
-{HEAD}{chr(10).join(f"use Rattle.jh_tree.specs.declared.form.{TYPES[c][0]}.{{{TYPES[c][0]}}}" for c in ORDER)}
-{chr(10).join(f"use Rattle.jh_tree.specs.declared.form.{TYPES[c][0]}.TheVariants as {LETTER[c]}" for c in ORDER)}
-use Rattle.jh_tree.specs.declared.form.Formula.{{roll-out-Formula, roll-Formula}}
-use Rattle.jh_tree.specs.declared.form.FieldTerm.TheViews.{{outs-Reach', rolls-Reach, outs-Tree', rolls-Tree}}
-use Rattle.jh_tree.specs.declared.form.FieldTerm.TheBlock.{{shown-the_row-FieldTerm-0}}
+{HEAD}{chr(10).join(f"use Rattle.jh_form.specs.declared.form.{TYPES[c][0]}.{{{TYPES[c][0]}}}" for c in ORDER)}
+{chr(10).join(f"use Rattle.jh_form.specs.declared.form.{TYPES[c][0]}.TheVariants as {LETTER[c]}" for c in ORDER)}
+use Rattle.jh_form.specs.declared.form.Formula.{{roll-out-Formula, roll-Formula}}
+use Rattle.jh_form.specs.declared.form.FieldTerm.TheViews.{{outs-Reach', rolls-Reach, outs-Tree', rolls-Tree}}
+use Rattle.jh_form.specs.declared.form.FieldTerm.TheBlock.{{shown-the_row-FieldTerm-0}}
 use Rattle.std.specs.declared.boxed.Box.{{Box}}
 use Rattle.std.specs.declared.alloc.Global.{{Global}}
-use Rattle.jh_tree.specs.Bare.{{{', '.join(TYPES[c][2] + '_tree' for c in ORDER)}}}
-use Rattle.jh_compare.specs.Compared.{{{with_names()}, {related_names()}, past, seen, by_labels}}
+use Rattle.jh_form.specs.Bare.{{{', '.join(TYPES[c][2] + '_tree' for c in ORDER)}}}
+use Rattle.jh_boxed_operations.specs.comparison.Compared.{{{with_names()}, {related_names()}, past, seen, by_labels}}
 """]
     rules = []
     for code, variant, ctor, kinds, ns in all_ctors():
@@ -232,12 +232,12 @@ def decides_file():
     out = [f"""-- The test decides the relation.
 use Rattle.std.proofs.Common.{{◌≡◌, refl, sym, ap, ◌∙◌, subst, ℕ, ℤ, Bool, true, false, ◌&&◌, ◌||◌, nat_eq}}
 use Rattle.std.proofs.lemmas.Bool.{{true≢false, eqb-true, eq-eqb}}
-use Rattle.jh_tree.proofs.ClosedLemmas.{{both-left, both-right}}
-use Rattle.jh_tree.proofs.Names.{{name_equal-same, name_equal-true}}
-use Rattle.jh_compare.proofs.MarkLemmas.{{mark_equal-same, mark_equal-true, int_eq-same, int_eq-true}}
-{HEAD}use Rattle.jh_compare.specs.Compared.{{{with_names()}, {related_names()}, seen, by_labels}}
-use Rattle.jh_compare.specs.Related.{{{', '.join(REL[c] for c in ORDER + 'L')}}}
-use Rattle.jh_compare.specs.Related as r
+use Rattle.jh_form.proofs.ClosedLemmas.{{both-left, both-right}}
+use Rattle.jh_form.proofs.Names.{{name_equal-same, name_equal-true}}
+use Rattle.jh_boxed_operations.proofs.comparison.MarkLemmas.{{mark_equal-same, mark_equal-true, int_eq-same, int_eq-true}}
+{HEAD}use Rattle.jh_boxed_operations.specs.comparison.Compared.{{{with_names()}, {related_names()}, seen, by_labels}}
+use Rattle.jh_boxed_operations.specs.comparison.Related.{{{', '.join(REL[c] for c in ORDER + 'L')}}}
+use Rattle.jh_boxed_operations.specs.comparison.Related as r
 
 -- a passed test is of a tree of that form"""]
     for code, variant, ctor, kinds, ns in all_ctors():
@@ -444,17 +444,17 @@ def compare_arm(code, variant, ctor, kinds):
 
 
 def comparing():
-    out = ["""#![tactic(auto, using(jh_tree::proofs::Steps::tree_steps, crate::proofs::CompareSteps::here_steps, crate::proofs::CompareSteps::compare_steps, crate::proofs::CompareSteps::other_steps))]
+    out = ["""#![tactic(auto, using(jh_form::proofs::Steps::tree_steps, crate::proofs::comparison::CompareSteps::here_steps, crate::proofs::comparison::CompareSteps::compare_steps, crate::proofs::comparison::CompareSteps::other_steps))]
 
 ghost use Rattle.std.specs.Prelude.{◌≡◌};
-ghost use Rattle.jh_tree.specs.Bare.{term_tree, int_tree, set_tree, field_tree, value_tree, formula_tree, list_tree};
-ghost use Rattle.jh_compare.specs.Compared.{seen, related_term, related_int, related_set, related_field, related_value, related_formula, related_fields};
+ghost use Rattle.jh_form.specs.Bare.{term_tree, int_tree, set_tree, field_tree, value_tree, formula_tree, list_tree};
+ghost use Rattle.jh_boxed_operations.specs.comparison.Compared.{seen, related_term, related_int, related_set, related_field, related_value, related_formula, related_fields};
 
-use crate::exchange::Exchange;
-use crate::marks::{marks_are_one, past_marks};
-use crate::numbers::numbers_are_one;
-use jh_subst::names_are_one;
-use jh_tree::{FieldTerm, Formula, IntTerm, SetTerm, Term, Value};
+use crate::comparison::exchange::Exchange;
+use crate::comparison::marks::{marks_are_one, past_marks};
+use crate::comparison::numbers::numbers_are_one;
+use crate::substitution::names_are_one;
+use jh_form::{FieldTerm, Formula, IntTerm, SetTerm, Term, Value};
 
 /// A formula as it is compared: with its labels, or past them.
 fn seen_of(formula: &Formula, labels: bool) -> &Formula
@@ -503,8 +503,8 @@ def unm(c):
 
 def unmarked_file():
     out = [f"""-- Trees without labels.
-use Rattle.jh_tree.specs.Tree.{{{TREES}}}
-use Rattle.jh_tree.specs.Tree as t
+use Rattle.jh_form.specs.Tree.{{{TREES}}}
+use Rattle.jh_form.specs.Tree as t
 
 -- the tree with the label of each part taken off
 unfoldable mutual"""]
@@ -525,14 +525,14 @@ unfoldable mutual"""]
 def past_steps():
     out = [f"""-- Comparing past labels is comparing the trees without labels.
 use Rattle.std.proofs.Common.{{◌≡◌, refl, sym, ap, ◌∙◌, ℕ, ℤ, Bool, true, false, ◌&&◌, nat_eq}}
-{HEAD}use Rattle.jh_tree.specs.declared.form.Formula.{{Formula}}
-use Rattle.jh_tree.specs.declared.form.Formula.TheVariants as formula
+{HEAD}use Rattle.jh_form.specs.declared.form.Formula.{{Formula}}
+use Rattle.jh_form.specs.declared.form.Formula.TheVariants as formula
 use Rattle.std.specs.declared.boxed.Box.{{Box}}
 use Rattle.std.specs.declared.alloc.Global.{{Global}}
-use Rattle.jh_tree.specs.Bare.{{formula_tree}}
-use Rattle.jh_compare.specs.Compared.{{{with_names()}, {related_names()}, past}}
-use Rattle.jh_compare.specs.Exchanged.{{nothing}}
-use Rattle.jh_compare.specs.Unmarked.{{{', '.join(unm(c) for c in ORDER + 'L')}}}
+use Rattle.jh_form.specs.Bare.{{formula_tree}}
+use Rattle.jh_boxed_operations.specs.comparison.Compared.{{{with_names()}, {related_names()}, past}}
+use Rattle.jh_boxed_operations.specs.comparison.Exchanged.{{nothing}}
+use Rattle.jh_boxed_operations.specs.comparison.Unmarked.{{{', '.join(unm(c) for c in ORDER + 'L')}}}
 """]
     out.append("""pub past-mark : (k : Mark) (a : FormulaTree) → past (t.mark k a) ≡ past a
 unfolding past
@@ -622,14 +622,14 @@ def exchange_meanings():
     from forms import MEANING, VALUE
     out = [f"""-- Exchanging parts for others of the same meaning keeps the meaning.
 use Rattle.std.proofs.Common.{{◌≡◌, refl, sym, ap, subst, ◌∙◌, ℕ, zero, suc, ◌<◌, ◌==◌, not, ◌&&◌, ◌||◌, List, [], ◌∷◌, slice_index, pos, ◌+ℤ◌, ◌-ℤ◌, ◌*ℤ◌, neg_ℤ, int_lt, int_le, arith}}
-{HEAD.replace("use Rattle.jh_tree.specs.Passing.{name_equal}" + chr(10) + "use Rattle.jh_compare.specs.Marks.{mark_equal}" + chr(10), "")}use Rattle.jh_tree.specs.Meaning.{{Datum, Interp, InUniverse, every, some, agree, divides_number, reaches, {', '.join(VALUE[c] for c in ORDER + 'L')}}}
-use Rattle.jh_tree.proofs.Universes.{{term_inside}}
-use Rattle.jh_tree.proofs.ClosedLemmas.{{datum-closed}}
-use Rattle.jh_compare.specs.Related.{{{', '.join(REL[c] for c in ORDER + 'L')}}}
-use Rattle.jh_compare.specs.Related as r
-use Rattle.jh_compare.specs.Exchanged.{{ExchangeKeepsMeaning}}
-use Rattle.jh_compare.specs.Inside.{{SameMembers, SameFields, SameIn, AreInside}}
-use Rattle.jh_compare.proofs.Insides.{{AllSame, fields-same, updated-same, count-same, every-same, some-same, reaches-same, forest-same}}
+{HEAD.replace("use Rattle.jh_form.specs.Passing.{name_equal}" + chr(10) + "use Rattle.jh_boxed_operations.specs.comparison.Marks.{mark_equal}" + chr(10), "")}use Rattle.jh_form.specs.Meaning.{{Datum, Interp, InUniverse, every, some, agree, divides_number, reaches, {', '.join(VALUE[c] for c in ORDER + 'L')}}}
+use Rattle.jh_form.proofs.Universes.{{term_inside}}
+use Rattle.jh_form.proofs.ClosedLemmas.{{datum-closed}}
+use Rattle.jh_boxed_operations.specs.comparison.Related.{{{', '.join(REL[c] for c in ORDER + 'L')}}}
+use Rattle.jh_boxed_operations.specs.comparison.Related as r
+use Rattle.jh_boxed_operations.specs.comparison.Exchanged.{{ExchangeKeepsMeaning}}
+use Rattle.jh_boxed_operations.specs.comparison.Inside.{{SameMembers, SameFields, SameIn, AreInside}}
+use Rattle.jh_boxed_operations.proofs.comparison.Insides.{{AllSame, fields-same, updated-same, count-same, every-same, some-same, reaches-same, forest-same}}
 
 -- one more object of the universe
 inside-more : (n x : ℕ) (e : List ℕ) → x < suc n → AreInside n e → AreInside n (x ∷ e)
@@ -731,12 +731,12 @@ exchange-keeps a b old new x closed closed' m universe same e inside =
 
 if __name__ == '__main__':
     root = sys.argv[1]
-    base = f'{root}/crates/jh_compare'
-    open(f'{base}/specs/Related.antt', 'w').write(related_specs())
-    open(f'{base}/specs/Compared.antt', 'w').write(tests_specs())
-    open(f'{base}/proofs/CompareSteps.antt', 'w').write(steps_file())
-    open(f'{base}/proofs/Decisions.antt', 'w').write(decides_file())
-    open(f'{base}/src/comparing.rt', 'w').write(comparing())
-    open(f'{base}/specs/Unmarked.antt', 'w').write(unmarked_file())
-    open(f'{base}/proofs/PastSteps.antt', 'w').write(past_steps())
-    open(f'{base}/proofs/ExchangeMeanings.antt', 'w').write(exchange_meanings())
+    base = f'{root}/crates/jh_boxed_operations'
+    open(f'{base}/specs/comparison/Related.antt', 'w').write(related_specs())
+    open(f'{base}/specs/comparison/Compared.antt', 'w').write(tests_specs())
+    open(f'{base}/proofs/comparison/CompareSteps.antt', 'w').write(steps_file())
+    open(f'{base}/proofs/comparison/Decisions.antt', 'w').write(decides_file())
+    open(f'{base}/src/comparison/comparing.rt', 'w').write(comparing())
+    open(f'{base}/specs/comparison/Unmarked.antt', 'w').write(unmarked_file())
+    open(f'{base}/proofs/comparison/PastSteps.antt', 'w').write(past_steps())
+    open(f'{base}/proofs/comparison/ExchangeMeanings.antt', 'w').write(exchange_meanings())

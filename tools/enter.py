@@ -30,8 +30,8 @@ def atoms_file():
     """Which formulas are atoms."""
     out = ["""-- Which formulas are atoms: no constants, connectives, quantifiers or labels.
 use Rattle.std.specs.Prelude.{Bool, true, false}
-use Rattle.jh_tree.specs.declared.form.Formula.{Formula}
-use Rattle.jh_tree.specs.declared.form.Formula.TheVariants as formula
+use Rattle.jh_form.specs.declared.form.Formula.{Formula}
+use Rattle.jh_form.specs.declared.form.Formula.TheVariants as formula
 
 abbrev pub is_atom : Formula → Bool"""]
     out += [f"is_atom {any_formula(v, kinds)} = false" for v, _, kinds in TYPES['P'][3] if v in CONNECTIVES]
@@ -67,16 +67,16 @@ def arm(code, variant, ctor, kinds):
 
 def code():
     out = ["""ghost use Rattle.std.specs.Prelude.{◌≡◌, true, IfOk, Some, slice_get};
-ghost use Rattle.jh_tree.specs.Tree.{of_object, of_number, of_truth, of_set, of_field};
-ghost use Rattle.jh_tree.specs.Bare.{term_tree, int_tree, set_tree, field_tree, value_tree, formula_tree, list_tree};
-ghost use Rattle.jh_table.specs.Growth.{Extends};
-ghost use Rattle.jh_table.specs.Nodes.{nodes};
-ghost use Rattle.jh_enter.specs.Atoms.{is_atom};
-ghost use Rattle.jh_enter.specs.Entered.{IsList, AddsParts, AddsFields};
+ghost use Rattle.jh_form.specs.Tree.{of_object, of_number, of_truth, of_set, of_field};
+ghost use Rattle.jh_form.specs.Bare.{term_tree, int_tree, set_tree, field_tree, value_tree, formula_tree, list_tree};
+ghost use Rattle.jh_arena.specs.table.Growth.{Extends};
+ghost use Rattle.jh_arena.specs.table.Nodes.{nodes};
+ghost use Rattle.jh_import.specs.entering.Atoms.{is_atom};
+ghost use Rattle.jh_import.specs.entering.Entered.{IsList, AddsParts, AddsFields};
 
 use jh_name::NoMemory;
-use jh_table::{Shape, Table};
-use jh_tree::{FieldTerm, Formula, IntTerm, SetTerm, Term, Value};
+use jh_arena::table::{Shape, Table};
+use jh_form::{FieldTerm, Formula, IntTerm, SetTerm, Term, Value};
 """]
     doc = {'T': 'a term for an object', 'I': 'a term for a number', 'S': 'a term for a set', 'F': 'a field', 'V': 'a value of any sort', 'P': 'a formula'}
     for c in 'TISFPV':
@@ -86,7 +86,7 @@ use jh_tree::{FieldTerm, Formula, IntTerm, SetTerm, Term, Value};
         wanted = f"({wanted})"
         out.append(f"""/// The node of {doc[c]}. Nodes that are new are made, each a part of it; those before stay.
 #[cycle(entered)]
-#[tactic(auto, using(crate::proofs::EnterSteps::{STEPS[c]}))]
+#[tactic(auto, using(crate::proofs::entering::EnterSteps::{STEPS[c]}))]
 pub fn enter_{WORD[c]}(table: &mut Table, {p}: &{rust}) -> Result<usize, NoMemory>
     ensures node {{ IfOk result (λ node. slice_get (nodes table.new) node ≡ Some {wanted}) }}
     ensures grows {{ Extends table.old table.new }}
@@ -98,7 +98,7 @@ pub fn enter_{WORD[c]}(table: &mut Table, {p}: &{rust}) -> Result<usize, NoMemor
     out.append("""/// The node of a formula that is an atom.
 #[cycle(entered)]
 #[inline(never)]
-#[tactic(auto, using(crate::proofs::EnterSteps::truth_steps))]
+#[tactic(auto, using(crate::proofs::entering::EnterSteps::truth_steps))]
 fn enter_atom(table: &mut Table, formula: &Formula) -> Result<usize, NoMemory>
     requires { is_atom formula.now ≡ true }
     ensures node { IfOk result (λ node. slice_get (nodes table.new) node ≡ Some (of_truth (formula_tree formula.now))) }
@@ -108,7 +108,7 @@ fn enter_atom(table: &mut Table, formula: &Formula) -> Result<usize, NoMemory>
     match formula {
 """ + ''.join(arm('P', *atom) for atom in atoms) + ''.join(f"        {any_of(v, kinds)} => unreachable!(),\n" for v, _, kinds in TYPES['P'][3] if v in CONNECTIVES) + "    }\n}\n")
     out.append("""#[cycle(entered)]
-#[tactic(auto, using(crate::proofs::EnterSteps::list_steps))]
+#[tactic(auto, using(crate::proofs::entering::EnterSteps::list_steps))]
 fn enter_fields(table: &mut Table, fields: &[FieldTerm]) -> Result<usize, NoMemory>
     ensures list { IfOk result (λ number. IsList table.new number (list_tree fields.now)) }
     ensures grows { Extends table.old table.new }
@@ -129,18 +129,18 @@ def guards():
     """The calls for others, which ask first how deep the tree nests."""
     out = ["""// Written by tools/enter.py.
 ghost use Rattle.std.specs.Prelude.{◌≡◌, ◌≤◌, IfOk, Some, slice_get};
-ghost use Rattle.jh_tree.specs.Tree.{of_object, of_number, of_truth, of_set, of_field};
-ghost use Rattle.jh_tree.specs.Bare.{term_tree, int_tree, set_tree, field_tree, value_tree, formula_tree};
-ghost use Rattle.jh_walk.specs.Sizes.{value_depth};
-ghost use Rattle.jh_table.specs.Growth.{Extends};
-ghost use Rattle.jh_table.specs.Nodes.{nodes};
-ghost use Rattle.jh_enter.specs.Entered.{AddsParts, IsKept};
+ghost use Rattle.jh_form.specs.Tree.{of_object, of_number, of_truth, of_set, of_field};
+ghost use Rattle.jh_form.specs.Bare.{term_tree, int_tree, set_tree, field_tree, value_tree, formula_tree};
+ghost use Rattle.jh_arena.specs.jh_boxed.Sizes.{value_depth};
+ghost use Rattle.jh_arena.specs.table.Growth.{Extends};
+ghost use Rattle.jh_arena.specs.table.Nodes.{nodes};
+ghost use Rattle.jh_import.specs.entering.Entered.{AddsParts, IsKept};
 
-use crate::entering;
+use crate::entering::entering;
 use jh_name::NoMemory;
-use jh_table::{MOST_LEVELS, Table};
-use jh_tree::{FieldTerm, Formula, IntTerm, SetTerm, Term, Value};
-use jh_walk::Walk;
+use jh_arena::table::{MOST_LEVELS, Table};
+use jh_form::{FieldTerm, Formula, IntTerm, SetTerm, Term, Value};
+use jh_arena::jh_boxed::Walk;
 """]
     doc = {'T': 'a term for an object', 'I': 'a term for a number', 'S': 'a term for a set', 'F': 'a field', 'V': 'a value of any sort', 'P': 'a formula'}
     for c in 'TISFPV':
@@ -150,7 +150,7 @@ use jh_walk::Walk;
         out.append(f"""/// The node of {doc[c]}. Nodes that are new are made, each a part of it; those before stay. Where the tree is
 /// listed already, no node is made. The answer is want of memory where the tree nests deeper than MOST_LEVELS, and
 /// nothing is entered then.
-""" + ("#[tactic(auto, using(crate::proofs::EnterSteps::value_steps))]\n" if c == 'V' else '') + f"""pub fn enter{'' if c == 'V' else '_' + WORD[c]}(table: &mut Table, {p}: &{rust}) -> Result<usize, NoMemory>
+""" + ("#[tactic(auto, using(crate::proofs::entering::EnterSteps::value_steps))]\n" if c == 'V' else '') + f"""pub fn enter{'' if c == 'V' else '_' + WORD[c]}(table: &mut Table, {p}: &{rust}) -> Result<usize, NoMemory>
     ensures node {{ IfOk result (λ node. slice_get (nodes table.new) node ≡ Some {wanted}) }}
     ensures shallow {{ IfOk result (λ node. value_depth {wanted} ≤ 10001) }}
     ensures grows {{ Extends table.old table.new }}
@@ -185,10 +185,10 @@ def steps():
         uses += [m for m in mine if '_tree-' in m]
         rules.append(f"pub ruleset {STEPS[c]} = ({', '.join(mine + ['node-stays', 'extends-trans'])})")
     return f"""-- What the arms of entering cite, for each sort.
-use Rattle.jh_tree.proofs.Steps.{{{', '.join(uses)}}}
-use Rattle.jh_table.proofs.NodeSteps.{{{', '.join(shape_rules)}}}
-use Rattle.jh_table.proofs.Listed.{{node-stays, extends-trans}}
-use Rattle.jh_enter.proofs.Fields.{{fits-listed-Reach, tree-listed-Reach, fits-listed-Tree, tree-listed-Tree}}
+use Rattle.jh_form.proofs.Steps.{{{', '.join(uses)}}}
+use Rattle.jh_arena.proofs.table.NodeSteps.{{{', '.join(shape_rules)}}}
+use Rattle.jh_arena.proofs.table.Listed.{{node-stays, extends-trans}}
+use Rattle.jh_import.proofs.entering.Fields.{{fits-listed-Reach, tree-listed-Reach, fits-listed-Tree, tree-listed-Tree}}
 
 """ + '\n\n'.join(rules) + "\n\npub ruleset list_steps = (node-stays, extends-trans)\n"
 
@@ -196,18 +196,18 @@ use Rattle.jh_enter.proofs.Fields.{{fits-listed-Reach, tree-listed-Reach, fits-l
 # the answers that no arm shares
 ANSWERS = """use Rattle.std.proofs.Common.{◌≡◌, rules, refl, ap, sym, ◌∙◌, Some, slice_get, SFits, to_z, of_z, w64}
 use Rattle.std.proofs.lemmas.Int.{to_z-of_z}
-use Rattle.jh_tree.specs.Tree.{FieldTree, ValueTree, of_object, of_number, of_truth, of_set, of_field}
-use Rattle.jh_tree.specs.Tree as tree
-use Rattle.jh_tree.specs.Bare.{term_tree, int_tree, set_tree, field_tree, value_tree, formula_tree, list_tree}
-use Rattle.jh_tree.proofs.Steps.{STEPS}
-use Rattle.jh_walk.specs.Parts as part
-use Rattle.jh_table.specs.declared.shapes.Shape.TheVariants as s
-use Rattle.jh_table.specs.Nodes.{nodes, tree_in}
-use Rattle.jh_table.proofs.Listed.{extends-refl, extends-trans, node-stays}
-use Rattle.jh_table.proofs.NodeSteps.{SHAPES}
-use Rattle.jh_enter.proofs.Fields.{entering-start, entering-step, listed-as, made-as, fits-listed-Reach, tree-listed-Reach, fits-listed-Tree, tree-listed-Tree}
-use Rattle.jh_enter.proofs.Adding.{adds-self, adds-part, adds-fields, adds-pool, adds-made, adds-first, adds-field, adds-list}
-use Rattle.jh_enter.proofs.entering.+entered.Goals as goal
+use Rattle.jh_form.specs.Tree.{FieldTree, ValueTree, of_object, of_number, of_truth, of_set, of_field}
+use Rattle.jh_form.specs.Tree as tree
+use Rattle.jh_form.specs.Bare.{term_tree, int_tree, set_tree, field_tree, value_tree, formula_tree, list_tree}
+use Rattle.jh_form.proofs.Steps.{STEPS}
+use Rattle.jh_arena.specs.jh_boxed.Parts as part
+use Rattle.jh_arena.specs.declared.table.shapes.Shape.TheVariants as s
+use Rattle.jh_arena.specs.table.Nodes.{nodes, tree_in}
+use Rattle.jh_arena.proofs.table.Listed.{extends-refl, extends-trans, node-stays}
+use Rattle.jh_arena.proofs.table.NodeSteps.{SHAPES}
+use Rattle.jh_import.proofs.entering.Fields.{entering-start, entering-step, listed-as, made-as, fits-listed-Reach, tree-listed-Reach, fits-listed-Tree, tree-listed-Tree}
+use Rattle.jh_import.proofs.entering.Adding.{adds-self, adds-part, adds-fields, adds-pool, adds-made, adds-first, adds-field, adds-list}
+use Rattle.jh_import.proofs.entering.entering.+entered.Goals as goal
 
 pub enter_fields-loop-field-init : goal.enter_fields-loop-field-init
 enter_fields-loop-field-init t c = record {
@@ -481,10 +481,10 @@ def kept(c):
     fn, param = TYPES[c][2], PARAM[c]
     call = f"c.enter_{WORD[c]}-node"
     return f"""-- Written by tools/enter.py.
-use Rattle.jh_tree.specs.Tree.{{{WRAP[c]}}}
-use Rattle.jh_tree.specs.Bare.{{{fn}_tree}}
-use Rattle.jh_enter.proofs.Keeping.{{kept-parts}}
-use Rattle.jh_enter.proofs.guarded.enter_{WORD[c]}.Goals as goal
+use Rattle.jh_form.specs.Tree.{{{WRAP[c]}}}
+use Rattle.jh_form.specs.Bare.{{{fn}_tree}}
+use Rattle.jh_import.proofs.entering.Keeping.{{kept-parts}}
+use Rattle.jh_import.proofs.entering.guarded.enter_{WORD[c]}.Goals as goal
 
 pub returns-clause-kept : goal.returns-clause-kept
 returns-clause-kept c =
@@ -496,13 +496,13 @@ if __name__ == '__main__':
     root = sys.argv[1]
 
     def write(path, text):
-        path = f'{root}/crates/jh_enter/{path}'
+        path = f'{root}/crates/jh_import/{path}'
         os.makedirs(os.path.dirname(path), exist_ok=True)
         open(path, 'w').write(text)
-    write('specs/Atoms.antt', atoms_file())
-    write('src/entering.rt', code())
-    write('src/guarded.rt', guards())
-    write('proofs/EnterSteps.antt', steps())
-    write('proofs/entering/+entered/Answers.antt', answers())
+    write('specs/entering/Atoms.antt', atoms_file())
+    write('src/entering/entering.rt', code())
+    write('src/entering/guarded.rt', guards())
+    write('proofs/entering/EnterSteps.antt', steps())
+    write('proofs/entering/entering/+entered/Answers.antt', answers())
     for c in 'TISFP':
-        write(f"proofs/guarded/enter_{WORD[c]}/Answers.antt", kept(c))
+        write(f"proofs/entering/guarded/enter_{WORD[c]}/Answers.antt", kept(c))

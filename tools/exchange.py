@@ -17,18 +17,18 @@ HEAD = f"""-- Written by tools/exchange.py.
 -- Exchanging parts for others of the same value keeps the meaning, whatever the objects of the binders that are passed on the way.
 use Rattle.std.proofs.Common.{{◌≡◌, refl, sym, ap, subst, ◌∙◌, ℕ, zero, suc, ◌<◌, ◌+◌, ◌==◌, not, ◌&&◌, ◌||◌, Bool, true, false, if◌then◌else◌, Option, Some, None, List, [], ◌∷◌, drop, pos, ◌+ℤ◌, ◌-ℤ◌, ◌*ℤ◌, neg_ℤ, int_lt, int_le, add-one, arith}}
 use Rattle.std.specs.Ordering.{{int_eq}}
-use Rattle.jh_tree.specs.Tree.{{{TREES}}}
-use Rattle.jh_tree.specs.Tree as t
-use Rattle.jh_tree.specs.Meaning.{{Datum, Interp, InUniverse, agree, divides_number, reaches, {', '.join(VALUE[c] for c in ORDER + 'L')}}}
-use Rattle.jh_tree.proofs.Universes.{{term_inside}}
-use Rattle.jh_compare.specs.Exchanged.{{equal_trees}}
-use Rattle.jh_compare.specs.Inside.{{SameMembers, SameFields, SameIn, AreInside}}
-use Rattle.jh_compare.proofs.Equalities.{{equal_trees-true}}
-use Rattle.jh_compare.proofs.Insides.{{AllSame, fields-same, updated-same, count-same, every-same, some-same, reaches-same, forest-same}}
-use Rattle.jh_rewrite.specs.Exchanging.{{new_for}}
-use Rattle.jh_rewrite.specs.Rewritten.{{Rewriting, {', '.join(OR[c] + '_or' for c in 'TISFP')}, {', '.join(REWRITTEN[c] for c in ORDER + 'L')}}}
-use Rattle.jh_exchange.specs.Under.{{raised, new_at, exchanging_under}}
-use Rattle.jh_exchange.proofs.Liftings.{{raised-means}}
+use Rattle.jh_form.specs.Tree.{{{TREES}}}
+use Rattle.jh_form.specs.Tree as t
+use Rattle.jh_form.specs.Meaning.{{Datum, Interp, InUniverse, agree, divides_number, reaches, {', '.join(VALUE[c] for c in ORDER + 'L')}}}
+use Rattle.jh_form.proofs.Universes.{{term_inside}}
+use Rattle.jh_boxed_operations.specs.comparison.Exchanged.{{equal_trees}}
+use Rattle.jh_boxed_operations.specs.comparison.Inside.{{SameMembers, SameFields, SameIn, AreInside}}
+use Rattle.jh_boxed_operations.proofs.comparison.Equalities.{{equal_trees-true}}
+use Rattle.jh_boxed_operations.proofs.comparison.Insides.{{AllSame, fields-same, updated-same, count-same, every-same, some-same, reaches-same, forest-same}}
+use Rattle.jh_substitution.specs.rewriting.Exchanging.{{new_for}}
+use Rattle.jh_substitution.specs.rewriting.Rewritten.{{Rewriting, {', '.join(OR[c] + '_or' for c in 'TISFP')}, {', '.join(REWRITTEN[c] for c in ORDER + 'L')}}}
+use Rattle.jh_substitution.specs.exchange.Under.{{raised, new_at, exchanging_under}}
+use Rattle.jh_substitution.proofs.exchange.Liftings.{{raised-means}}
 
 -- what stands for a part is the new value, and the part the old one
 chosen-pair : (old new v w : ValueTree) (b : Bool) → equal_trees v old ≡ b → (if b then Some new else None) ≡ Some w → (v ≡ old) × (w ≡ new)
@@ -160,4 +160,4 @@ def meanings():
 
 
 if __name__ == '__main__':
-    open(f'{sys.argv[1]}/crates/jh_exchange/proofs/Meanings.antt', 'w').write(meanings())
+    open(f'{sys.argv[1]}/crates/jh_substitution/proofs/exchange/Meanings.antt', 'w').write(meanings())

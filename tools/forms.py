@@ -157,8 +157,8 @@ def shapes_file():
     arguments = {variant: kinds for variant, _, kinds in TYPES['P'][3]}
     out = ["""-- Which connective or atom a formula is. Each function that maps one of them, or a few, asks for it.
 use Rattle.std.specs.Prelude.{Bool, true, false}
-use Rattle.jh_tree.specs.declared.form.Formula.{Formula}
-use Rattle.jh_tree.specs.declared.form.Formula.TheVariants as formula
+use Rattle.jh_form.specs.declared.form.Formula.{Formula}
+use Rattle.jh_form.specs.declared.form.Formula.TheVariants as formula
 """]
     for name, variants in SHAPES.items():
         out.append(f"\nabbrev pub {name} : Formula → Bool\n")
@@ -171,10 +171,10 @@ use Rattle.jh_tree.specs.declared.form.Formula.TheVariants as formula
 def kinds_file():
     arguments = {variant: kinds for variant, _, kinds in TYPES['P'][3]}
     out = ["""-- What the parts of a formula are.
-use Rattle.jh_tree.specs.declared.form.Formula.{Formula}
-use Rattle.jh_tree.specs.declared.form.Formula.TheVariants as formula
-use Rattle.jh_tree.specs.declared.form.Kind.{Kind}
-use Rattle.jh_tree.specs.declared.form.Kind.TheVariants as kind
+use Rattle.jh_form.specs.declared.form.Formula.{Formula}
+use Rattle.jh_form.specs.declared.form.Formula.TheVariants as formula
+use Rattle.jh_form.specs.declared.form.Kind.{Kind}
+use Rattle.jh_form.specs.declared.form.Kind.TheVariants as kind
 
 abbrev pub kind_of : Formula → Kind
 """]
@@ -191,7 +191,7 @@ def tree_file():
 -- trees are, labels included. A bound variable is the number of binders between it and its own.
 use Rattle.std.specs.Prelude.{ℕ, ℤ}
 use Rattle.jh_name.specs.declared.naming.Name.{Name}
-use Rattle.jh_tree.specs.declared.mark.Mark.{Mark}
+use Rattle.jh_form.specs.declared.mark.Mark.{Mark}
 
 mutual"""]
     for code in ORDER:
@@ -216,18 +216,18 @@ def to_tree(kind, name):
     return name
 
 
-def variant_modules(prefix='Rattle.jh_tree.specs.declared.form'):
+def variant_modules(prefix='Rattle.jh_form.specs.declared.form'):
     return '\n'.join(f"use {prefix}.{TYPES[c][0]}.TheVariants as {LETTER[c]}" for c in ORDER)
 
 
 def bare_file():
     out = [f"""-- The tree of each value of the program.
 use Rattle.std.specs.Prelude.{{List, [], ◌∷◌}}
-{chr(10).join(f"use Rattle.jh_tree.specs.declared.form.{TYPES[c][0]}.{{{TYPES[c][0]}}}" for c in ORDER)}
-use Rattle.jh_tree.specs.declared.form.Formula.{{Row_of-FieldTerm, end_of-FieldTerm, more_of-FieldTerm}}
+{chr(10).join(f"use Rattle.jh_form.specs.declared.form.{TYPES[c][0]}.{{{TYPES[c][0]}}}" for c in ORDER)}
+use Rattle.jh_form.specs.declared.form.Formula.{{Row_of-FieldTerm, end_of-FieldTerm, more_of-FieldTerm}}
 {variant_modules()}
-use Rattle.jh_tree.specs.Tree.{{{', '.join(TYPES[c][1] for c in ORDER)}, FieldTrees}}
-use Rattle.jh_tree.specs.Tree as tree
+use Rattle.jh_form.specs.Tree.{{{', '.join(TYPES[c][1] for c in ORDER)}, FieldTrees}}
+use Rattle.jh_form.specs.Tree as tree
 
 unfoldable mutual"""]
     for code in ORDER:
@@ -262,13 +262,13 @@ def steps_file():
     out = [f"""-- The tree of each variant, an equation for each.
 use Rattle.std.proofs.Common.{{◌≡◌, refl, ap, ◌∙◌, List, [], ◌∷◌, ℕ, ℤ}}
 use Rattle.jh_name.specs.declared.naming.Name.{{Name}}
-use Rattle.jh_tree.specs.declared.mark.Mark.{{Mark}}
-{chr(10).join(f"use Rattle.jh_tree.specs.declared.form.{TYPES[c][0]}.{{{TYPES[c][0]}}}" for c in ORDER)}
-use Rattle.jh_tree.specs.declared.form.Formula.{{Row_of-FieldTerm, end_of-FieldTerm, more_of-FieldTerm, items-the_row-FieldTerm, items_hidden-the_row-FieldTerm-0}}
-use Rattle.jh_tree.specs.declared.form.FieldTerm.TheBlock.{{hidden-the_row-FieldTerm-0}}
+use Rattle.jh_form.specs.declared.mark.Mark.{{Mark}}
+{chr(10).join(f"use Rattle.jh_form.specs.declared.form.{TYPES[c][0]}.{{{TYPES[c][0]}}}" for c in ORDER)}
+use Rattle.jh_form.specs.declared.form.Formula.{{Row_of-FieldTerm, end_of-FieldTerm, more_of-FieldTerm, items-the_row-FieldTerm, items_hidden-the_row-FieldTerm-0}}
+use Rattle.jh_form.specs.declared.form.FieldTerm.TheBlock.{{hidden-the_row-FieldTerm-0}}
 {variant_modules()}
-use Rattle.jh_tree.specs.Bare.{{{', '.join(TYPES[c][2] + '_tree' for c in ORDER)}, fields_tree, list_tree}}
-use Rattle.jh_tree.specs.Tree as tree
+use Rattle.jh_form.specs.Bare.{{{', '.join(TYPES[c][2] + '_tree' for c in ORDER)}, fields_tree, list_tree}}
+use Rattle.jh_form.specs.Tree as tree
 
 -- the trees of a row are those of the list of its items
 pub fields_tree-items : {{n : _}} (fs : Row_of-FieldTerm n) → fields_tree fs ≡ list_tree (items-the_row-FieldTerm n fs)
@@ -362,8 +362,8 @@ def mapped_file():
     return f"""-- A tree with each leaf exchanged for what a map of leaves gives for it.
 use Rattle.std.specs.Prelude.{{ℕ, ◌+◌}}
 use Rattle.jh_name.specs.declared.naming.Name.{{Name}}
-use Rattle.jh_tree.specs.Tree.{{{TREES}}}
-use Rattle.jh_tree.specs.Tree as t
+use Rattle.jh_form.specs.Tree.{{{TREES}}}
+use Rattle.jh_form.specs.Tree as t
 
 -- What stands for each leaf, at the number of binders that were passed on the way to it.
 pub record LeafMap : Type 0 where
@@ -411,8 +411,8 @@ def depth_case(code, ctor, kinds, ns):
 def sizes_file():
     return f"""-- The number of nodes of a tree, and how deep it nests. A value is no node of its own.
 use Rattle.std.specs.Prelude.{{ℕ, ◌+◌, max}}
-use Rattle.jh_tree.specs.Tree.{{{TREES}}}
-use Rattle.jh_tree.specs.Tree as t
+use Rattle.jh_form.specs.Tree.{{{TREES}}}
+use Rattle.jh_form.specs.Tree as t
 
 """ + family(lambda c: f"{fn_of(c)}_size", lambda c: 'ℕ', size_case, '', '0', 'field_size f + fields_size fs') + \
 "\n-- the nodes on the longest way down\n" + \
@@ -422,9 +422,9 @@ use Rattle.jh_tree.specs.Tree as t
 def parts_file():
     out = [f"""-- The parts of a tree.
 use Rattle.std.specs.Prelude.{{ℤ}}
-use Rattle.jh_tree.specs.declared.mark.Mark.{{Mark}}
-use Rattle.jh_tree.specs.Tree.{{{TREES}}}
-use Rattle.jh_tree.specs.Tree as t
+use Rattle.jh_form.specs.declared.mark.Mark.{{Mark}}
+use Rattle.jh_form.specs.Tree.{{{TREES}}}
+use Rattle.jh_form.specs.Tree as t
 
 -- a field of a list
 pub data Among : FieldTree → FieldTrees → Type 0 where
@@ -509,10 +509,10 @@ def map_steps_file():
     return equations(f"""-- The mapped tree at each constructor.
 use Rattle.std.proofs.Common.{{◌≡◌, refl, ℕ, ◌+◌, ℤ}}
 use Rattle.jh_name.specs.declared.naming.Name.{{Name}}
-use Rattle.jh_tree.specs.declared.mark.Mark.{{Mark}}
-use Rattle.jh_tree.specs.Tree.{{{TREES}}}
-use Rattle.jh_tree.specs.Tree as t
-use Rattle.jh_walk.specs.Mapped.{{LeafMap, {', '.join('mapped_' + fn_of(c) for c in ORDER + 'L')}}}
+use Rattle.jh_form.specs.declared.mark.Mark.{{Mark}}
+use Rattle.jh_form.specs.Tree.{{{TREES}}}
+use Rattle.jh_form.specs.Tree as t
+use Rattle.jh_boxed.specs.Mapped.{{LeafMap, {', '.join('mapped_' + fn_of(c) for c in ORDER + 'L')}}}
 """, [(lambda c: f"mapped_{fn_of(c)}", mapped_case, '(l : LeafMap) (d : ℕ)', ' l d', 't.none', 't.more (mapped_field f l d) (mapped_fields fs l d)')], 'map_steps')
 
 
@@ -520,10 +520,10 @@ def size_steps_file():
     return equations(f"""-- The size and the depth at each constructor.
 use Rattle.std.proofs.Common.{{◌≡◌, refl, ℕ, ◌+◌, max, ℤ}}
 use Rattle.jh_name.specs.declared.naming.Name.{{Name}}
-use Rattle.jh_tree.specs.declared.mark.Mark.{{Mark}}
-use Rattle.jh_tree.specs.Tree.{{{TREES}}}
-use Rattle.jh_tree.specs.Tree as t
-use Rattle.jh_walk.specs.Sizes.{{{', '.join(fn_of(c) + '_size' for c in ORDER + 'L')}, {', '.join(fn_of(c) + '_depth' for c in ORDER + 'L')}}}
+use Rattle.jh_form.specs.declared.mark.Mark.{{Mark}}
+use Rattle.jh_form.specs.Tree.{{{TREES}}}
+use Rattle.jh_form.specs.Tree as t
+use Rattle.jh_boxed.specs.Sizes.{{{', '.join(fn_of(c) + '_size' for c in ORDER + 'L')}, {', '.join(fn_of(c) + '_depth' for c in ORDER + 'L')}}}
 """, [(lambda c: f"{fn_of(c)}_size", size_case, '', '', '0', 'field_size f + fields_size fs'),
       (lambda c: f"{fn_of(c)}_depth", depth_case, '', '', '0', 'max (field_depth f) (fields_depth fs)')], 'size_steps')
 
@@ -531,9 +531,9 @@ use Rattle.jh_walk.specs.Sizes.{{{', '.join(fn_of(c) + '_size' for c in ORDER + 
 def unchanged_file():
     out = [f"""-- Mapping with the leaves that change nothing gives the same tree.
 use Rattle.std.proofs.Common.{{◌≡◌, refl, ℕ, ◌+◌}}
-use Rattle.jh_tree.specs.Tree.{{{TREES}}}
-use Rattle.jh_tree.specs.Tree as t
-use Rattle.jh_walk.specs.Mapped.{{unchanged, {', '.join('mapped_' + fn_of(c) for c in ORDER + 'L')}}}
+use Rattle.jh_form.specs.Tree.{{{TREES}}}
+use Rattle.jh_form.specs.Tree as t
+use Rattle.jh_boxed.specs.Mapped.{{unchanged, {', '.join('mapped_' + fn_of(c) for c in ORDER + 'L')}}}
 
 mutual
   unfolding {' '.join('mapped_' + fn_of(c) for c in ORDER + 'L')}"""]
@@ -631,11 +631,11 @@ def meanings_file():
     return f"""-- The meaning of a mapped tree: where each leaf keeps its meaning, the whole does.
 use Rattle.std.proofs.Common.{{◌≡◌, refl, ap, ◌∙◌, ℕ, suc, ◌+◌, ◌≤◌, ◌==◌, not, ◌&&◌, ◌||◌, List, [], ◌∷◌, length, ℤ, pos, ◌+ℤ◌, ◌-ℤ◌, ◌*ℤ◌, neg_ℤ, int_lt, int_le, arith}}
 use Rattle.std.specs.Ordering.{{int_eq}}
-use Rattle.jh_tree.specs.Tree.{{{TREES}}}
-use Rattle.jh_tree.specs.Tree as t
-use Rattle.jh_tree.specs.Meaning.{{{MEANING_USES}}}
-use Rattle.jh_walk.specs.Mapped.{{LeafMap, {', '.join('mapped_' + fn_of(c) for c in ORDER + 'L')}}}
-use Rattle.jh_walk.specs.Kept.{{Keeps}}
+use Rattle.jh_form.specs.Tree.{{{TREES}}}
+use Rattle.jh_form.specs.Tree as t
+use Rattle.jh_form.specs.Meaning.{{{MEANING_USES}}}
+use Rattle.jh_boxed.specs.Mapped.{{LeafMap, {', '.join('mapped_' + fn_of(c) for c in ORDER + 'L')}}}
+use Rattle.jh_boxed.specs.Kept.{{Keeps}}
 
 pub deeper : (d : ℕ) (e : List ℕ) (x : ℕ) → d ≤ length e → d + 1 ≤ length (x ∷ e)
 deeper d e x h = omega arith
@@ -654,11 +654,11 @@ def part_lemmas_file():
     parts_file()
     out = [f"""-- A part has fewer nodes than its whole.
 use Rattle.std.proofs.Common.{{◌≡◌, ℕ, ◌+◌, ◌<◌, ◌≤◌, arith}}
-use Rattle.jh_tree.specs.Tree.{{{TREES}}}
-use Rattle.jh_tree.specs.Tree as t
-use Rattle.jh_walk.specs.Sizes.{{{', '.join(fn_of(c) + '_size' for c in ORDER + 'L')}}}
-use Rattle.jh_walk.specs.Parts.{{Among, first, later, IsChild, IsPart, child, within}}
-use Rattle.jh_walk.specs.Parts as p
+use Rattle.jh_form.specs.Tree.{{{TREES}}}
+use Rattle.jh_form.specs.Tree as t
+use Rattle.jh_boxed.specs.Sizes.{{{', '.join(fn_of(c) + '_size' for c in ORDER + 'L')}}}
+use Rattle.jh_boxed.specs.Parts.{{Among, first, later, IsChild, IsPart, child, within}}
+use Rattle.jh_boxed.specs.Parts as p
 
 pub among-size : (f : FieldTree) (fs : FieldTrees) → Among f fs → field_size f ≤ fields_size fs
 unfolding fields_size
@@ -726,8 +726,8 @@ def passes_case(code, ctor, kinds, ns):
 def closed_file():
     return f"""-- Trees without loose bound variables.
 use Rattle.std.specs.Prelude.{{ℕ, ◌+◌, nat_lt, Bool, true, ◌&&◌}}
-use Rattle.jh_tree.specs.Tree.{{{TREES}}}
-use Rattle.jh_tree.specs.Tree as t
+use Rattle.jh_form.specs.Tree.{{{TREES}}}
+use Rattle.jh_form.specs.Tree as t
 
 -- Each bound variable belongs to a binder of the tree, or to one of d binders around it.
 """ + family(closed_of, lambda c: 'ℕ → Bool', closed_case, ' d', 'true', 'is_closed_field f d && is_closed_fields fs d')
@@ -740,8 +740,8 @@ use Rattle.std.specs.Cmp.Lexicographic.{{pointwise}}
 use Rattle.jh_name.specs.declared.naming.Name.{{Name}}
 use Rattle.jh_name.specs.declared.place.Sort as place
 use Rattle.jh_name.specs.declared.place.Sort.TheVariants as Sort
-use Rattle.jh_tree.specs.Tree.{{{TREES}}}
-use Rattle.jh_tree.specs.Tree as t
+use Rattle.jh_form.specs.Tree.{{{TREES}}}
+use Rattle.jh_form.specs.Tree as t
 
 -- Two names are one where their turns and their texts are.
 unfoldable pub name_equal : Name → Name → Bool
@@ -761,10 +761,10 @@ use Rattle.std.proofs.Common.{{◌≡◌, refl, ◌&&◌, Bool, true, ℕ, ℤ}}
 use Rattle.jh_name.specs.declared.naming.Name.{{Name}}
 use Rattle.jh_name.specs.declared.place.Sort as place
 use Rattle.jh_name.specs.declared.place.Sort.TheVariants as Sort
-use Rattle.jh_tree.specs.declared.mark.Mark.{{Mark}}
-use Rattle.jh_tree.specs.Tree.{{{TREES}}}
-use Rattle.jh_tree.specs.Tree as t
-use Rattle.jh_tree.specs.Passing.{{{', '.join(passes_of(c) for c in ORDER + 'L')}}}
+use Rattle.jh_form.specs.declared.mark.Mark.{{Mark}}
+use Rattle.jh_form.specs.Tree.{{{TREES}}}
+use Rattle.jh_form.specs.Tree as t
+use Rattle.jh_form.specs.Passing.{{{', '.join(passes_of(c) for c in ORDER + 'L')}}}
 """, [(passes_of, passes_case, '(p : Name → place.Sort → Bool)', ' p', 'true', 'field_passes f p && fields_passes fs p')], 'pass_steps')
 
 
@@ -772,10 +772,10 @@ def closed_steps_file():
     return equations(f"""-- Closedness at each constructor.
 use Rattle.std.proofs.Common.{{◌≡◌, refl, ◌&&◌, Bool, true, nat_lt, ℕ, ◌+◌, ℤ}}
 use Rattle.jh_name.specs.declared.naming.Name.{{Name}}
-use Rattle.jh_tree.specs.declared.mark.Mark.{{Mark}}
-use Rattle.jh_tree.specs.Tree.{{{TREES}}}
-use Rattle.jh_tree.specs.Tree as t
-use Rattle.jh_tree.specs.Closed.{{{', '.join(closed_of(c) for c in ORDER + 'L')}}}
+use Rattle.jh_form.specs.declared.mark.Mark.{{Mark}}
+use Rattle.jh_form.specs.Tree.{{{TREES}}}
+use Rattle.jh_form.specs.Tree as t
+use Rattle.jh_form.specs.Closed.{{{', '.join(closed_of(c) for c in ORDER + 'L')}}}
 """, [(closed_of, closed_case, '(d : ℕ)', ' d', 'true', 'is_closed_field f d && is_closed_fields fs d')], 'closed_steps')
 
 
@@ -822,10 +822,10 @@ def closed_lemmas_file():
 use Rattle.std.proofs.Common.{{◌≡◌, refl, sym, ap, ◌∙◌, ℕ, zero, suc, ◌+◌, ◌<◌, ◌≤◌, ◌==◌, nat_lt, Bool, true, false, not, ◌&&◌, ◌||◌, List, [], ◌∷◌, length, slice_index, ℤ, pos, ◌+ℤ◌, ◌-ℤ◌, ◌*ℤ◌, neg_ℤ, int_lt, int_le, arith}}
 use Rattle.std.proofs.lemmas.Bool.{{true≢false, ltb-true}}
 use Rattle.std.specs.Ordering.{{int_eq}}
-use Rattle.jh_tree.specs.Tree.{{{TREES}}}
-use Rattle.jh_tree.specs.Tree as t
-use Rattle.jh_tree.specs.Meaning.{{{MEANING_USES}}}
-use Rattle.jh_tree.specs.Closed.{{{', '.join(closed_of(c) for c in ORDER + 'L')}}}
+use Rattle.jh_form.specs.Tree.{{{TREES}}}
+use Rattle.jh_form.specs.Tree as t
+use Rattle.jh_form.specs.Meaning.{{{MEANING_USES}}}
+use Rattle.jh_form.specs.Closed.{{{', '.join(closed_of(c) for c in ORDER + 'L')}}}
 {BOTH}
 -- the first d objects are the same
 abbrev pub AgreeBelow : ℕ → List ℕ → List ℕ → Type 0
@@ -859,12 +859,12 @@ use Rattle.std.proofs.Common.{{◌≡◌, refl, sym, ap, ◌∙◌, ℕ, suc, �
 use Rattle.std.specs.Ordering.{{int_eq}}
 use Rattle.jh_name.specs.declared.naming.Name.{{Name}}
 use Rattle.jh_name.specs.declared.place.Sort.{{Sort}}
-use Rattle.jh_tree.specs.Tree.{{{TREES}}}
-use Rattle.jh_tree.specs.Tree as t
-use Rattle.jh_tree.specs.Meaning.{{{MEANING_USES}}}
-use Rattle.jh_tree.specs.Passing.{{{', '.join(passes_of(c) for c in ORDER + 'L')}}}
-use Rattle.jh_tree.specs.Agreement.{{AgreeOn}}
-use Rattle.jh_tree.proofs.ClosedLemmas.{{both-left, both-right}}
+use Rattle.jh_form.specs.Tree.{{{TREES}}}
+use Rattle.jh_form.specs.Tree as t
+use Rattle.jh_form.specs.Meaning.{{{MEANING_USES}}}
+use Rattle.jh_form.specs.Passing.{{{', '.join(passes_of(c) for c in ORDER + 'L')}}}
+use Rattle.jh_form.specs.Agreement.{{AgreeOn}}
+use Rattle.jh_form.proofs.ClosedLemmas.{{both-left, both-right}}
 
 module _ (p : Name → Sort → Bool) (m n : Interp) (both : AgreeOn p m n) where
   mutual
@@ -884,22 +884,22 @@ if __name__ == '__main__':
     def write(path, text):
         os.makedirs(os.path.dirname(f'{root}/crates/{path}'), exist_ok=True)
         open(f'{root}/crates/{path}', 'w').write(text)
-    write('jh_tree/specs/Tree.antt', tree_file())
-    write('jh_tree/specs/Bare.antt', bare_file())
-    write('jh_tree/proofs/Steps.antt', steps_file())
-    write('jh_tree/specs/Kinds.antt', kinds_file())
-    write('jh_walk/specs/Shapes.antt', shapes_file())
-    write('jh_walk/specs/Mapped.antt', mapped_file())
-    write('jh_walk/specs/Sizes.antt', sizes_file())
-    write('jh_walk/specs/Parts.antt', parts_file())
-    write('jh_walk/proofs/MapSteps.antt', map_steps_file())
-    write('jh_walk/proofs/SizeSteps.antt', size_steps_file())
-    write('jh_walk/proofs/Identity.antt', unchanged_file())
-    write('jh_walk/proofs/Meanings.antt', meanings_file())
-    write('jh_walk/proofs/PartLemmas.antt', part_lemmas_file())
-    write('jh_tree/specs/Closed.antt', closed_file())
-    write('jh_tree/specs/Passing.antt', passing_file())
-    write('jh_tree/proofs/ClosedLemmas.antt', closed_lemmas_file())
-    write('jh_tree/proofs/ClosedSteps.antt', closed_steps_file())
-    write('jh_tree/proofs/PassSteps.antt', pass_steps_file())
-    write('jh_tree/proofs/Coincidences.antt', coincidence_file())
+    write('jh_form/specs/Tree.antt', tree_file())
+    write('jh_form/specs/Bare.antt', bare_file())
+    write('jh_form/proofs/Steps.antt', steps_file())
+    write('jh_form/specs/Kinds.antt', kinds_file())
+    write('jh_boxed/specs/Shapes.antt', shapes_file())
+    write('jh_boxed/specs/Mapped.antt', mapped_file())
+    write('jh_boxed/specs/Sizes.antt', sizes_file())
+    write('jh_boxed/specs/Parts.antt', parts_file())
+    write('jh_boxed/proofs/MapSteps.antt', map_steps_file())
+    write('jh_boxed/proofs/SizeSteps.antt', size_steps_file())
+    write('jh_boxed/proofs/Identity.antt', unchanged_file())
+    write('jh_boxed/proofs/Meanings.antt', meanings_file())
+    write('jh_boxed/proofs/PartLemmas.antt', part_lemmas_file())
+    write('jh_form/specs/Closed.antt', closed_file())
+    write('jh_form/specs/Passing.antt', passing_file())
+    write('jh_form/proofs/ClosedLemmas.antt', closed_lemmas_file())
+    write('jh_form/proofs/ClosedSteps.antt', closed_steps_file())
+    write('jh_form/proofs/PassSteps.antt', pass_steps_file())
+    write('jh_form/proofs/Coincidences.antt', coincidence_file())

@@ -88,16 +88,16 @@ def code_of(code):
     used = {n for s in mine for k in s[3] if is_part(k) for n in (IS[core(k)], THE[core(k)]) if n in body and n != 'is_some'}
     some = 'is_some' in body
     return f"""// Written by tools/makers.py.
-#![tactic(auto, unfolding(jh_table::specs::Nodes::fits, jh_table::specs::Nodes::shape_tree))]
+#![tactic(auto, unfolding(crate::specs::table::Nodes::fits, crate::specs::table::Nodes::shape_tree))]
 
 ghost use Rattle.std.specs.Prelude.{{◌≡◌, {'true, ' if ' ≡ true' in body else ''}IfOk, Some, {'is_some, ' if some else ''}slice_get}};
-ghost use Rattle.jh_tree.specs.Tree.{{{WRAP[code]}}};
-ghost use Rattle.jh_tree.specs.Tree as t;
-""" + (f"ghost use Rattle.jh_table.specs.Entries.{{{', '.join(sorted(used))}}};\n" if used else '') + f"""ghost use Rattle.jh_table.specs.Growth.{{Extends}};
-ghost use Rattle.jh_table.specs.Nodes.{{nodes}};
+ghost use Rattle.jh_form.specs.Tree.{{{WRAP[code]}}};
+ghost use Rattle.jh_form.specs.Tree as t;
+""" + (f"ghost use Rattle.jh_arena.specs.table.Entries.{{{', '.join(sorted(used))}}};\n" if used else '') + f"""ghost use Rattle.jh_arena.specs.table.Growth.{{Extends}};
+ghost use Rattle.jh_arena.specs.table.Nodes.{{nodes}};
 
-use jh_name::NoMemory;
-use jh_table::{{Shape, Table}};
+use jh_boxed::jh_name::NoMemory;
+use crate::table::{{Shape, Table}};
 
 {body}
 """
@@ -107,5 +107,5 @@ if __name__ == '__main__':
     import sys
     top = sys.argv[1] if len(sys.argv) > 1 else '.'
     for code in CODES:
-        with open(f"{top}/crates/jh_make/src/{FILE[code]}.rt", 'w') as out:
+        with open(f"{top}/crates/jh_arena/src/makers/{FILE[code]}.rt", 'w') as out:
             out.write(code_of(code))

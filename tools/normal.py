@@ -8,20 +8,20 @@ from forms import ORDER, TYPES, apply, core, fn_of, is_part, names, tree_type
 HEAD = """-- Written by tools/normal.py.
 -- The walk from below by the rule that takes labels off gives the tree without labels.
 use Rattle.std.proofs.Common.{◌≡◌, refl, sym, ap, ◌∙◌, ℕ, List, slice_get, Some, true}
-use Rattle.jh_tree.specs.Tree.{TermTree, IntTree, SetTree, FieldTree, ValueTree, FormulaTree, FieldTrees, of_truth}
-use Rattle.jh_tree.specs.Tree as t
-use Rattle.jh_compare.specs.Unmarked.{unmarked_term, unmarked_int, unmarked_set, unmarked_field, unmarked_value, unmarked_formula, unmarked_fields}
-use Rattle.jh_table.specs.Entries.{Pools}
-use Rattle.jh_table.specs.Nodes.{fits, shape_tree}
-use Rattle.jh_table.specs.declared.shapes.Shape.{Shape}
-use Rattle.jh_table.specs.declared.shapes.Shape.TheVariants as s
-use Rattle.jh_table.proofs.Children.{it-is-truth}
-use Rattle.jh_table.proofs.PartSteps.{part-Mark-a}
-use Rattle.jh_rebuild.specs.declared.polarity.Polarity.{Polarity}
-use Rattle.jh_rebuild.specs.declared.polarity.Polarity.TheVariants as pol
-use Rattle.jh_rebuild.specs.Built.{turned, built_term, built_int, built_set, built_field, built_value, built_formula, built_fields}
-use Rattle.jh_rebuild.specs.Walking.{built_at, applied}
-use Rattle.jh_normal.specs.Unlabelling.{bare, unlabelling}
+use Rattle.jh_form.specs.Tree.{TermTree, IntTree, SetTree, FieldTree, ValueTree, FormulaTree, FieldTrees, of_truth}
+use Rattle.jh_form.specs.Tree as t
+use Rattle.jh_substitution.specs.jh_boxed_operations.comparison.Unmarked.{unmarked_term, unmarked_int, unmarked_set, unmarked_field, unmarked_value, unmarked_formula, unmarked_fields}
+use Rattle.jh_arena.specs.table.Entries.{Pools}
+use Rattle.jh_arena.specs.table.Nodes.{fits, shape_tree}
+use Rattle.jh_arena.specs.declared.table.shapes.Shape.{Shape}
+use Rattle.jh_arena.specs.declared.table.shapes.Shape.TheVariants as s
+use Rattle.jh_arena.proofs.table.Children.{it-is-truth}
+use Rattle.jh_arena.proofs.table.PartSteps.{part-Mark-a}
+use Rattle.jh_normal_forms.specs.declared.rebuilding.polarity.Polarity.{Polarity}
+use Rattle.jh_normal_forms.specs.declared.rebuilding.polarity.Polarity.TheVariants as pol
+use Rattle.jh_normal_forms.specs.rebuilding.Built.{turned, built_term, built_int, built_set, built_field, built_value, built_formula, built_fields}
+use Rattle.jh_normal_forms.specs.rebuilding.Walking.{built_at, applied}
+use Rattle.jh_normal_forms.specs.negation_normal_form.Unlabelling.{bare, unlabelling}
 
 mutual
   unfolding built_term built_int built_set built_field built_value built_formula built_fields unmarked_term unmarked_int unmarked_set unmarked_field unmarked_value unmarked_formula unmarked_fields bare
@@ -94,6 +94,6 @@ def lemma():
 
 
 if __name__ == '__main__':
-    root = os.path.join(os.path.dirname(os.path.abspath(__file__)), '..', 'crates', 'jh_normal')
-    with open(os.path.join(root, 'proofs/Labels.antt'), 'w') as out:
+    root = os.path.join(os.path.dirname(os.path.abspath(__file__)), '..', 'crates', 'jh_normal_forms')
+    with open(os.path.join(root, 'proofs/negation_normal_form/Labels.antt'), 'w') as out:
         out.write(lemma())

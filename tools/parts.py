@@ -26,10 +26,10 @@ def standing():
     return f"""-- Written by tools/parts.py.
 -- The parts of a tree, in the order in which they stand.
 use Rattle.std.specs.Prelude.{{List, [], ◌∷◌, ◌++◌}}
-use Rattle.jh_tree.specs.Tree.{{{TREES}}}
-use Rattle.jh_tree.specs.Tree as t
-use Rattle.jh_parts.specs.declared.order.Order.{{Order}}
-use Rattle.jh_parts.specs.declared.order.Order.TheVariants as order
+use Rattle.jh_form.specs.Tree.{{{TREES}}}
+use Rattle.jh_form.specs.Tree as t
+use Rattle.jh_normal_forms.specs.declared.parts.order.Order.{{Order}}
+use Rattle.jh_normal_forms.specs.declared.parts.order.Order.TheVariants as order
 
 -- a part, where it stands before the parts inside it
 abbrev pub before : Order → ValueTree → List ValueTree
@@ -114,16 +114,16 @@ def listings():
 use Rattle.std.proofs.Common.{◌≡◌, refl, sym, ap, ◌∙◌, ℕ, true, ◌&&◌, List, [], ◌∷◌, ◌++◌, slice_get, Option, Some, is_some}
 use Rattle.std.proofs.lemmas.Bool.{true≢false}
 use Rattle.std.proofs.lemmas.List.{append-nil, append_assoc}
-use Rattle.jh_tree.specs.Tree.{ValueTree, of_object, of_number, of_truth, of_set, of_field}
-use Rattle.jh_tree.proofs.ClosedLemmas.{both-left, both-right}
-use Rattle.jh_table.specs.Entries.{Pools, the_list, is_object, is_number, is_truth, is_set, is_field, the_object, the_number, the_truth, the_set, the_field, the_value, are_fields, fields_at}
-use Rattle.jh_table.specs.Nodes.{fits, shape_tree}
-use Rattle.jh_table.specs.Parts.{parts, own_parts, list_parts}
-use Rattle.jh_table.specs.declared.shapes.Shape.{Shape}
-use Rattle.jh_table.specs.declared.shapes.Shape.TheVariants as s
-use Rattle.jh_parts.specs.declared.order.Order.{Order}
-use Rattle.jh_parts.specs.Standing.{around, term_parts, int_parts, set_parts, field_parts, value_parts, formula_parts, fields_parts}
-use Rattle.jh_parts.specs.Collected.{all_parts}
+use Rattle.jh_form.specs.Tree.{ValueTree, of_object, of_number, of_truth, of_set, of_field}
+use Rattle.jh_form.proofs.ClosedLemmas.{both-left, both-right}
+use Rattle.jh_arena.specs.table.Entries.{Pools, the_list, is_object, is_number, is_truth, is_set, is_field, the_object, the_number, the_truth, the_set, the_field, the_value, are_fields, fields_at}
+use Rattle.jh_arena.specs.table.Nodes.{fits, shape_tree}
+use Rattle.jh_arena.specs.table.Parts.{parts, own_parts, list_parts}
+use Rattle.jh_arena.specs.declared.table.shapes.Shape.{Shape}
+use Rattle.jh_arena.specs.declared.table.shapes.Shape.TheVariants as s
+use Rattle.jh_normal_forms.specs.declared.parts.order.Order.{Order}
+use Rattle.jh_normal_forms.specs.parts.Standing.{around, term_parts, int_parts, set_parts, field_parts, value_parts, formula_parts, fields_parts}
+use Rattle.jh_normal_forms.specs.parts.Collected.{all_parts}
 
 one-listed : (a va : List ValueTree) → a ≡ va → a ≡ va ++ []
 one-listed a va e = e ∙ sym (append-nil va)
@@ -162,7 +162,7 @@ module _ (p : Pools) (ts : List ValueTree) (o : Order) where
 
 
 if __name__ == '__main__':
-    root = os.path.join(os.path.dirname(os.path.abspath(__file__)), '..', 'crates', 'jh_parts')
-    for path, text in (('specs/Standing.antt', standing()), ('proofs/Listings.antt', listings())):
+    root = os.path.join(os.path.dirname(os.path.abspath(__file__)), '..', 'crates', 'jh_normal_forms')
+    for path, text in (('specs/parts/Standing.antt', standing()), ('proofs/parts/Listings.antt', listings())):
         with open(os.path.join(root, path), 'w') as out:
             out.write(text)

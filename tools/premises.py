@@ -4,7 +4,7 @@
 Run `rt fmt` and `rt tidy` in the crate after it."""
 import os
 
-CRATE = os.path.join(os.path.dirname(os.path.abspath(__file__)), "..", "crates", "jh_premises")
+CRATE = os.path.join(os.path.dirname(os.path.abspath(__file__)), "..", "crates", "jh_derivation_steps")
 KINDS = {
     "Formula": ("FormulaTree", "of_truth", "formula_at", "is-formula"),
     "Term": ("TermTree", "of_object", "term_at", "is-term"),
@@ -70,11 +70,11 @@ def applied(call, args):
 
 
 def source():
-    out = ["// Written by tools/premises.py.\n#![tactic(auto, using(crate::proofs::MakeSteps::make_steps, jh_table::proofs::Listed::growth_steps))]\n\n"
+    out = ["// Written by tools/premises.py.\n#![tactic(auto, using(crate::proofs::premises::MakeSteps::make_steps, jh_arena::proofs::table::Listed::growth_steps))]\n\n"
            "ghost use Rattle.std.specs.Prelude.{◌≡◌, IfOk, Some, slice_get};\n"
-           "ghost use Rattle.jh_tree.specs.Tree.{TermTree, IntTree, SetTree, FieldTree, FormulaTree, of_object, of_number, of_set, of_field, of_truth};\n"
-           "ghost use Rattle.jh_tree.specs.Tree as t;\nghost use Rattle.jh_table.specs.Growth.{Extends};\nghost use Rattle.jh_table.specs.Nodes.{nodes};\n"
-           "ghost use Rattle.jh_premises.specs.Nodes.{IsFormula, IsTerm, IsSet, IsField, IsNumber};\n\nuse jh_name::NoMemory;\nuse jh_table::{Shape, Table};\n"]
+           "ghost use Rattle.jh_form.specs.Tree.{TermTree, IntTree, SetTree, FieldTree, FormulaTree, of_object, of_number, of_set, of_field, of_truth};\n"
+           "ghost use Rattle.jh_form.specs.Tree as t;\nghost use Rattle.jh_arena.specs.table.Growth.{Extends};\nghost use Rattle.jh_arena.specs.table.Nodes.{nodes};\n"
+           "ghost use Rattle.jh_derivation_steps.specs.premises.Nodes.{IsFormula, IsTerm, IsSet, IsField, IsNumber};\n\nuse jh_name::NoMemory;\nuse jh_arena::table::{Shape, Table};\n"]
     for name, words, params, steps in FUNCTIONS:
         out.append(f"\n/// The node of {words}.\npub fn {name}(table: &mut Table, " + ", ".join(f"{p}: usize" for p, k in params) + ") -> Result<usize, NoMemory>\n")
         for p, k in params:
@@ -179,23 +179,23 @@ def answers(function):
     body = "\n".join(out)
     shapes = sorted({call for var, call, given in steps if call in SHAPES})
     head = ["-- Written by tools/premises.py.\n", "use Rattle.std.proofs.Common.{◌≡◌, ap, ◌∙◌, Some, slice_get}\n",
-            "use Rattle.jh_tree.specs.Tree.{TermTree, IntTree, SetTree, FieldTree, FormulaTree, of_object, of_number, of_set, of_field, of_truth}\nuse Rattle.jh_tree.specs.Tree as t\n",
-            "use Rattle.jh_table.specs.Nodes.{nodes}\n"]
+            "use Rattle.jh_form.specs.Tree.{TermTree, IntTree, SetTree, FieldTree, FormulaTree, of_object, of_number, of_set, of_field, of_truth}\nuse Rattle.jh_form.specs.Tree as t\n",
+            "use Rattle.jh_arena.specs.table.Nodes.{nodes}\n"]
     if shapes:
-        head.append("use Rattle.jh_table.proofs.NodeSteps.{" + ", ".join(f"fits-{x}, tree-{x}" for x in shapes) + "}\n")
-    head.append("use Rattle.jh_premises.specs.Nodes.{formula_at, term_at, set_at, field_at, number_at}\n")
-    head.append("use Rattle.jh_premises.proofs.Carried.{if-ok, keeps, is-formula, is-term, is-set, is-field, is-number}\n")
-    head.append(f"use Rattle.jh_premises.proofs.making.{name}.Goals as goal\n\n")
+        head.append("use Rattle.jh_arena.proofs.table.NodeSteps.{" + ", ".join(f"fits-{x}, tree-{x}" for x in shapes) + "}\n")
+    head.append("use Rattle.jh_derivation_steps.specs.premises.Nodes.{formula_at, term_at, set_at, field_at, number_at}\n")
+    head.append("use Rattle.jh_derivation_steps.proofs.premises.Carried.{if-ok, keeps, is-formula, is-term, is-set, is-field, is-number}\n")
+    head.append(f"use Rattle.jh_derivation_steps.proofs.premises.making.{name}.Goals as goal\n\n")
     return "".join(head) + body
 
 
 def main():
-    with open(os.path.join(CRATE, "src", "making.rt"), "w") as f:
+    with open(os.path.join(CRATE, "src", "premises", "making.rt"), "w") as f:
         f.write(source())
     for function in FUNCTIONS:
         if len(function[3]) == 1:
             continue
-        folder = os.path.join(CRATE, "proofs", "making", function[0])
+        folder = os.path.join(CRATE, "proofs", "premises", "making", function[0])
         os.makedirs(folder, exist_ok=True)
         with open(os.path.join(folder, "Answers.antt"), "w") as f:
             f.write(answers(function))

@@ -4,7 +4,7 @@
 Run `rt fmt` and `rt tidy` in the crate after it."""
 import os
 
-CRATE = os.path.join(os.path.dirname(os.path.abspath(__file__)), "..", "crates", "jh_premises")
+CRATE = os.path.join(os.path.dirname(os.path.abspath(__file__)), "..", "crates", "jh_derivation_steps")
 KIND = {"Formula": ("truth", "formula_at"), "Term": ("object", "term_at"), "Set": ("set", "set_at"), "Field": ("field", "field_at")}
 F, T, S = "Formula", "Term", "Set"
 
@@ -129,29 +129,29 @@ def written(function):
     extra = "(term_at (nodes c.args.table.now) c.args.object) " if name == "member_opened" else ""
     out.append(f"pub returns-in_default : goal.returns-in_default\n{unfolding} option_formula IsMade is_{KIND[kind][0]}\nreturns-in_default c =\n    let t0 = c.args.table.now in\n"
                f"    record {{ made = (sym ({KIND[kind][1].replace('_at', '-at')} {wanted} t0 c.args.{subject} c.shape.result c.shape.result c.shape.ensures.tree refl ∙ {name}-none t0.pools (nodes t0) {extra}c.shape.result (ap is_{KIND[kind][0]} (sym c.shape.ensures.tree ∙ c.requires.{subject})) {nots}), tt); grows = extends-refl t0 }}\n")
-    uses = ["use Rattle.std.proofs.Common.{◌≡◌, refl, sym, ap, subst, ◌∙◌, Some, slice_get}", "use Rattle.std.specs.Prelude.{Option}", "use Rattle.jh_tree.specs.Tree.{FormulaTree}",
-            "use Rattle.jh_tree.specs.Closed.{is_closed_term, is_closed_set, is_closed_formula}", "use Rattle.jh_tree.proofs.ClosedLemmas.{both-left}",
-            "use Rattle.jh_tree.specs.Tree as t", "use Rattle.jh_subst.specs.Opened.{opened}",
-            "use Rattle.jh_table.specs.Entries.{the_truth, the_set, the_object, is_object, is_truth, is_set}", "use Rattle.jh_table.specs.Nodes.{nodes, shape_tree}",
-            "use Rattle.jh_table.specs.declared.shapes.Shape.TheVariants as s",
-            "use Rattle.jh_table.proofs.PartSteps.{" + ", ".join(sorted(parts_used)) + "}",
-            *(["use Rattle.jh_table.proofs.NodeSteps.{" + ", ".join(sorted(f"tree-{x}, fits-{x}" for x in trees_used)) + "}"] if trees_used else []),
-            "use Rattle.jh_table.proofs.Children.{it-is-truth, it-is-object, it-is-set, it-is-field}",
-            "use Rattle.jh_steps.specs.Rules.{" + ", ".join(unfolds) + "}",
-            "use Rattle.jh_premises.specs.Nodes.{formula_at, term_at, set_at, field_at, option_formula, IsMade, Makes}",
-            "use Rattle.jh_premises.proofs.Shaping.{fits-at, formula-at, set-at, arm}",
-            "use Rattle.jh_table.proofs.Listed.{extends-refl}",
-            f"use Rattle.jh_premises.proofs.Others.{{{name}-none}}",
-            f"use Rattle.jh_premises.proofs.{module}.{name}.Goals as goal"]
+    uses = ["use Rattle.std.proofs.Common.{◌≡◌, refl, sym, ap, subst, ◌∙◌, Some, slice_get}", "use Rattle.std.specs.Prelude.{Option}", "use Rattle.jh_form.specs.Tree.{FormulaTree}",
+            "use Rattle.jh_form.specs.Closed.{is_closed_term, is_closed_set, is_closed_formula}", "use Rattle.jh_form.proofs.ClosedLemmas.{both-left}",
+            "use Rattle.jh_form.specs.Tree as t", "use Rattle.jh_boxed_operations.specs.substitution.Opened.{opened}",
+            "use Rattle.jh_arena.specs.table.Entries.{the_truth, the_set, the_object, is_object, is_truth, is_set}", "use Rattle.jh_arena.specs.table.Nodes.{nodes, shape_tree}",
+            "use Rattle.jh_arena.specs.declared.table.shapes.Shape.TheVariants as s",
+            "use Rattle.jh_arena.proofs.table.PartSteps.{" + ", ".join(sorted(parts_used)) + "}",
+            *(["use Rattle.jh_arena.proofs.table.NodeSteps.{" + ", ".join(sorted(f"tree-{x}, fits-{x}" for x in trees_used)) + "}"] if trees_used else []),
+            "use Rattle.jh_arena.proofs.table.Children.{it-is-truth, it-is-object, it-is-set, it-is-field}",
+            "use Rattle.jh_derivation_rules.specs.Rules.{" + ", ".join(unfolds) + "}",
+            "use Rattle.jh_derivation_steps.specs.premises.Nodes.{formula_at, term_at, set_at, field_at, option_formula, IsMade, Makes}",
+            "use Rattle.jh_derivation_steps.proofs.premises.Shaping.{fits-at, formula-at, set-at, arm}",
+            "use Rattle.jh_arena.proofs.table.Listed.{extends-refl}",
+            f"use Rattle.jh_derivation_steps.proofs.premises.Others.{{{name}-none}}",
+            f"use Rattle.jh_derivation_steps.proofs.premises.{module}.{name}.Goals as goal"]
     return "-- Written by tools/premises_arms.py.\n" + "\n".join(uses) + "\n\n" + "\n".join(out)
 
 
 def others():
     """Lemmas on the shapes that a function names in no arm."""
     out = ["-- Written by tools/premises_arms.py.\n-- What is wanted of nodes of the other shapes: nothing.\nuse Rattle.std.proofs.Common.{◌≡◌, refl, sym, ℕ, List, None, Some, true}\nuse Rattle.std.proofs.lemmas.Bool.{true≢false}\n"
-           "use Rattle.jh_tree.specs.Tree.{ValueTree, TermTree}\nuse Rattle.jh_table.specs.Entries.{Pools, the_truth, the_set, is_truth, is_set}\nuse Rattle.jh_table.specs.Nodes.{shape_tree}\n"
-           "use Rattle.jh_table.specs.declared.shapes.Shape.{Shape}\nuse Rattle.jh_table.specs.declared.shapes.Shape.TheVariants as s\n"
-           "use Rattle.jh_steps.specs.Rules.{pushed, member_opened, relation_opened}\n"]
+           "use Rattle.jh_form.specs.Tree.{ValueTree, TermTree}\nuse Rattle.jh_arena.specs.table.Entries.{Pools, the_truth, the_set, is_truth, is_set}\nuse Rattle.jh_arena.specs.table.Nodes.{shape_tree}\n"
+           "use Rattle.jh_arena.specs.declared.table.shapes.Shape.{Shape}\nuse Rattle.jh_arena.specs.declared.table.shapes.Shape.TheVariants as s\n"
+           "use Rattle.jh_derivation_rules.specs.Rules.{pushed, member_opened, relation_opened}\n"]
     for module, name, subject, kind, wanted, unfolds, arms in OPENING:
         the = "the_" + KIND[kind][0]
         extra = "(w : TermTree) " if name == "member_opened" else ""
@@ -169,10 +169,10 @@ def others():
 
 
 def main():
-    with open(os.path.join(CRATE, "proofs", "Others.antt"), "w") as f:
+    with open(os.path.join(CRATE, "proofs", "premises", "Others.antt"), "w") as f:
         f.write(others())
     for function in OPENING:
-        folder = os.path.join(CRATE, "proofs", function[0], function[1])
+        folder = os.path.join(CRATE, "proofs", "premises", function[0], function[1])
         os.makedirs(folder, exist_ok=True)
         with open(os.path.join(folder, "Answers.antt"), "w") as f:
             f.write(written(function))

@@ -172,15 +172,15 @@ GROUPS = [
 ]
 
 FILES = [
-    ('jh_ways', 'ways', WAYS, []),
+    ('jh_path_formulas', 'ways', WAYS, []),
     ('jh_reach', 'terms', TERMS, []),
-    ('jh_reach', 'fields', FIELDS, ['use crate::terms::{child_of, one_object};', 'use jh_ways::not_null;']),
+    ('jh_reach', 'fields', FIELDS, ['use crate::terms::{child_of, one_object};', 'use jh_path_formulas::not_null;']),
     ('jh_reach', 'nine', AXIOMS, ['use crate::lists::{each, parents, some};', 'use crate::parts::Part;',
-                        'use crate::terms::{follows_for_three, follows_for_two, for_two, one_object, way};', 'use jh_ways::{in_forest, not_null};']),
+                        'use crate::terms::{follows_for_three, follows_for_two, for_two, one_object, way};', 'use jh_path_formulas::{in_forest, not_null};']),
     ('jh_reach', 'groups', GROUPS + WHOLE, ['use crate::nine::{first_step, last_step, no_way_back, null_reaches_null, one_parent, reach_children, reach_itself, ways_join};',
                         'use crate::choices::{changed_ways, ways_compare};', 'use crate::updates::before_change;']),
     ('jh_reach', 'updates', UPDATES, ['use crate::lists::each;', 'use crate::parts::Part;', 'use crate::terms::{follows_for_two, for_two};',
-                        'use jh_ways::{in_forest, leaves_out, not_null, stops_at};']),
+                        'use jh_path_formulas::{in_forest, leaves_out, not_null, stops_at};']),
 ]
 PUBLIC = {'child_of', 'one_object', 'not_null', 'way', 'for_two', 'follows_for_two', 'follows_for_three', 'ends_at_null', 'reaches_child',
           'child_reaches', 'leads_there', 'leads_not_back', 'has_one_parent', 'share_no_child', 'reach_itself', 'reach_children', 'first_step',
@@ -460,11 +460,11 @@ def answers(crate, module, row):
 
 # what the answers of a crate's functions cite of it
 THEIRS = {
-    'jh_ways': '''use Rattle.jh_ways.specs.Ways.{listed, child, differ, way, forest, stops_at, leaves_out, list_at}
+    'jh_path_formulas': '''use Rattle.jh_path_formulas.specs.Ways.{listed, child, differ, way, forest, stops_at, leaves_out, list_at}
 ''',
     'jh_reach': '''use Rattle.jh_reach.specs.declared.parts.Part.TheVariants as p
-use Rattle.jh_make.specs.Joined.{joined}
-use Rattle.jh_ways.specs.Ways.{listed, child, differ, way, forest, stops_at, leaves_out, list_at}
+use Rattle.jh_arena.specs.makers.Joined.{joined}
+use Rattle.jh_path_formulas.specs.Ways.{listed, child, differ, way, forest, stops_at, leaves_out, list_at}
 use Rattle.jh_reach.specs.Axioms.{disjoined, end_at_null, child_reaches, leads_there, leads_not_back, has_one_parent, pairs_share_no_child, ends_at_null, reaches_child, share_no_child, changed_ways, ways_compare, reach_itself, reach_children, first_step, last_step, ways_join, null_reaches_null, no_way_back, one_parent}
 use Rattle.jh_reach.specs.Parts.{part_tree}
 use Rattle.jh_reach.specs.Standing.{AreFormulas, fields_in}
@@ -474,24 +474,24 @@ use Rattle.jh_reach.proofs.Standings.{fields-grow, along-list, along-fields, alo
 
 HEAD = '''-- Written by tools/reach.py.
 use Rattle.std.proofs.Common.{{ap, ◌∙◌, Some, slice_get, map, ◌++◌}}
-use Rattle.jh_tree.specs.Tree.{{of_object, of_field, of_truth}}
-use Rattle.jh_tree.specs.Tree as t
-use Rattle.jh_table.specs.Entries.{{the_field, the_object, the_truth}}
-use Rattle.jh_table.specs.Nodes.{{nodes, tree_in}}
-use Rattle.jh_table.specs.declared.shapes.Shape.TheVariants as s
-use Rattle.jh_table.proofs.NodeSteps.{{fits-Bound, tree-Bound, fits-Null, tree-Null, fits-ReadObject, tree-ReadObject, fits-EqObject, tree-EqObject, fits-Negation, tree-Negation, fits-And, tree-And, fits-Or, tree-Or, fits-Implies, tree-Implies, fits-Iff, tree-Iff, fits-All, tree-All, fits-Ex, tree-Ex}}
-use Rattle.jh_table.proofs.Listed.{{extends-trans}}
-use Rattle.jh_enter.proofs.Fields.{{fits-listed-Reach, tree-listed-Reach, fits-listed-Tree, tree-listed-Tree, made-as}}
-use Rattle.jh_ways.proofs.NodeSteps.{{list-there, list-of, list-grows, unlisted, holds-field, holds-object, holds-formula}}
+use Rattle.jh_form.specs.Tree.{{of_object, of_field, of_truth}}
+use Rattle.jh_form.specs.Tree as t
+use Rattle.jh_arena.specs.table.Entries.{{the_field, the_object, the_truth}}
+use Rattle.jh_arena.specs.table.Nodes.{{nodes, tree_in}}
+use Rattle.jh_arena.specs.declared.table.shapes.Shape.TheVariants as s
+use Rattle.jh_arena.proofs.table.NodeSteps.{{fits-Bound, tree-Bound, fits-Null, tree-Null, fits-ReadObject, tree-ReadObject, fits-EqObject, tree-EqObject, fits-Negation, tree-Negation, fits-And, tree-And, fits-Or, tree-Or, fits-Implies, tree-Implies, fits-Iff, tree-Iff, fits-All, tree-All, fits-Ex, tree-Ex}}
+use Rattle.jh_arena.proofs.table.Listed.{{extends-trans}}
+use Rattle.jh_import.proofs.entering.Fields.{{fits-listed-Reach, tree-listed-Reach, fits-listed-Tree, tree-listed-Tree, made-as}}
+use Rattle.jh_path_formulas.proofs.NodeSteps.{{list-there, list-of, list-grows, unlisted, holds-field, holds-object, holds-formula}}
 {theirs}use Rattle.{crate}.proofs.{module}.{name}.Goals as goal
 '''
 
 # what the clauses of a crate's functions cite
 CLAUSES = {
-    'jh_ways': '''ghost use Rattle.jh_ways.specs.Ways.{listed, child, differ, way, forest, stops_at, leaves_out, HoldsField, HoldsObject, HoldsFormula, list_at};
+    'jh_path_formulas': '''ghost use Rattle.jh_path_formulas.specs.Ways.{listed, child, differ, way, forest, stops_at, leaves_out, HoldsField, HoldsObject, HoldsFormula, list_at};
 ''',
-    'jh_reach': '''ghost use Rattle.jh_make.specs.Joined.{joined};
-ghost use Rattle.jh_ways.specs.Ways.{listed, child, differ, way, forest, stops_at, leaves_out, HoldsField, HoldsObject, HoldsFormula, list_at};
+    'jh_reach': '''ghost use Rattle.jh_arena.specs.makers.Joined.{joined};
+ghost use Rattle.jh_path_formulas.specs.Ways.{listed, child, differ, way, forest, stops_at, leaves_out, HoldsField, HoldsObject, HoldsFormula, list_at};
 ghost use Rattle.jh_reach.specs.Axioms.{disjoined, end_at_null, ends_at_null, reaches_child, child_reaches, leads_there, leads_not_back, has_one_parent, share_no_child, pairs_share_no_child, reach_itself, reach_children, first_step, last_step, ways_join, ways_on, ways_up, null_reaches_null, no_way_back, one_parent, changed_ways, first_of_list, last_of_list};
 ghost use Rattle.jh_reach.specs.Standing.{AreFields, AreFormulas, IsAlong};
 ''',
@@ -501,14 +501,14 @@ SOURCE = '''// Written by tools/reach.py.
 #![tactic(auto)]
 
 ghost use Rattle.std.specs.Prelude.{{◌≡◌, ◌++◌, List, map, IfOk, Some, slice_get}};
-ghost use Rattle.jh_tree.specs.Tree.{{TermTree, FieldTree, FormulaTree, of_object, of_field, of_truth}};
-ghost use Rattle.jh_tree.specs.Tree as t;
-ghost use Rattle.jh_table.specs.Growth.{{Extends}};
-ghost use Rattle.jh_table.specs.Nodes.{{nodes}};
-ghost use Rattle.jh_enter.specs.Entered.{{IsList}};
+ghost use Rattle.jh_form.specs.Tree.{{TermTree, FieldTree, FormulaTree, of_object, of_field, of_truth}};
+ghost use Rattle.jh_form.specs.Tree as t;
+ghost use Rattle.jh_arena.specs.table.Growth.{{Extends}};
+ghost use Rattle.jh_arena.specs.table.Nodes.{{nodes}};
+ghost use Rattle.jh_import.specs.entering.Entered.{{IsList}};
 {clauses}
 {uses}use jh_name::NoMemory;
-use jh_table::{{Shape, Table}};
+use jh_arena::table::{{Shape, Table}};
 
 '''
 

@@ -10,7 +10,7 @@ from forms import (MEANING_USES, ORDER, TREES, TYPES, VALUE, apply, core, family
 SORT = {'T': 'object', 'I': 'number', 'S': 'set', 'F': 'field', 'P': 'truth'}
 MAPPED = {'T': 'term', 'I': 'int', 'S': 'set', 'F': 'field', 'P': 'formula'}
 SHAPE = {'true_formula': 'True', 'false_formula': 'False'}
-HERE = os.path.join(os.path.dirname(os.path.abspath(__file__)), '..', 'crates', 'jh_rewrite')
+HERE = os.path.join(os.path.dirname(os.path.abspath(__file__)), '..', 'crates', 'jh_substitution')
 
 
 REWRITTEN = 'rewritten_term rewritten_int rewritten_set rewritten_field rewritten_value rewritten_formula'
@@ -153,21 +153,21 @@ HEAD = """-- A shape with the answers for its parts in their places is the rewri
 use Rattle.std.proofs.Common.{◌≡◌, refl, sym, ap, ◌∙◌, ℕ, ◌+◌, Bool, true, false, ◌&&◌, List, [], ◌∷◌, length, slice_get, slice_index, Option, Some, None, is_some, ℤ}
 use Rattle.std.proofs.lemmas.Bool.{true≢false}
 use Rattle.std.specs.Cmp.Derive.{both_true}
-use Rattle.jh_tree.specs.Tree.{ValueTree, of_object, of_number, of_truth, of_set, of_field}
-use Rattle.jh_tree.specs.Tree as t
-use Rattle.jh_tree.proofs.ClosedLemmas.{both-left, both-right}
-use Rattle.jh_rewrite.specs.Rewritten.{Rewriting, object_or, number_or, truth_or, set_or, field_or, rewritten_term, rewritten_int, rewritten_set, rewritten_field, rewritten_value, rewritten_formula, rewritten_fields}
-use Rattle.jh_table.specs.Entries.{Pools, the_list, the_mark, is_object, is_number, is_truth, is_set, is_field, the_object, the_number, the_truth, the_set, the_field, the_value, are_fields, fields_at}
-use Rattle.jh_table.specs.Growth.{Grows}
-use Rattle.jh_table.specs.Nodes.{fits, shape_tree}
-use Rattle.jh_table.specs.Parts.{own_parts, list_parts, has_list, binders, put}
-use Rattle.jh_table.specs.declared.shapes.Shape.{Shape}
-use Rattle.jh_table.specs.declared.shapes.Shape.TheVariants as s
-use Rattle.jh_rewrite.specs.Leaf.{is_leaf}
-use Rattle.jh_rewrite.specs.Walks.{IsRewritten, AllRewritten}
-use Rattle.jh_rewrite.specs.Staying.{grown}
-use Rattle.jh_rewrite.proofs.Rewritings.{rewritten-there}
-use Rattle.jh_rewrite.proofs.PartRewritings.{Remade, first-rewritten, second-rewritten, third-rewritten, object-fits, object-is, number-fits, number-is, truth-fits, truth-is, set-fits, set-is, field-fits, field-is, value-is, fields-fit, fields-are, plain}
+use Rattle.jh_form.specs.Tree.{ValueTree, of_object, of_number, of_truth, of_set, of_field}
+use Rattle.jh_form.specs.Tree as t
+use Rattle.jh_form.proofs.ClosedLemmas.{both-left, both-right}
+use Rattle.jh_substitution.specs.rewriting.Rewritten.{Rewriting, object_or, number_or, truth_or, set_or, field_or, rewritten_term, rewritten_int, rewritten_set, rewritten_field, rewritten_value, rewritten_formula, rewritten_fields}
+use Rattle.jh_arena.specs.table.Entries.{Pools, the_list, the_mark, is_object, is_number, is_truth, is_set, is_field, the_object, the_number, the_truth, the_set, the_field, the_value, are_fields, fields_at}
+use Rattle.jh_arena.specs.table.Growth.{Grows}
+use Rattle.jh_arena.specs.table.Nodes.{fits, shape_tree}
+use Rattle.jh_arena.specs.table.Parts.{own_parts, list_parts, has_list, binders, put}
+use Rattle.jh_arena.specs.declared.table.shapes.Shape.{Shape}
+use Rattle.jh_arena.specs.declared.table.shapes.Shape.TheVariants as s
+use Rattle.jh_substitution.specs.rewriting.Leaf.{is_leaf}
+use Rattle.jh_substitution.specs.rewriting.Walks.{IsRewritten, AllRewritten}
+use Rattle.jh_substitution.specs.rewriting.Staying.{grown}
+use Rattle.jh_substitution.proofs.rewriting.Rewritings.{rewritten-there}
+use Rattle.jh_substitution.proofs.rewriting.PartRewritings.{Remade, first-rewritten, second-rewritten, third-rewritten, object-fits, object-is, number-fits, number-is, truth-fits, truth-is, set-fits, set-is, field-fits, field-is, value-is, fields-fit, fields-are, plain}
 
 module _ (p q : Pools) (ts : List ValueTree) (l : Rewriting) (d : ℕ) (n : ℕ) (marks : Grows p.marks q.marks) where
 """
@@ -206,14 +206,14 @@ PARTS = """-- What the answers for the parts of a shape say.
 use Rattle.std.proofs.Common.{◌≡◌, refl, sym, ap, subst, add-zero, ◌∙◌, ℕ, ◌+◌, Bool, true, false, ◌&&◌, List, [], ◌∷◌, ◌++◌, length, slice_get, slice_index, Option, Some, None, is_some, option_map, arith, length-append}
 use Rattle.std.proofs.lemmas.Bool.{true≢false}
 use Rattle.std.specs.Cmp.Derive.{both_true}
-use Rattle.jh_tree.specs.Tree.{ValueTree, of_object, of_number, of_truth, of_set, of_field, none, more}
-use Rattle.jh_tree.proofs.ClosedLemmas.{both-left, both-right}
-use Rattle.jh_rewrite.specs.Rewritten.{Rewriting, rewritten_term, rewritten_int, rewritten_set, rewritten_field, rewritten_value, rewritten_formula, rewritten_fields}
-use Rattle.jh_table.specs.Entries.{Pools, the_list, is_object, is_number, is_truth, is_set, is_field, the_object, the_number, the_truth, the_set, the_field, the_value, are_fields, fields_at}
-use Rattle.jh_table.specs.Nodes.{fits, shape_tree}
-use Rattle.jh_table.specs.declared.shapes.Shape.{Shape}
-use Rattle.jh_rewrite.specs.Walks.{IsRewritten, AllRewritten}
-use Rattle.jh_rewrite.proofs.Rewritings.{rewritten-there}
+use Rattle.jh_form.specs.Tree.{ValueTree, of_object, of_number, of_truth, of_set, of_field, none, more}
+use Rattle.jh_form.proofs.ClosedLemmas.{both-left, both-right}
+use Rattle.jh_substitution.specs.rewriting.Rewritten.{Rewriting, rewritten_term, rewritten_int, rewritten_set, rewritten_field, rewritten_value, rewritten_formula, rewritten_fields}
+use Rattle.jh_arena.specs.table.Entries.{Pools, the_list, is_object, is_number, is_truth, is_set, is_field, the_object, the_number, the_truth, the_set, the_field, the_value, are_fields, fields_at}
+use Rattle.jh_arena.specs.table.Nodes.{fits, shape_tree}
+use Rattle.jh_arena.specs.declared.table.shapes.Shape.{Shape}
+use Rattle.jh_substitution.specs.rewriting.Walks.{IsRewritten, AllRewritten}
+use Rattle.jh_substitution.proofs.rewriting.Rewritings.{rewritten-there}
 
 -- the new shape fits, and is the old one rewritten
 pub record Remade (p q : Pools) (ts : List ValueTree) (l : Rewriting) (d : ℕ) (old new : Shape) : Type 0 where
@@ -319,16 +319,16 @@ use Rattle.std.proofs.lemmas.Option.{slice_get_within}
 use Rattle.jh_name.specs.declared.naming.Name.{Name}
 use Rattle.jh_name.specs.declared.place.Sort as place
 use Rattle.jh_name.specs.declared.place.Sort.TheVariants as Sort
-use Rattle.jh_tree.specs.Tree.{ValueTree}
-use Rattle.jh_tree.specs.Passing.{term_passes, int_passes, set_passes, field_passes, value_passes, formula_passes}
-use Rattle.jh_table.specs.Entries.{Pools, the_name}
-use Rattle.jh_table.specs.Facing.{own_passes, all_pass}
-use Rattle.jh_table.specs.Nodes.{fits, shape_tree}
-use Rattle.jh_table.specs.Parts.{parts}
-use Rattle.jh_table.specs.declared.shapes.Shape.{Shape}
-use Rattle.jh_table.specs.declared.shapes.Shape.TheVariants as s
-use Rattle.jh_table.proofs.ShapePasses.{passes-shape}
-use Rattle.jh_rewrite.specs.Leaf.{is_leaf}
+use Rattle.jh_form.specs.Tree.{ValueTree}
+use Rattle.jh_form.specs.Passing.{term_passes, int_passes, set_passes, field_passes, value_passes, formula_passes}
+use Rattle.jh_arena.specs.table.Entries.{Pools, the_name}
+use Rattle.jh_arena.specs.table.Facing.{own_passes, all_pass}
+use Rattle.jh_arena.specs.table.Nodes.{fits, shape_tree}
+use Rattle.jh_arena.specs.table.Parts.{parts}
+use Rattle.jh_arena.specs.declared.table.shapes.Shape.{Shape}
+use Rattle.jh_arena.specs.declared.table.shapes.Shape.TheVariants as s
+use Rattle.jh_arena.proofs.table.ShapePasses.{passes-shape}
+use Rattle.jh_substitution.specs.rewriting.Leaf.{is_leaf}
 
 some-name : (xs : List Name) (n : ℕ) (o : Option Name) → slice_get xs n ≡ o → is_some o ≡ true → n < length xs
 some-name xs n (Some v) e h = slice_get_within xs n v e
@@ -406,10 +406,10 @@ def rewritten_file():
     out = [f"""-- A tree with each leaf exchanged for what a map of leaves gives for it, and some whole parts for what
 -- stands for them.
 use Rattle.std.specs.Prelude.{{◌≡◌, ℕ, ◌+◌, ◌≤◌, List, length, Option, Some, None}}
-use Rattle.jh_tree.specs.Tree.{{{TREES}}}
-use Rattle.jh_tree.specs.Tree as t
-use Rattle.jh_tree.specs.Meaning.{{Interp, datum}}
-use Rattle.jh_walk.specs.Mapped.{{LeafMap}}
+use Rattle.jh_form.specs.Tree.{{{TREES}}}
+use Rattle.jh_form.specs.Tree as t
+use Rattle.jh_form.specs.Meaning.{{Interp, datum}}
+use Rattle.jh_boxed.specs.Mapped.{{LeafMap}}
 
 -- What stands for each leaf and, where there is anything, for a whole part that is no leaf, at the number
 -- of binders that were passed on the way to it. What is of another sort than the part doesn't count.
@@ -447,16 +447,16 @@ def wholes_file():
 use Rattle.std.proofs.Common.{{◌≡◌, refl, sym, ap, ◌∙◌, ℕ, ℤ, ◌+◌, true, false, List, slice_get, Option, Some, None}}
 use Rattle.std.proofs.lemmas.Bool.{{true≢false}}
 use Rattle.jh_name.specs.declared.place.Sort.TheVariants as Sort
-use Rattle.jh_tree.specs.Tree.{{{TREES}, of_object, of_number, of_truth, of_set, of_field}}
-use Rattle.jh_tree.specs.Tree as t
-use Rattle.jh_tree.specs.Sorts.{{tree_sort}}
-use Rattle.jh_walk.specs.Mapped.{{LeafMap, {', '.join('mapped_' + fn_of(c) for c in ORDER + 'L')}}}
-use Rattle.jh_table.specs.Entries.{{Pools}}
-use Rattle.jh_table.specs.Nodes.{{shape_tree}}
-use Rattle.jh_table.specs.declared.shapes.Shape.{{Shape}}
-use Rattle.jh_table.specs.declared.shapes.Shape.TheVariants as s
-use Rattle.jh_rewrite.specs.Leaf.{{is_leaf}}
-use Rattle.jh_rewrite.specs.Rewritten.{{Rewriting, leaves_alone, {OR.replace(' ', ', ')}, {', '.join(rewritten_of(c) for c in ORDER + 'L')}}}
+use Rattle.jh_form.specs.Tree.{{{TREES}, of_object, of_number, of_truth, of_set, of_field}}
+use Rattle.jh_form.specs.Tree as t
+use Rattle.jh_form.specs.Sorts.{{tree_sort}}
+use Rattle.jh_boxed.specs.Mapped.{{LeafMap, {', '.join('mapped_' + fn_of(c) for c in ORDER + 'L')}}}
+use Rattle.jh_arena.specs.table.Entries.{{Pools}}
+use Rattle.jh_arena.specs.table.Nodes.{{shape_tree}}
+use Rattle.jh_arena.specs.declared.table.shapes.Shape.{{Shape}}
+use Rattle.jh_arena.specs.declared.table.shapes.Shape.TheVariants as s
+use Rattle.jh_substitution.specs.rewriting.Leaf.{{is_leaf}}
+use Rattle.jh_substitution.specs.rewriting.Rewritten.{{Rewriting, leaves_alone, {OR.replace(' ', ', ')}, {', '.join(rewritten_of(c) for c in ORDER + 'L')}}}
 
 module _ (l : LeafMap) where
   mutual
@@ -541,12 +541,12 @@ unfolding {sort}_or {sort}_of
 -- the whole does.
 use Rattle.std.proofs.Common.{{◌≡◌, refl, ap, ◌∙◌, ℕ, suc, ◌+◌, ◌≤◌, ◌==◌, Bool, not, ◌&&◌, ◌||◌, List, [], ◌∷◌, length, ℤ, pos, ◌+ℤ◌, ◌-ℤ◌, ◌*ℤ◌, neg_ℤ, int_lt, int_le, Option, Some, None}}
 use Rattle.std.specs.Ordering.{{int_eq}}
-use Rattle.jh_tree.specs.Tree.{{{TREES}}}
-use Rattle.jh_tree.specs.Tree as t
-use Rattle.jh_tree.specs.Meaning.{{{MEANING_USES}}}
-use Rattle.jh_walk.specs.Kept.{{Keeps}}
-use Rattle.jh_walk.proofs.Meanings.{{deeper}}
-use Rattle.jh_rewrite.specs.Rewritten.{{Rewriting, KeepsWholes, {OR.replace(' ', ', ')}, {', '.join(rewritten_of(c) for c in ORDER + 'L')}}}
+use Rattle.jh_form.specs.Tree.{{{TREES}}}
+use Rattle.jh_form.specs.Tree as t
+use Rattle.jh_form.specs.Meaning.{{{MEANING_USES}}}
+use Rattle.jh_boxed.specs.Kept.{{Keeps}}
+use Rattle.jh_boxed.proofs.Meanings.{{deeper}}
+use Rattle.jh_substitution.specs.rewriting.Rewritten.{{Rewriting, KeepsWholes, {OR.replace(' ', ', ')}, {', '.join(rewritten_of(c) for c in ORDER + 'L')}}}
 
 """ + '\n'.join(helpers) + f"""
 module _ (l : Rewriting) (m n : Interp) (view : ℕ → List ℕ → List ℕ) (keeps : Keeps l.leaves m n view) (wholes : KeepsWholes l m n view) where
@@ -565,18 +565,18 @@ use Rattle.std.proofs.Common.{◌≡◌, refl, sym, ap, ◌∙◌, subst, ℕ, B
 use Rattle.std.proofs.lemmas.Bool.{true≢false}
 use Rattle.jh_name.specs.declared.naming.Name.{Name}
 use Rattle.jh_name.specs.declared.place.Sort.{Sort}
-use Rattle.jh_tree.specs.Tree.{ValueTree, of_object, of_number, of_truth, of_set, of_field}
-use Rattle.jh_tree.specs.Tree as t
-use Rattle.jh_tree.specs.Passing.{name_equal}
-use Rattle.jh_tree.proofs.Names.{name_equal-same, name_equal-true}
-use Rattle.jh_rewrite.specs.Rewritten.{leaves_alone, rewritten_value, rewritten_term, rewritten_int, rewritten_set, rewritten_field, rewritten_formula}
-use Rattle.jh_subst.specs.Substituted.{substituting}
-use Rattle.jh_tree.specs.Sorts.{tree_sort}
-use Rattle.jh_table.specs.Entries.{Pools, the_name}
-use Rattle.jh_table.specs.Nodes.{fits, shape_tree}
-use Rattle.jh_table.specs.declared.shapes.Shape.{Shape}
-use Rattle.jh_table.specs.declared.shapes.Shape.TheVariants as s
-use Rattle.jh_rewrite.specs.Leaf.{is_leaf, free_shape, free_value}
+use Rattle.jh_form.specs.Tree.{ValueTree, of_object, of_number, of_truth, of_set, of_field}
+use Rattle.jh_form.specs.Tree as t
+use Rattle.jh_form.specs.Passing.{name_equal}
+use Rattle.jh_form.proofs.Names.{name_equal-same, name_equal-true}
+use Rattle.jh_substitution.specs.rewriting.Rewritten.{leaves_alone, rewritten_value, rewritten_term, rewritten_int, rewritten_set, rewritten_field, rewritten_formula}
+use Rattle.jh_boxed_operations.specs.substitution.Substituted.{substituting}
+use Rattle.jh_form.specs.Sorts.{tree_sort}
+use Rattle.jh_arena.specs.table.Entries.{Pools, the_name}
+use Rattle.jh_arena.specs.table.Nodes.{fits, shape_tree}
+use Rattle.jh_arena.specs.declared.table.shapes.Shape.{Shape}
+use Rattle.jh_arena.specs.declared.table.shapes.Shape.TheVariants as s
+use Rattle.jh_substitution.specs.rewriting.Leaf.{is_leaf, free_shape, free_value}
 
 -- where the test passes, and where the names differ
 pub chosen : {X : Type 0} (x : Name) (a c : X) → (if name_equal x x then a else c) ≡ a
@@ -623,7 +623,7 @@ unfolding shape_tree free_shape""")
     for sort, _, _ in values:
         out.append(f"free-tree p ts n (of_{sort} a) = refl")
     text = '\n'.join(out) + '\n'
-    return text.replace('{Sort}\nuse Rattle.jh_tree.specs.Tree.{Value', '{Sort}\nuse Rattle.jh_name.specs.declared.place.Sort.TheVariants as Sort\nuse Rattle.jh_tree.specs.Tree.{Value').replace('declared.place.Sort.{Sort}', 'declared.place.Sort as place').replace('(sort : Sort)', '(sort : place.Sort)')
+    return text.replace('{Sort}\nuse Rattle.jh_form.specs.Tree.{Value', '{Sort}\nuse Rattle.jh_name.specs.declared.place.Sort.TheVariants as Sort\nuse Rattle.jh_form.specs.Tree.{Value').replace('declared.place.Sort.{Sort}', 'declared.place.Sort as place').replace('(sort : Sort)', '(sort : place.Sort)')
 
 
 def lacking():
@@ -632,15 +632,15 @@ def lacking():
     taken = {'T': 'object_or', 'I': 'number_or', 'S': 'set_or', 'F': 'field_or', 'P': 'truth_or'}
     out = [f"""-- Written by tools/rewrite.py: a tree that lacks a part stays where the part is exchanged.
 use Rattle.std.proofs.Common.{{◌≡◌, refl, ap, ◌∙◌, subst, ℕ, ◌+◌, ◌<◌, Bool, true, false, if◌then◌else◌, List, Option, Some, None, slice_get, arith}}
-use Rattle.jh_tree.specs.Tree.{{{TREES}}}
-use Rattle.jh_tree.specs.Tree as t
-use Rattle.jh_walk.specs.Parts.{{Among, first, later, IsChild, IsPart, child, within}}
-use Rattle.jh_walk.specs.Parts as part
-use Rattle.jh_compare.specs.Exchanged.{{equal_trees}}
-use Rattle.jh_compare.proofs.Equalities.{{equal_trees-true}}
-use Rattle.jh_table.specs.Growth.{{AreDifferent}}
-use Rattle.jh_rewrite.specs.Exchanging.{{new_for, exchanging}}
-use Rattle.jh_rewrite.specs.Rewritten.{{{', '.join(taken[c] for c in 'TISFP')}, {', '.join('rewritten_' + fn_of(c) for c in ORDER + 'L')}}}
+use Rattle.jh_form.specs.Tree.{{{TREES}}}
+use Rattle.jh_form.specs.Tree as t
+use Rattle.jh_boxed.specs.Parts.{{Among, first, later, IsChild, IsPart, child, within}}
+use Rattle.jh_boxed.specs.Parts as part
+use Rattle.jh_boxed_operations.specs.comparison.Exchanged.{{equal_trees}}
+use Rattle.jh_boxed_operations.proofs.comparison.Equalities.{{equal_trees-true}}
+use Rattle.jh_arena.specs.table.Growth.{{AreDifferent}}
+use Rattle.jh_substitution.specs.rewriting.Exchanging.{{new_for, exchanging}}
+use Rattle.jh_substitution.specs.rewriting.Rewritten.{{{', '.join(taken[c] for c in 'TISFP')}, {', '.join('rewritten_' + fn_of(c) for c in ORDER + 'L')}}}
 
 -- the tree is not the old one, and neither is a part of it
 pub record Lacks (old v : ValueTree) : Type 0 where
@@ -735,14 +735,14 @@ def exchanged_pairs():
     taken = {'T': 'object_or', 'I': 'number_or', 'S': 'set_or', 'F': 'field_or', 'P': 'truth_or'}
     out = [f"""-- Written by tools/rewrite.py: what an exchange answers is the tree with some occurrences exchanged.
 use Rattle.std.proofs.Common.{{◌≡◌, refl, sym, ℕ, ◌+◌, Bool, true, false, if◌then◌else◌, Option, Some, None}}
-use Rattle.jh_tree.specs.Tree.{{{TREES}}}
-use Rattle.jh_tree.specs.Tree as t
-use Rattle.jh_compare.specs.Exchanged.{{equal_trees}}
-use Rattle.jh_compare.specs.Related.{{{', '.join(relation[c] for c in ORDER + 'L')}}}
-use Rattle.jh_compare.specs.Related as r
-use Rattle.jh_compare.proofs.Equalities.{{equal_trees-true}}
-use Rattle.jh_rewrite.specs.Exchanging.{{new_for, exchanging}}
-use Rattle.jh_rewrite.specs.Rewritten.{{{', '.join(taken[c] for c in 'TISFP')}, {', '.join('rewritten_' + fn_of(c) for c in ORDER + 'L')}}}
+use Rattle.jh_form.specs.Tree.{{{TREES}}}
+use Rattle.jh_form.specs.Tree as t
+use Rattle.jh_boxed_operations.specs.comparison.Exchanged.{{equal_trees}}
+use Rattle.jh_boxed_operations.specs.comparison.Related.{{{', '.join(relation[c] for c in ORDER + 'L')}}}
+use Rattle.jh_boxed_operations.specs.comparison.Related as r
+use Rattle.jh_boxed_operations.proofs.comparison.Equalities.{{equal_trees-true}}
+use Rattle.jh_substitution.specs.rewriting.Exchanging.{{new_for, exchanging}}
+use Rattle.jh_substitution.specs.rewriting.Rewritten.{{{', '.join(taken[c] for c in 'TISFP')}, {', '.join('rewritten_' + fn_of(c) for c in ORDER + 'L')}}}
 
 module _ (old new : ValueTree) where
   abbrev pub Pair : ValueTree → ValueTree → Type 0
@@ -795,21 +795,21 @@ module _ (old new : ValueTree) where
 
 
 if __name__ == '__main__':
-    with open(os.path.join(HERE, 'proofs', 'SubstitutionRules.antt'), 'w') as out:
+    with open(os.path.join(HERE, 'proofs', 'rewriting', 'SubstitutionRules.antt'), 'w') as out:
         out.write(substitution())
-    with open(os.path.join(HERE, 'proofs', 'Passings.antt'), 'w') as out:
+    with open(os.path.join(HERE, 'proofs', 'rewriting', 'Passings.antt'), 'w') as out:
         out.write(passings())
-    with open(os.path.join(HERE, 'specs', 'Rewritten.antt'), 'w') as out:
+    with open(os.path.join(HERE, 'specs', 'rewriting', 'Rewritten.antt'), 'w') as out:
         out.write(rewritten_file())
-    with open(os.path.join(HERE, 'proofs', 'Wholes.antt'), 'w') as out:
+    with open(os.path.join(HERE, 'proofs', 'rewriting', 'Wholes.antt'), 'w') as out:
         out.write(wholes_file())
-    with open(os.path.join(HERE, 'proofs', 'Meanings.antt'), 'w') as out:
+    with open(os.path.join(HERE, 'proofs', 'rewriting', 'Meanings.antt'), 'w') as out:
         out.write(rewriting_meanings())
-    with open(os.path.join(HERE, 'proofs', 'PartRewritings.antt'), 'w') as out:
+    with open(os.path.join(HERE, 'proofs', 'rewriting', 'PartRewritings.antt'), 'w') as out:
         out.write(sort_lemmas())
-    with open(os.path.join(HERE, 'proofs', 'Remakes.antt'), 'w') as out:
+    with open(os.path.join(HERE, 'proofs', 'rewriting', 'Remakes.antt'), 'w') as out:
         out.write(remakes())
-    with open(os.path.join(HERE, 'proofs', 'Exchanged.antt'), 'w') as out:
+    with open(os.path.join(HERE, 'proofs', 'rewriting', 'Exchanged.antt'), 'w') as out:
         out.write(exchanged_pairs())
-    with open(os.path.join(HERE, 'proofs', 'Lacking.antt'), 'w') as out:
+    with open(os.path.join(HERE, 'proofs', 'rewriting', 'Lacking.antt'), 'w') as out:
         out.write(lacking())

@@ -94,14 +94,14 @@ def main():
     out = ["""-- Written by tools/sem.py. The value of the node of each shape over those of its parts, and that what is wide in a part is in the whole.
 use Rattle.std.proofs.Common.{◌≡◌, refl, sym, ap, subst, ◌∙◌, ℕ, suc, ◌==◌, Bool, true, false, not, ◌&&◌, ◌||◌, ◌∷◌, List, slice_get, slice_index, ℤ, pos, ◌+ℤ◌, ◌-ℤ◌, ◌*ℤ◌, neg_ℤ, int_lt, int_le}
 use Rattle.std.specs.Ordering.{int_eq}
-use Rattle.jh_tree.specs.Tree.{TermTree, IntTree, SetTree, FieldTree, FormulaTree, of_object, of_number, of_truth, of_set, of_field}
-use Rattle.jh_tree.specs.Meaning.{Interp, count_below, every, some, agree, divides_number, updated, reaches, is_forest, term_value, int_value, set_value, field_value, datum, truth, fields_value}
-use Rattle.jh_walk.specs.Parts as part
-use Rattle.jh_table.specs.Entries.{Listing, the_name, the_mark, the_list, the_object, the_number, the_set, the_field, the_truth, the_value, fields_at}
-use Rattle.jh_table.specs.declared.shapes.Shape.TheVariants as s
-use Rattle.jh_table.specs.Nodes.{nodes}
-use Rattle.jh_value.specs.Standing.{Stands}
-use Rattle.jh_value.proofs.ValueSteps as v
+use Rattle.jh_form.specs.Tree.{TermTree, IntTree, SetTree, FieldTree, FormulaTree, of_object, of_number, of_truth, of_set, of_field}
+use Rattle.jh_form.specs.Meaning.{Interp, count_below, every, some, agree, divides_number, updated, reaches, is_forest, term_value, int_value, set_value, field_value, datum, truth, fields_value}
+use Rattle.jh_boxed.specs.Parts as part
+use Rattle.jh_arena.specs.table.Entries.{Listing, the_name, the_mark, the_list, the_object, the_number, the_set, the_field, the_truth, the_value, fields_at}
+use Rattle.jh_arena.specs.declared.table.shapes.Shape.TheVariants as s
+use Rattle.jh_arena.specs.table.Nodes.{nodes}
+use Rattle.jh_export.specs.Standing.{Stands}
+use Rattle.jh_export.proofs.ValueSteps as v
 use Rattle.jh_sem.specs.Wide.{IsWide}
 use Rattle.jh_sem.proofs.Widening.{wide-part}
 
@@ -168,17 +168,17 @@ use Rattle.std.proofs.Common.{◌≡◌, refl, sym, ap, subst, ◌∙◌, ℕ, �
 use Rattle.std.specs.Prelude.{Option}
 use Rattle.std.proofs.lemmas.Bool.{eq-eqb, eqb-true, true≢false}
 use Rattle.jh_name.specs.declared.place.Sort.TheVariants as Sort
-use Rattle.jh_tree.specs.Tree.{ValueTree, FieldTree, of_object, of_number, of_truth, of_set, of_field}
-use Rattle.jh_tree.specs.Sorts.{tree_sort}
-use Rattle.jh_tree.specs.Meaning.{Fields, Interp, updated, term_value, int_value, set_value, field_value, datum, truth}
-use Rattle.jh_walk.specs.Parts as part
-use Rattle.jh_table.specs.Entries.{Listing, is_object, is_number, is_set, is_truth, the_object, the_number, the_set, the_field, the_truth, the_value}
-use Rattle.jh_table.specs.declared.shapes.Shape.TheVariants as s
-use Rattle.jh_table.specs.Nodes.{nodes}
-use Rattle.jh_table.proofs.PartSteps.{part-Update-c}
-use Rattle.jh_value.specs.Standing.{Stands}
-use Rattle.jh_value.proofs.ValueSteps as v
-use Rattle.jh_value.proofs.Values.{object-sort, number-sort, truth-sort, set-sort, object-whole, number-whole, truth-whole, set-whole}
+use Rattle.jh_form.specs.Tree.{ValueTree, FieldTree, of_object, of_number, of_truth, of_set, of_field}
+use Rattle.jh_form.specs.Sorts.{tree_sort}
+use Rattle.jh_form.specs.Meaning.{Fields, Interp, updated, term_value, int_value, set_value, field_value, datum, truth}
+use Rattle.jh_boxed.specs.Parts as part
+use Rattle.jh_arena.specs.table.Entries.{Listing, is_object, is_number, is_set, is_truth, the_object, the_number, the_set, the_field, the_truth, the_value}
+use Rattle.jh_arena.specs.declared.table.shapes.Shape.TheVariants as s
+use Rattle.jh_arena.specs.table.Nodes.{nodes}
+use Rattle.jh_arena.proofs.table.PartSteps.{part-Update-c}
+use Rattle.jh_export.specs.Standing.{Stands}
+use Rattle.jh_export.proofs.ValueSteps as v
+use Rattle.jh_export.proofs.Values.{object-sort, number-sort, truth-sort, set-sort, object-whole, number-whole, truth-whole, set-whole}
 use Rattle.jh_sem.specs.Wide.{IsWide}
 use Rattle.jh_sem.proofs.Below.{not-so}
 use Rattle.jh_sem.proofs.Widening.{wide-part}

@@ -17,13 +17,13 @@ def definitions():
     out = ["""-- Written by tools/several.py: several values for several names, all at once.
 use Rattle.std.specs.Prelude.{◌≡◌, ℕ, Bool, true, not, ◌&&◌, if◌then◌else◌, List, [], ◌∷◌}
 use Rattle.jh_name.specs.declared.naming.Name.{Name}
-use Rattle.jh_tree.specs.Tree.{TermTree, IntTree, SetTree, FieldTree, FormulaTree, ValueTree}
-use Rattle.jh_tree.specs.Tree as t
-use Rattle.jh_tree.specs.Assigned.{assigned}
-use Rattle.jh_tree.specs.Closed.{is_closed_value}
-use Rattle.jh_tree.specs.Meaning.{Interp, datum}
-use Rattle.jh_tree.specs.Passing.{name_equal}
-use Rattle.jh_walk.specs.Mapped.{LeafMap, unchanged}
+use Rattle.jh_form.specs.Tree.{TermTree, IntTree, SetTree, FieldTree, FormulaTree, ValueTree}
+use Rattle.jh_form.specs.Tree as t
+use Rattle.jh_form.specs.Assigned.{assigned}
+use Rattle.jh_form.specs.Closed.{is_closed_value}
+use Rattle.jh_form.specs.Meaning.{Interp, datum}
+use Rattle.jh_form.specs.Passing.{name_equal}
+use Rattle.jh_boxed.specs.Mapped.{LeafMap, unchanged}
 
 -- What a list of names, each with a value, puts for a name at each sort: the value of the first pair of that
 -- name whose value is of the sort. A name without one stays."""]
@@ -61,15 +61,15 @@ def fixes():
 use Rattle.std.proofs.Common.{◌≡◌, refl, sym, ap, ◌∙◌, ℕ, Bool, true, false, not, ◌&&◌, if◌then◌else◌, List, [], ◌∷◌}
 use Rattle.std.proofs.lemmas.Bool.{true≢false}
 use Rattle.jh_name.specs.declared.naming.Name.{Name}
-use Rattle.jh_tree.specs.Tree.{ValueTree, of_object, of_number, of_truth, of_set, of_field}
-use Rattle.jh_tree.specs.Tree as t
-use Rattle.jh_tree.specs.Passing.{name_equal}
-use Rattle.jh_tree.proofs.ClosedLemmas.{both-left, both-right}
-use Rattle.jh_tree.proofs.Names.{name_equal-same}
-use Rattle.jh_rewrite.specs.Fixing.{FixesNames}
-use Rattle.jh_rewrite.specs.Leaf.{free_value}
-use Rattle.jh_rewrite.proofs.SubstitutionRules.{other}
-use Rattle.jh_several.specs.Several.{object_in, number_in, truth_in, set_in, field_in, none_of, instead}
+use Rattle.jh_form.specs.Tree.{ValueTree, of_object, of_number, of_truth, of_set, of_field}
+use Rattle.jh_form.specs.Tree as t
+use Rattle.jh_form.specs.Passing.{name_equal}
+use Rattle.jh_form.proofs.ClosedLemmas.{both-left, both-right}
+use Rattle.jh_form.proofs.Names.{name_equal-same}
+use Rattle.jh_substitution.specs.rewriting.Fixing.{FixesNames}
+use Rattle.jh_substitution.specs.rewriting.Leaf.{free_value}
+use Rattle.jh_substitution.proofs.rewriting.SubstitutionRules.{other}
+use Rattle.jh_substitution.specs.simultaneous.Several.{object_in, number_in, truth_in, set_in, field_in, none_of, instead}
 
 skipped : {X : Type 0} (a c : X) (b : Bool) → not b ≡ true → (if b then a else c) ≡ c
 skipped a c true h = absurd (true≢false (sym h))
@@ -108,16 +108,16 @@ def meanings():
     out = ["""-- Written by tools/several.py: values for several names keep the meaning, where each name has its value's.
 use Rattle.std.proofs.Common.{◌≡◌, refl, ℕ, Bool, true, false, ◌&&◌, if◌then◌else◌, List, [], ◌∷◌, ℤ, arith}
 use Rattle.jh_name.specs.declared.naming.Name.{Name}
-use Rattle.jh_tree.specs.Tree.{TermTree, IntTree, SetTree, FieldTree, FormulaTree, ValueTree, of_object, of_number, of_truth, of_set, of_field}
-use Rattle.jh_tree.specs.Tree as t
-use Rattle.jh_tree.specs.Closed.{is_closed_value, is_closed_term, is_closed_int, is_closed_formula, is_closed_set, is_closed_field}
-use Rattle.jh_tree.specs.Meaning.{Interp, Fields, term_value, int_value, truth, set_value, field_value}
-use Rattle.jh_tree.specs.Passing.{name_equal}
-use Rattle.jh_tree.proofs.ClosedLemmas.{both-left, both-right, AgreeBelow, term_value-closed, int_value-closed, truth-closed, set_value-closed, field_value-closed}
-use Rattle.jh_walk.specs.Kept.{Keeps}
-use Rattle.jh_walk.specs.Mapped.{mapped_formula}
-use Rattle.jh_walk.proofs.Meanings.{truth-mapped}
-use Rattle.jh_several.specs.Several.{object_in, number_in, truth_in, set_in, field_in, instead, all_closed, all_assigned}
+use Rattle.jh_form.specs.Tree.{TermTree, IntTree, SetTree, FieldTree, FormulaTree, ValueTree, of_object, of_number, of_truth, of_set, of_field}
+use Rattle.jh_form.specs.Tree as t
+use Rattle.jh_form.specs.Closed.{is_closed_value, is_closed_term, is_closed_int, is_closed_formula, is_closed_set, is_closed_field}
+use Rattle.jh_form.specs.Meaning.{Interp, Fields, term_value, int_value, truth, set_value, field_value}
+use Rattle.jh_form.specs.Passing.{name_equal}
+use Rattle.jh_form.proofs.ClosedLemmas.{both-left, both-right, AgreeBelow, term_value-closed, int_value-closed, truth-closed, set_value-closed, field_value-closed}
+use Rattle.jh_boxed.specs.Kept.{Keeps}
+use Rattle.jh_boxed.specs.Mapped.{mapped_formula}
+use Rattle.jh_boxed.proofs.Meanings.{truth-mapped}
+use Rattle.jh_substitution.specs.simultaneous.Several.{object_in, number_in, truth_in, set_in, field_in, instead, all_closed, all_assigned}
 
 none-below : (e : List ℕ) → AgreeBelow 0 e []
 none-below e k h = absurd (omega arith)
@@ -162,21 +162,21 @@ def leaves():
 use Rattle.std.proofs.Common.{◌≡◌, refl, sym, ap, ◌∙◌, ℕ, ◌==◌, Bool, true, false, if◌then◌else◌, List, [], ◌∷◌, Some, slice_get}
 use Rattle.std.proofs.lemmas.Bool.{true≢false, eqb-true, eqb-false}
 use Rattle.jh_name.specs.declared.naming.Name.{Name}
-use Rattle.jh_tree.specs.Tree.{ValueTree, of_object, of_number, of_truth, of_set, of_field}
-use Rattle.jh_tree.specs.Tree as t
-use Rattle.jh_table.specs.Entries.{Listing, the_name, the_value}
-use Rattle.jh_table.specs.Growth.{AreDifferent}
-use Rattle.jh_table.specs.Nodes.{nodes, shape_tree, tree_in}
-use Rattle.jh_table.specs.declared.shapes.Shape.{Shape}
-use Rattle.jh_table.specs.declared.shapes.Shape.TheVariants as s
-use Rattle.jh_rewrite.specs.Leaf.{is_leaf, free_value}
-use Rattle.jh_rewrite.specs.Rewritten.{leaves_alone, rewritten_value, rewritten_term, rewritten_int, rewritten_set, rewritten_field, rewritten_formula}
-use Rattle.jh_rewrite.specs.Walks.{IsRewritten}
-use Rattle.jh_rewrite.proofs.Sorted.{exchanged-rewritten, value-listed}
-use Rattle.jh_several.specs.declared.pairs.Instead.{Instead}
-use Rattle.jh_several.specs.Pairs.{pairs_in, AreReady, chosen_of}
-use Rattle.jh_several.specs.Several.{object_in, number_in, truth_in, set_in, field_in, instead}
-use Rattle.jh_several.proofs.Fixes.{object-taken, object-passed, number-taken, number-passed, truth-taken, truth-passed, set-taken, set-passed, field-taken, field-passed, bound-taken}
+use Rattle.jh_form.specs.Tree.{ValueTree, of_object, of_number, of_truth, of_set, of_field}
+use Rattle.jh_form.specs.Tree as t
+use Rattle.jh_arena.specs.table.Entries.{Listing, the_name, the_value}
+use Rattle.jh_arena.specs.table.Growth.{AreDifferent}
+use Rattle.jh_arena.specs.table.Nodes.{nodes, shape_tree, tree_in}
+use Rattle.jh_arena.specs.declared.table.shapes.Shape.{Shape}
+use Rattle.jh_arena.specs.declared.table.shapes.Shape.TheVariants as s
+use Rattle.jh_substitution.specs.rewriting.Leaf.{is_leaf, free_value}
+use Rattle.jh_substitution.specs.rewriting.Rewritten.{leaves_alone, rewritten_value, rewritten_term, rewritten_int, rewritten_set, rewritten_field, rewritten_formula}
+use Rattle.jh_substitution.specs.rewriting.Walks.{IsRewritten}
+use Rattle.jh_substitution.proofs.rewriting.Sorted.{exchanged-rewritten, value-listed}
+use Rattle.jh_substitution.specs.declared.simultaneous.pairs.Instead.{Instead}
+use Rattle.jh_substitution.specs.simultaneous.Pairs.{pairs_in, AreReady, chosen_of}
+use Rattle.jh_substitution.specs.simultaneous.Several.{object_in, number_in, truth_in, set_in, field_in, instead}
+use Rattle.jh_substitution.proofs.simultaneous.Fixes.{object-taken, object-passed, number-taken, number-passed, truth-taken, truth-passed, set-taken, set-passed, field-taken, field-passed, bound-taken}
 
 module _ (u : Listing) (differ : AreDifferent (nodes u)) (n : ℕ) where
   -- the leaf of a pair is the node exactly where both are one tree
@@ -229,7 +229,7 @@ module _ (u : Listing) (differ : AreDifferent (nodes u)) (n : ℕ) where
 
 def both():
     """What passes two tests passes both at once: from the file on weaker tests."""
-    source = open(f'{TOP}/jh_table/proofs/Weaker.antt').read()
+    source = open(f'{TOP}/jh_arena/proofs/table/Weaker.antt').read()
     text = source.replace('-- What passes a test passes a weaker one.', '-- Written by tools/several.py: what passes two tests passes both at once.')
     head = text.index('module _ (p q')
     lines = text[head:].split('\n')
@@ -253,9 +253,9 @@ def both():
 
 
 if __name__ == '__main__':
-    base = f'{TOP}/jh_several'
-    open(f'{base}/specs/Several.antt', 'w').write(definitions())
-    open(f'{base}/proofs/Fixes.antt', 'w').write(fixes())
-    open(f'{base}/proofs/Meanings.antt', 'w').write(meanings())
-    open(f'{base}/proofs/Leaves.antt', 'w').write(leaves())
-    open(f'{base}/proofs/Both.antt', 'w').write(both())
+    base = f'{TOP}/jh_substitution'
+    open(f'{base}/specs/simultaneous/Several.antt', 'w').write(definitions())
+    open(f'{base}/proofs/simultaneous/Fixes.antt', 'w').write(fixes())
+    open(f'{base}/proofs/simultaneous/Meanings.antt', 'w').write(meanings())
+    open(f'{base}/proofs/simultaneous/Leaves.antt', 'w').write(leaves())
+    open(f'{base}/proofs/simultaneous/Both.antt', 'w').write(both())

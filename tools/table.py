@@ -46,8 +46,8 @@ def list_of(items):
     return ' ∷ '.join(items + ['[]'])
 
 
-USE_TREES = "use Rattle.jh_tree.specs.Tree.{TermTree, IntTree, SetTree, FieldTree, ValueTree, FormulaTree, FieldTrees, of_object, of_number, of_truth, of_set, of_field, none, more}"
-USE_SHAPES = "use Rattle.jh_table.specs.declared.shapes.Shape.{Shape}\nuse Rattle.jh_table.specs.declared.shapes.Shape.TheVariants as s"
+USE_TREES = "use Rattle.jh_form.specs.Tree.{TermTree, IntTree, SetTree, FieldTree, ValueTree, FormulaTree, FieldTrees, of_object, of_number, of_truth, of_set, of_field, none, more}"
+USE_SHAPES = "use Rattle.jh_arena.specs.declared.table.shapes.Shape.{Shape}\nuse Rattle.jh_arena.specs.declared.table.shapes.Shape.TheVariants as s"
 
 
 # ---------------------------------------------------------------- specs/Nodes.antt
@@ -78,8 +78,8 @@ def nodes_file():
     out = [f"""-- The tree of each node of a table.
 use Rattle.std.specs.Prelude.{{◌≡◌, ℕ, Bool, true, false, ◌&&◌, List, [], ◌∷◌, ◌++◌, Option, Some, None, is_some, slice_get}}
 {USE_TREES}
-use Rattle.jh_tree.specs.Tree as t
-use Rattle.jh_table.specs.Entries.{{Pools, Listing, the_name, the_mark, the_list, {', '.join(IS[c] for c in 'TISFP')}, {', '.join(THE[c] for c in 'TISFPV')}, are_fields, fields_at}}
+use Rattle.jh_form.specs.Tree as t
+use Rattle.jh_arena.specs.table.Entries.{{Pools, Listing, the_name, the_mark, the_list, {', '.join(IS[c] for c in 'TISFP')}, {', '.join(THE[c] for c in 'TISFPV')}, are_fields, fields_at}}
 {USE_SHAPES}
 
 module _ (p : Pools) (ts : List ValueTree) where
@@ -128,7 +128,7 @@ tree_in t x = shape_tree t.pools (nodes t) x
 def parts_spec():
     out = [f"""-- The parts of a shape, in order: the fields of its list first.
 use Rattle.std.specs.Prelude.{{◌≡◌, ℕ, ◌<◌, Bool, true, false, List, [], ◌∷◌, ◌++◌, length, Option, slice_get, Some, None, slice_index}}
-use Rattle.jh_table.specs.Entries.{{the_list}}
+use Rattle.jh_arena.specs.table.Entries.{{the_list}}
 {USE_SHAPES}
 
 -- the parts but those of a list
@@ -210,11 +210,11 @@ DOC = {
 def shapes_code():
     sorts = {'T': 'terms for objects', 'I': 'terms for numbers', 'S': 'terms for sets', 'F': 'fields', 'P': 'formulas'}
     rust = {'u': 'u32', 'z': 'i64'}
-    out = ["""#![tactic(auto, unfolding(crate::specs::Parts::own_parts, crate::specs::Parts::list_of, crate::specs::Parts::binders, crate::specs::Parts::put))]
+    out = ["""#![tactic(auto, unfolding(crate::specs::table::Parts::own_parts, crate::specs::table::Parts::list_of, crate::specs::table::Parts::binders, crate::specs::table::Parts::put))]
 
 ghost use Rattle.std.specs.Prelude.{◌≡◌, ◌<◌, Some, length, slice_get};
-ghost use Rattle.jh_table.specs.Parts.{own_parts, list_of, binders, put};
-ghost use Rattle.jh_table.specs.Own.{own_list};
+ghost use Rattle.jh_arena.specs.table.Parts.{own_parts, list_of, binders, put};
+ghost use Rattle.jh_arena.specs.table.Own.{own_list};
 
 use std::hash::{Hash, Hasher};
 
@@ -234,7 +234,7 @@ impl PartialEq for Shape {
     ghost use Rattle.std.specs.Ordering.{on};
     ghost use Rattle.std.specs.Cmp.Rules.{comparing};
     ghost use Rattle.std.proofs.Common.{rules};
-    ghost use Rattle.jh_table.specs.Codes.{code_of, same_code, code_laws};
+    ghost use Rattle.jh_arena.specs.table.Codes.{code_of, same_code, code_laws};
 
     ghost eq = { on code_of same_code };
 
@@ -248,13 +248,13 @@ impl PartialEq for Shape {
 impl Eq for Shape {
     ghost use Rattle.std.specs.Cmp.Rules.{comparing};
     ghost use Rattle.std.proofs.Common.{rules};
-    ghost use Rattle.jh_table.specs.Codes.{code_laws};
+    ghost use Rattle.jh_arena.specs.table.Codes.{code_laws};
 
     ghost laws = { Prim.search (comparing, code_laws, rules) };
 }
 
 impl Hash for Shape {
-    ghost use Rattle.jh_table.specs.Codes.{code_of, code_input, same_input};
+    ghost use Rattle.jh_arena.specs.table.Codes.{code_of, code_input, same_input};
 
     ghost hash_input = { λ x. code_input (code_of x) };
 
@@ -402,18 +402,18 @@ def tests_of(kinds, ns):
 
 
 COMMON = 'use Rattle.std.proofs.Common.{◌≡◌, refl, sym, ap, ◌∙◌, ℕ, zero, suc, ◌+◌, ◌<◌, ◌≤◌, ℤ, Bool, true, false, ◌&&◌, List, [], ◌∷◌, ◌++◌, length, slice_get, Some, None, is_some, arith}\nuse Rattle.std.specs.Prelude.{Option}'
-ENTRIES = f"use Rattle.jh_table.specs.Entries.{{Pools, Listing, the_name, the_mark, the_list, {', '.join(IS[c] for c in 'TISFP')}, {', '.join(THE[c] for c in 'TISFPV')}, are_fields, fields_at}}"
+ENTRIES = f"use Rattle.jh_arena.specs.table.Entries.{{Pools, Listing, the_name, the_mark, the_list, {', '.join(IS[c] for c in 'TISFP')}, {', '.join(THE[c] for c in 'TISFPV')}, are_fields, fields_at}}"
 OPEN_SORTS = f"the_name the_mark the_list {' '.join(IS[c] for c in 'TISFP')} {' '.join(THE[c] for c in 'TISFPV')}"
 
 
 def part_steps_file():
     out = [f"""-- What is known of the parts of a shape that fits.
 {COMMON}
-use Rattle.jh_tree.specs.Tree.{{ValueTree}}
-use Rattle.jh_tree.proofs.ClosedLemmas.{{both-left, both-right}}
+use Rattle.jh_form.specs.Tree.{{ValueTree}}
+use Rattle.jh_form.proofs.ClosedLemmas.{{both-left, both-right}}
 {ENTRIES}
 {USE_SHAPES}
-use Rattle.jh_table.specs.Nodes.{{fits}}
+use Rattle.jh_arena.specs.table.Nodes.{{fits}}
 
 module _ (p : Pools) (ts : List ValueTree) where"""]
     rules = []
@@ -444,13 +444,13 @@ module _ (p : Pools) (ts : List ValueTree) where"""]
 def node_steps_file():
     out = [f"""-- The tree of a shape whose parts are known, and that it fits.
 {COMMON}
-use Rattle.jh_name.specs.declared.naming.Name.{{Name}}
-use Rattle.jh_tree.specs.declared.mark.Mark.{{Mark}}
+use Rattle.jh_boxed.specs.jh_name.declared.naming.Name.{{Name}}
+use Rattle.jh_form.specs.declared.mark.Mark.{{Mark}}
 {USE_TREES}
-use Rattle.jh_tree.specs.Tree as t
+use Rattle.jh_form.specs.Tree as t
 {ENTRIES}
 {USE_SHAPES}
-use Rattle.jh_table.specs.Nodes.{{fits, shape_tree}}
+use Rattle.jh_arena.specs.table.Nodes.{{fits, shape_tree}}
 
 module _ (p : Pools) (ts : List ValueTree) where"""]
     rules = []
@@ -517,19 +517,19 @@ def stays(kind, variant, ns, n):
 def growing_file():
     out = [f"""-- A shape that fits keeps its tree, its parts and that it fits, where the table grows.
 {COMMON}
-use Rattle.jh_name.specs.declared.naming.Name.{{Name}}
-use Rattle.jh_tree.specs.declared.mark.Mark.{{Mark}}
+use Rattle.jh_boxed.specs.jh_name.declared.naming.Name.{{Name}}
+use Rattle.jh_form.specs.declared.mark.Mark.{{Mark}}
 {USE_TREES}
-use Rattle.jh_tree.specs.Tree as t
+use Rattle.jh_form.specs.Tree as t
 use Rattle.std.proofs.lemmas.Bool.{{true≢false}}
-use Rattle.jh_tree.proofs.ClosedLemmas.{{both-left, both-right}}
+use Rattle.jh_form.proofs.ClosedLemmas.{{both-left, both-right}}
 {ENTRIES}
 {USE_SHAPES}
-use Rattle.jh_table.specs.Nodes.{{fits, shape_tree}}
-use Rattle.jh_table.specs.Growth.{{Grows}}
-use Rattle.jh_table.specs.Parts.{{list_parts, own_parts, parts}}
-use Rattle.jh_table.proofs.PartSteps as step
-use Rattle.jh_table.proofs.PartSteps.{{{{steps}}}}
+use Rattle.jh_arena.specs.table.Nodes.{{fits, shape_tree}}
+use Rattle.jh_arena.specs.table.Growth.{{Grows}}
+use Rattle.jh_arena.specs.table.Parts.{{list_parts, own_parts, parts}}
+use Rattle.jh_arena.proofs.table.PartSteps as step
+use Rattle.jh_arena.proofs.table.PartSteps.{{{{steps}}}}
 
 pub some-stays : {{X : Type 0}} (old new : List X) → Grows old new → (n : ℕ) → is_some (slice_get old n) ≡ true → slice_get new n ≡ slice_get old n
 some-stays {{X}} old new g n h = by (slice_get old n) refl h
@@ -625,11 +625,11 @@ unfolding {IS[c]}
     text = '\n'.join(out)
     import re
     used = sorted(set(re.findall(r'part-[A-Za-z]+-[a-z]+', text)))
-    return text.replace('use Rattle.jh_table.proofs.PartSteps as step\n', '').replace('{{steps}}', '{' + ', '.join(used) + '}')
+    return text.replace('use Rattle.jh_arena.proofs.table.PartSteps as step\n', '').replace('{{steps}}', '{' + ', '.join(used) + '}')
 
 
 WORD = {'T': 'object', 'I': 'number', 'S': 'set', 'F': 'field', 'P': 'truth', 'V': 'value'}
-STEPS_USED = 'use Rattle.jh_table.proofs.PartSteps.{{steps}}'
+STEPS_USED = 'use Rattle.jh_arena.proofs.table.PartSteps.{{steps}}'
 
 
 def with_steps(text):
@@ -647,13 +647,13 @@ def below_file():
 {COMMON}
 use Rattle.std.proofs.lemmas.Option.{{slice_get_within}}
 use Rattle.std.proofs.lemmas.Bool.{{true≢false}}
-use Rattle.jh_tree.specs.Tree.{{ValueTree}}
-use Rattle.jh_tree.proofs.ClosedLemmas.{{both-left, both-right}}
+use Rattle.jh_form.specs.Tree.{{ValueTree}}
+use Rattle.jh_form.proofs.ClosedLemmas.{{both-left, both-right}}
 {ENTRIES}
 {USE_SHAPES}
-use Rattle.jh_table.specs.Nodes.{{fits}}
-use Rattle.jh_table.specs.Parts.{{list_parts, own_parts, parts}}
-use Rattle.jh_table.proofs.Growing.{{{', '.join(WORD[c] + '-some' for c in 'TISFP')}}}
+use Rattle.jh_arena.specs.table.Nodes.{{fits}}
+use Rattle.jh_arena.specs.table.Parts.{{list_parts, own_parts, parts}}
+use Rattle.jh_arena.proofs.table.Growing.{{{', '.join(WORD[c] + '-some' for c in 'TISFP')}}}
 {STEPS_USED}
 
 -- each number of the list is below n
@@ -722,13 +722,13 @@ def extents_file():
 {COMMON.replace('arith}', 'max, arith}')}
 use Rattle.std.proofs.lemmas.Bool.{{true≢false}}
 {USE_TREES}
-use Rattle.jh_tree.specs.Tree as t
-use Rattle.jh_tree.proofs.ClosedLemmas.{{both-left, both-right}}
-use Rattle.jh_walk.specs.Sizes.{{{sizes}, {depths}}}
+use Rattle.jh_form.specs.Tree as t
+use Rattle.jh_form.proofs.ClosedLemmas.{{both-left, both-right}}
+use Rattle.jh_boxed.specs.Sizes.{{{sizes}, {depths}}}
 {ENTRIES}
 {USE_SHAPES}
-use Rattle.jh_table.specs.Nodes.{{fits, shape_tree}}
-use Rattle.jh_table.specs.Parts.{{list_parts, own_parts, parts}}
+use Rattle.jh_arena.specs.table.Nodes.{{fits, shape_tree}}
+use Rattle.jh_arena.specs.table.Parts.{{list_parts, own_parts, parts}}
 {STEPS_USED}
 
 -- the size and the depth of the node at a place
@@ -826,15 +826,15 @@ def places_file():
     out = [f"""-- The place of a tree, from the places of its parts. So no two places hold the same tree.
 {COMMON.replace('arith}', 'subst, arith}')}
 use Rattle.std.proofs.lemmas.Bool.{{true≢false}}
-use Rattle.jh_name.specs.declared.naming.Name.{{Name}}
-use Rattle.jh_tree.specs.declared.mark.Mark.{{Mark}}
+use Rattle.jh_boxed.specs.jh_name.declared.naming.Name.{{Name}}
+use Rattle.jh_form.specs.declared.mark.Mark.{{Mark}}
 {USE_TREES}
-use Rattle.jh_tree.specs.Tree as t
-use Rattle.jh_tree.proofs.ClosedLemmas.{{both-left, both-right}}
+use Rattle.jh_form.specs.Tree as t
+use Rattle.jh_form.proofs.ClosedLemmas.{{both-left, both-right}}
 {ENTRIES}
 {USE_SHAPES}
-use Rattle.jh_table.specs.Nodes.{{fits, shape_tree}}
-use Rattle.jh_table.proofs.Growing.{{{', '.join(WORD[c] + '-some' for c in 'TISFP')}}}
+use Rattle.jh_arena.specs.table.Nodes.{{fits, shape_tree}}
+use Rattle.jh_arena.proofs.table.Growing.{{{', '.join(WORD[c] + '-some' for c in 'TISFP')}}}
 {STEPS_USED}
 
 -- where names, labels, lists and shapes stand
@@ -967,8 +967,8 @@ use Rattle.std.specs.Cmp.Rules.{{comparing}}
 use Rattle.std.specs.Hash as fed
 use Rattle.std.proofs.Common.{{ap, rules}}
 use Rattle.std.proofs.lemmas.Bool.Decides.{{Decides-eqb, Decides-int_eq}}
-use Rattle.jh_tree.proofs.ClosedLemmas.{{both-left, both-right}}
-use Rattle.jh_table.specs.declared.codes.Code.{{Code}}
+use Rattle.jh_form.proofs.ClosedLemmas.{{both-left, both-right}}
+use Rattle.jh_arena.specs.declared.table.codes.Code.{{Code}}
 {USE_SHAPES}
 
 abbrev pub code : ℕ → ℤ → ℕ → ℕ → ℕ → Code
@@ -1021,12 +1021,12 @@ same_input c d h = ap code_input (same_is c d h)""")
 
 
 def codes_code():
-    out = ["""#![tactic(auto, unfolding(crate::specs::Codes::code_of))]
+    out = ["""#![tactic(auto, unfolding(crate::specs::table::Codes::code_of))]
 
 ghost use Rattle.std.specs.Prelude.{◌≡◌, ◌++◌, fold};
-ghost use Rattle.jh_table.specs.Codes.{code, code_of, code_input, same_code, same_numbers};
+ghost use Rattle.jh_arena.specs.table.Codes.{code, code_of, code_input, same_code, same_numbers};
 
-use crate::Shape;
+use crate::table::Shape;
 use std::hash::{Hash, Hasher};
 
 /// A shape as numbers alone: which constructor it is, its constant, and its other arguments in their order. What it
@@ -1107,9 +1107,9 @@ use Rattle.std.specs.Prelude.{{if◌then◌else◌, ◌==◌}}
 use Rattle.std.specs.Ordering.{{int_eq}}
 use Rattle.std.proofs.lemmas.Bool.Decides.{{Decides-eqb, Decides-int_eq}}
 {USE_SHAPES}
-use Rattle.jh_table.specs.declared.codes.Code.{{Code}}
-use Rattle.jh_table.specs.Codes.{{code_of, same_code, same_is}}
-use Rattle.jh_table.specs.contracts.shapes.ShapePartialEq.TheImpl.{{ghosts}}
+use Rattle.jh_arena.specs.declared.table.codes.Code.{{Code}}
+use Rattle.jh_arena.specs.table.Codes.{{code_of, same_code, same_is}}
+use Rattle.jh_arena.specs.contracts.table.shapes.ShapePartialEq.TheImpl.{{ghosts}}
 
 -- the shape of a code
 unfoldable shape_in : Code → Shape"""]
@@ -1152,13 +1152,13 @@ def children_file():
 {COMMON}
 use Rattle.std.proofs.lemmas.Bool.{{true≢false}}
 {USE_TREES}
-use Rattle.jh_tree.specs.Tree as t
-use Rattle.jh_tree.proofs.ClosedLemmas.{{both-left, both-right}}
-use Rattle.jh_walk.specs.Parts.{{Among, first, later, IsChild}}
-use Rattle.jh_walk.specs.Parts as c
+use Rattle.jh_form.specs.Tree as t
+use Rattle.jh_form.proofs.ClosedLemmas.{{both-left, both-right}}
+use Rattle.jh_boxed.specs.Parts.{{Among, first, later, IsChild}}
+use Rattle.jh_boxed.specs.Parts as c
 {ENTRIES}
 {USE_SHAPES}
-use Rattle.jh_table.specs.Nodes.{{fits, shape_tree}}
+use Rattle.jh_arena.specs.table.Nodes.{{fits, shape_tree}}
 {STEPS_USED}
 
 -- each field of a list
@@ -1255,14 +1255,14 @@ def sorts_file():
     """The sort of a shape is that of its tree; the last lemma is for the default arm of Shape::sort."""
     out = ["""-- The sort of a shape is that of its tree.
 use Rattle.std.proofs.Common.{◌≡◌, refl, ap, ℕ, ℤ, List, Option, Some}
-use Rattle.jh_name.specs.declared.place.Sort.TheVariants as Sort
-use Rattle.jh_tree.specs.Tree.{ValueTree}
-use Rattle.jh_tree.specs.Sorts.{tree_sort}
-use Rattle.jh_table.specs.Entries.{Pools, the_value}
-use Rattle.jh_table.specs.Nodes.{shape_tree}
-use Rattle.jh_table.specs.declared.shapes.Shape.{Shape}
-use Rattle.jh_table.specs.declared.shapes.Shape.TheVariants as s
-use Rattle.jh_table.specs.Sorts.{shape_sort}
+use Rattle.jh_boxed.specs.jh_name.declared.place.Sort.TheVariants as Sort
+use Rattle.jh_form.specs.Tree.{ValueTree}
+use Rattle.jh_form.specs.Sorts.{tree_sort}
+use Rattle.jh_arena.specs.table.Entries.{Pools, the_value}
+use Rattle.jh_arena.specs.table.Nodes.{shape_tree}
+use Rattle.jh_arena.specs.declared.table.shapes.Shape.{Shape}
+use Rattle.jh_arena.specs.declared.table.shapes.Shape.TheVariants as s
+use Rattle.jh_arena.specs.table.Sorts.{shape_sort}
 
 pub tree-seen : (o : Option ValueTree) (v : ValueTree) → o ≡ Some v → the_value o ≡ v
 unfolding the_value
@@ -1293,25 +1293,25 @@ if __name__ == '__main__':
     root = sys.argv[1]
 
     def write(path, text):
-        path = f'{root}/crates/jh_table/{path}'
+        path = f'{root}/crates/jh_arena/{path}'
         os.makedirs(os.path.dirname(path), exist_ok=True)
         open(path, 'w').write(text)
     which = sys.argv[2:]
     files = {
-        'specs/Nodes.antt': nodes_file,
-        'specs/Parts.antt': parts_spec,
-        'src/shapes.rt': shapes_code,
-        'specs/Codes.antt': codes_spec,
-        'src/codes.rt': codes_code,
-        'proofs/PartSteps.antt': part_steps_file,
-        'proofs/NodeSteps.antt': node_steps_file,
-        'proofs/Growing.antt': growing_file,
-        'proofs/Below.antt': below_file,
-        'proofs/Extents.antt': extents_file,
-        'proofs/Places.antt': places_file,
-        'proofs/ShapeEq.antt': shape_eq_file,
-        'proofs/Children.antt': children_file,
-        'proofs/ShapeSorts.antt': sorts_file,
+        'specs/table/Nodes.antt': nodes_file,
+        'specs/table/Parts.antt': parts_spec,
+        'src/table/shapes.rt': shapes_code,
+        'specs/table/Codes.antt': codes_spec,
+        'src/table/codes.rt': codes_code,
+        'proofs/table/PartSteps.antt': part_steps_file,
+        'proofs/table/NodeSteps.antt': node_steps_file,
+        'proofs/table/Growing.antt': growing_file,
+        'proofs/table/Below.antt': below_file,
+        'proofs/table/Extents.antt': extents_file,
+        'proofs/table/Places.antt': places_file,
+        'proofs/table/ShapeEq.antt': shape_eq_file,
+        'proofs/table/Children.antt': children_file,
+        'proofs/table/ShapeSorts.antt': sorts_file,
     }
     for path, make in files.items():
         if not which or path in which:

@@ -35,17 +35,17 @@ def needs_arm(kinds):
 # ---------------------------------------------------------------- src/making.rt
 
 HEAD = """ghost use Rattle.std.specs.Prelude.{◌≡◌, ◌<◌, true, IfOk, length, slice_get};
-ghost use Rattle.jh_tree.specs.Bare.{term_tree, int_tree, set_tree, field_tree, value_tree, formula_tree, list_tree};
-ghost use Rattle.jh_table.specs.declared.shapes.Shape.TheVariants as s;
-ghost use Rattle.jh_table.specs.Entries.{is_object, is_number, is_set, is_field, is_truth, the_object, the_number, the_set, the_field, the_truth, the_value, are_fields, fields_at};
-ghost use Rattle.jh_table.specs.Nodes.{nodes};
-ghost use Rattle.jh_value.specs.Standing.{Stands, AreBelow};
+ghost use Rattle.jh_form.specs.Bare.{term_tree, int_tree, set_tree, field_tree, value_tree, formula_tree, list_tree};
+ghost use Rattle.jh_arena.specs.declared.table.shapes.Shape.TheVariants as s;
+ghost use Rattle.jh_arena.specs.table.Entries.{is_object, is_number, is_set, is_field, is_truth, the_object, the_number, the_set, the_field, the_truth, the_value, are_fields, fields_at};
+ghost use Rattle.jh_arena.specs.table.Nodes.{nodes};
+ghost use Rattle.jh_export.specs.Standing.{Stands, AreBelow};
 
 use crate::standing::{list_of, mark_of, name_of, standing};
 use jh_name::{NoMemory, Row, Sort};
-use jh_table::{Shape, Table};
-use jh_tree::{FieldTerm, Formula, IntTerm, SetTerm, Term, Value};
-use jh_walk::boxed;
+use jh_arena::table::{Shape, Table};
+use jh_form::{FieldTerm, Formula, IntTerm, SetTerm, Term, Value};
+use jh_arena::jh_boxed::boxed;
 
 // Each shape with parts has a function of its own, and formulas and values are answered in memory of
 // their own, so that a level of a deep tree takes little of the stack.
@@ -301,17 +301,17 @@ def steps():
     return f"""-- What the functions that make boxed terms and formulas cite of the shape of a node.
 use Rattle.std.proofs.Common.{{◌≡◌, refl, sym, ap, ◌∙◌, ℕ, ◌<◌, ℤ, true, [], ◌∷◌, length, slice_get, is_some}}
 use Rattle.std.proofs.lemmas.Bool.{{true≢false}}
-use Rattle.jh_tree.specs.Tree as tree
-use Rattle.jh_tree.proofs.Steps.{{{', '.join(trees)}}}
-use Rattle.jh_table.specs.Entries.{{Listing, the_name, the_mark, the_list, is_object, is_number, is_set, is_field, is_truth, the_object, the_number, the_set, the_field, the_truth, the_value, are_fields, fields_at}}
-use Rattle.jh_table.specs.declared.shapes.Shape.{{Shape}}
-use Rattle.jh_table.specs.declared.shapes.Shape.TheVariants as s
-use Rattle.jh_table.specs.Nodes.{{nodes, shape_tree}}
-use Rattle.jh_table.specs.Parts.{{list_parts, own_parts}}
-use Rattle.jh_table.proofs.Below.{{inside}}
-use Rattle.jh_table.proofs.PartSteps.{{{', '.join(sorted(set(parts)))}}}
-use Rattle.jh_value.specs.Standing.{{Stands, AreBelow}}
-use Rattle.jh_value.proofs.Places.{{fields-below, own-below, term-inside, int-inside, set-inside, field-inside, formula-inside}}
+use Rattle.jh_form.specs.Tree as tree
+use Rattle.jh_form.proofs.Steps.{{{', '.join(trees)}}}
+use Rattle.jh_arena.specs.table.Entries.{{Listing, the_name, the_mark, the_list, is_object, is_number, is_set, is_field, is_truth, the_object, the_number, the_set, the_field, the_truth, the_value, are_fields, fields_at}}
+use Rattle.jh_arena.specs.declared.table.shapes.Shape.{{Shape}}
+use Rattle.jh_arena.specs.declared.table.shapes.Shape.TheVariants as s
+use Rattle.jh_arena.specs.table.Nodes.{{nodes, shape_tree}}
+use Rattle.jh_arena.specs.table.Parts.{{list_parts, own_parts}}
+use Rattle.jh_arena.proofs.table.Below.{{inside}}
+use Rattle.jh_arena.proofs.table.PartSteps.{{{', '.join(sorted(set(parts)))}}}
+use Rattle.jh_export.specs.Standing.{{Stands, AreBelow}}
+use Rattle.jh_export.proofs.Places.{{fields-below, own-below, term-inside, int-inside, set-inside, field-inside, formula-inside}}
 
 module _ (t : Listing) (i : ℕ) where
 {chr(10).join(lemmas)}
@@ -327,10 +327,10 @@ def invariants():
     counts += [(f"make_{snake(variant)}", 1) for _, _, variant, kinds in shapes() if any(is_part(k) for k in kinds)]
     counts += [('make_fields', 0)] + [(f"{WORD[c]}_box", 3) for c in 'TISF']
     return """use Rattle.std.proofs.Common.{◌≡◌, ◌+◌, ◌*◌, drop}
-use Rattle.jh_table.specs.Entries.{fields_at}
-use Rattle.jh_table.specs.Nodes.{nodes}
-use Rattle.jh_walk.proofs.Rows.{before}
-use Rattle.jh_value.proofs.making.+made.Given as goal
+use Rattle.jh_arena.specs.table.Entries.{fields_at}
+use Rattle.jh_arena.specs.table.Nodes.{nodes}
+use Rattle.jh_arena.proofs.of_jh_boxed.Rows.{before}
+use Rattle.jh_export.proofs.making.+made.Given as goal
 
 -- a node's value, its formula or term, its shape and its list of fields are made in this order, and its
 -- parts have smaller numbers
@@ -343,11 +343,11 @@ invariant-make_fields-loop-field l = fields_at (nodes l.table) l.fields ≡ befo
 
 def answers():
     out = ["""use Rattle.std.proofs.Common.{◌≡◌, rules, arith, ◌<◌, true, slice_get, get_or}
-use Rattle.jh_table.specs.Entries.{is_field}
-use Rattle.jh_table.specs.Nodes.{nodes}
-use Rattle.jh_value.proofs.ValueSteps.{term-else, int-else, set-else, field-else, formula-else}
-use Rattle.jh_value.proofs.FieldLists.{item-is-field, item-below, fields-step, fields-end}
-use Rattle.jh_value.proofs.making.+made.Goals as goal
+use Rattle.jh_arena.specs.table.Entries.{is_field}
+use Rattle.jh_arena.specs.table.Nodes.{nodes}
+use Rattle.jh_export.proofs.ValueSteps.{term-else, int-else, set-else, field-else, formula-else}
+use Rattle.jh_export.proofs.FieldLists.{item-is-field, item-below, fields-step, fields-end}
+use Rattle.jh_export.proofs.making.+made.Goals as goal
 """]
     for code in 'TISFP':
         mine = [s for s in shapes() if s[0] == code]
@@ -381,7 +381,7 @@ if __name__ == '__main__':
     root = sys.argv[1]
 
     def write(path, text):
-        path = f'{root}/crates/jh_value/{path}'
+        path = f'{root}/crates/jh_export/{path}'
         os.makedirs(os.path.dirname(path), exist_ok=True)
         open(path, 'w').write(text)
     write('src/making.rt', code())

@@ -26,14 +26,14 @@ def extent_arm(code, variant, ctor, kinds):
 
 
 def extent():
-    out = ["""#![tactic(auto, using(jh_tree::proofs::Steps::tree_steps, crate::proofs::SizeSteps::size_steps))]
+    out = ["""#![tactic(auto, using(jh_form::proofs::Steps::tree_steps, crate::proofs::SizeSteps::size_steps))]
 
 ghost use Rattle.std.specs.Prelude.{◌≡◌, ◌-◌, ◌^◌, min};
-ghost use Rattle.jh_tree.specs.Bare.{term_tree, int_tree, set_tree, field_tree, value_tree, formula_tree, list_tree};
-ghost use Rattle.jh_walk.specs.Sizes.{term_size, int_size, set_size, field_size, value_size, formula_size, fields_size, term_depth, int_depth, set_depth, field_depth, value_depth, formula_depth, fields_depth};
+ghost use Rattle.jh_form.specs.Bare.{term_tree, int_tree, set_tree, field_tree, value_tree, formula_tree, list_tree};
+ghost use Rattle.jh_boxed.specs.Sizes.{term_size, int_size, set_size, field_size, value_size, formula_size, fields_size, term_depth, int_depth, set_depth, field_depth, value_depth, formula_depth, fields_depth};
 
 use crate::counting::{Extent, LEAF, NOTHING, beside, over};
-use jh_tree::{FieldTerm, Formula, IntTerm, SetTerm, Term, Value};
+use jh_form::{FieldTerm, Formula, IntTerm, SetTerm, Term, Value};
 """]
     for code in ORDER:
         rust, tree, fn, variants = TYPES[code]
@@ -86,11 +86,11 @@ def known_of(step, clause, size):
 def extent_answers():
     """An answer for each arm, but for those with a row of fields: those are left to the check."""
     out = ["""use Rattle.std.proofs.Common.{◌≡◌, ℕ, ◌+◌, ap, sym, ◌∙◌, min, max, arith}
-use Rattle.jh_tree.specs.Bare.{term_tree, int_tree, set_tree, field_tree, value_tree, formula_tree}
-use Rattle.jh_walk.specs.Sizes.{term_size, int_size, set_size, field_size, value_size, formula_size, term_depth, int_depth, set_depth, field_depth, value_depth, formula_depth}
-use Rattle.jh_walk.proofs.Extents.{most, leaf, sum_one, sum_two, sum_three, deep_one, deep_two, deep_three, sum_step, deep_step, sum_end, deep_end}
-use Rattle.jh_walk.proofs.Rows.{rest_size, rest_depth, end_size, end_depth}
-use Rattle.jh_walk.proofs.extent.+extent.Goals as goal
+use Rattle.jh_form.specs.Bare.{term_tree, int_tree, set_tree, field_tree, value_tree, formula_tree}
+use Rattle.jh_boxed.specs.Sizes.{term_size, int_size, set_size, field_size, value_size, formula_size, term_depth, int_depth, set_depth, field_depth, value_depth, formula_depth}
+use Rattle.jh_boxed.proofs.Extents.{most, leaf, sum_one, sum_two, sum_three, deep_one, deep_two, deep_three, sum_step, deep_step, sum_end, deep_end}
+use Rattle.jh_boxed.proofs.Rows.{rest_size, rest_depth, end_size, end_depth}
+use Rattle.jh_boxed.proofs.extent.+extent.Goals as goal
 
 pub extent_fields-loop-field-preserved : goal.extent_fields-loop-field-preserved
 extent_fields-loop-field-preserved t c = record {
@@ -157,15 +157,15 @@ def names_arm(code, variant, ctor, kinds):
 
 
 def naming():
-    out = ["""#![tactic(auto, using(jh_tree::proofs::Steps::tree_steps, jh_tree::proofs::PassSteps::pass_steps))]
+    out = ["""#![tactic(auto, using(jh_form::proofs::Steps::tree_steps, jh_form::proofs::PassSteps::pass_steps))]
 
 ghost use Rattle.std.specs.Prelude.{◌≡◌};
-ghost use Rattle.jh_tree.specs.Bare.{term_tree, int_tree, set_tree, field_tree, value_tree, formula_tree, list_tree};
-ghost use Rattle.jh_tree.specs.Passing.{term_passes, int_passes, set_passes, field_passes, value_passes, formula_passes, fields_passes};
+ghost use Rattle.jh_form.specs.Bare.{term_tree, int_tree, set_tree, field_tree, value_tree, formula_tree, list_tree};
+ghost use Rattle.jh_form.specs.Passing.{term_passes, int_passes, set_passes, field_passes, value_passes, formula_passes, fields_passes};
 
 use crate::walk::NameTest;
 use jh_name::Sort;
-use jh_tree::{FieldTerm, Formula, IntTerm, SetTerm, Term, Value};
+use jh_form::{FieldTerm, Formula, IntTerm, SetTerm, Term, Value};
 """]
     for code in ORDER:
         rust, tree, fn, variants = TYPES[code]
@@ -205,11 +205,11 @@ def passing_of(part, behind, called):
 def naming_answers():
     """An answer for each arm of up to two parts, but for those with a row of fields: the others are left to the check."""
     out = ["""use Rattle.std.proofs.Common.{sym, ap, ◌∙◌, rules}
-use Rattle.jh_tree.specs.Bare.{term_tree, int_tree, set_tree, field_tree, value_tree, formula_tree}
-use Rattle.jh_tree.specs.Passing.{term_passes, int_passes, set_passes, field_passes, value_passes, formula_passes}
-use Rattle.jh_walk.proofs.Rows.{pass_step, pass_end}
-use Rattle.jh_walk.proofs.Tests.{stop, go_on, both, fails}
-use Rattle.jh_walk.proofs.passing.+names.Goals as goal
+use Rattle.jh_form.specs.Bare.{term_tree, int_tree, set_tree, field_tree, value_tree, formula_tree}
+use Rattle.jh_form.specs.Passing.{term_passes, int_passes, set_passes, field_passes, value_passes, formula_passes}
+use Rattle.jh_boxed.proofs.Rows.{pass_step, pass_end}
+use Rattle.jh_boxed.proofs.Tests.{stop, go_on, both, fails}
+use Rattle.jh_boxed.proofs.passing.+names.Goals as goal
 
 pub names_fields-returns-then-not-names_field : goal.names_fields-returns-then-not-names_field
 names_fields-returns-then-not-names_field g t c =
@@ -283,11 +283,11 @@ MAPPED_IN = {
 def mapping_answers():
     """An answer for each arm in which a tree is made, but for a constant times a term, whose number is read and written: that is left to the check."""
     out = ["""use Rattle.std.proofs.Common.{ap, sym, ◌∙◌}
-use Rattle.jh_tree.specs.Bare.{term_tree, int_tree, set_tree, field_tree, value_tree, formula_tree}
-use Rattle.jh_tree.specs.Tree as tree
-use Rattle.jh_walk.specs.Mapped.{mapped_term, mapped_int, mapped_set, mapped_field, mapped_value, mapped_formula}
-use Rattle.jh_walk.proofs.Rows.{map_step, map_end}
-use Rattle.jh_walk.proofs.mapping.+map.Goals as goal
+use Rattle.jh_form.specs.Bare.{term_tree, int_tree, set_tree, field_tree, value_tree, formula_tree}
+use Rattle.jh_form.specs.Tree as tree
+use Rattle.jh_boxed.specs.Mapped.{mapped_term, mapped_int, mapped_set, mapped_field, mapped_value, mapped_formula}
+use Rattle.jh_boxed.proofs.Rows.{map_step, map_end}
+use Rattle.jh_boxed.proofs.mapping.+map.Goals as goal
 
 pub map_fields-loop-field-preserved : goal.map_fields-loop-field-preserved
 map_fields-loop-field-preserved g t c =
@@ -341,8 +341,8 @@ unfolding {fn}_tree mapped_{fn}
 
 if __name__ == '__main__':
     root = sys.argv[1]
-    open(f'{root}/crates/jh_walk/src/extent.rt', 'w').write(extent())
-    open(f'{root}/crates/jh_walk/src/passing.rt', 'w').write(naming())
-    open(f'{root}/crates/jh_walk/proofs/extent/+extent/Answers.antt', 'w').write(extent_answers())
-    open(f'{root}/crates/jh_walk/proofs/passing/+names/Answers.antt', 'w').write(naming_answers())
-    open(f'{root}/crates/jh_walk/proofs/mapping/+map/Answers.antt', 'w').write(mapping_answers())
+    open(f'{root}/crates/jh_boxed/src/extent.rt', 'w').write(extent())
+    open(f'{root}/crates/jh_boxed/src/passing.rt', 'w').write(naming())
+    open(f'{root}/crates/jh_boxed/proofs/extent/+extent/Answers.antt', 'w').write(extent_answers())
+    open(f'{root}/crates/jh_boxed/proofs/passing/+names/Answers.antt', 'w').write(naming_answers())
+    open(f'{root}/crates/jh_boxed/proofs/mapping/+map/Answers.antt', 'w').write(mapping_answers())

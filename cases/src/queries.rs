@@ -5,7 +5,7 @@
 //! `equal`, `within`, `is`, `less`, `divides 2` a number, `not`, `and`, `or`, `implies`, `iff`.
 
 use crate::row;
-use jh_query::{Cond, Num, Query, SetExpr};
+use jh_query::queries::{Cond, Num, Query, SetExpr};
 use rattle_std::alloc::Global;
 use rattle_std::boxed::Box;
 use std::str::{FromStr, SplitWhitespace};

@@ -6,7 +6,7 @@ use cases::row;
 use cases::words::{formula, named, sequent, Words};
 use jh_deriv::{replay, Base, DerivStep, Derivation, Replayed};
 use jh_name::Kind;
-use jh_sequent::{Hyp, Sequent};
+use jh_seq::sequent::{Hyp, Sequent};
 use rattle_std::alloc::Global;
 use std::time::Instant;
 

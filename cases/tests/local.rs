@@ -12,8 +12,8 @@ mod leaves;
 use cases::files::{blocks, check, Case};
 use jh_ast::Program;
 use jh_name::MethodId;
-use jh_prove::local_form_of_sequent;
-use jh_sequents::Sequents;
+use jh_prove::prover::local_form_of_sequent;
+use jh_splitting::Sequents;
 use rattle_std::alloc::Global;
 
 /// The name of a method, with that of its class.
@@ -26,16 +26,16 @@ fn method_name(program: &Program, id: MethodId) -> String {
 /// What the lines that are wanted of a source say as it comes out. A line is `CLASS.METHOD K: ` with the figures of
 /// that sequent, or `CLASS.METHOD K by N: ` with what is said of a search with a budget of N branches.
 fn answers(case: &Case) -> String {
-    let tokens = jh_lex::tokens(Global, case.given.as_bytes()).expect("tokens");
-    let program = jh_parse::program(Global, &tokens).expect("a program");
-    let typed = jh_type::check(Global, program)
+    let tokens = jh_lex::lexer::tokens(Global, case.given.as_bytes()).expect("tokens");
+    let program = jh_parse::programs::program(Global, &tokens).expect("a program");
+    let typed = jh_type::checker::check(Global, program)
         .ok()
         .expect("a typed program");
-    let unfolded = jh_unfold::unfold(Global, typed)
+    let unfolded = jh_unfolding::unfolder::unfold(Global, typed)
         .ok()
         .expect("an acyclic program");
     let mut parts = unfolded.into_parts(Global).expect("memory");
-    let all = jh_obligations::obligations(Global, &parts.typed, &mut parts.table, &parts.formulas);
+    let all = jh_obligations::program_sequents::obligations(Global, &parts.typed, &mut parts.table, &parts.formulas);
     let all = all.ok().expect("sequents");
     let mut made = String::new();
     for line in case.wanted.lines() {

@@ -15,9 +15,9 @@ mod tokens;
 mod trees;
 
 use cases::source::{program, Refusal};
-use jh_lex::LexError;
+use jh_lex::lexer::LexError;
 use jh_name::Place;
-use jh_spec::ParseError;
+use jh_spec::parser::ParseError;
 
 /// The number of the fault for which a source is refused, and its place; none where it is read.
 fn fault(source: &[u8]) -> Option<(u8, Place)> {

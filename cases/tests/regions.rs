@@ -12,7 +12,7 @@ mod random;
 
 use brute::{decided, try_sizes};
 use cases::queries::{cond_text, query_of};
-use jh_query::{size, Query};
+use jh_query::queries::{size, Query};
 use random::{random_query, Draws};
 
 /// The greatest size of a query that is decided.

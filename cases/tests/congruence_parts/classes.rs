@@ -5,10 +5,10 @@ use crate::plain::{
 };
 use cases::files::Case;
 use cases::words::{leaf, made, operation};
-use jh_cong::{Classes, CongError, Said};
-use jh_make::free_object;
+use jh_cong::classes::{Classes, CongError, Said};
+use jh_arena::makers::free_object;
 use jh_name::name;
-use jh_table::{Own, Shape, Table};
+use jh_arena::table::{Own, Shape, Table};
 use rattle_std::alloc::Global;
 use std::time::Instant;
 

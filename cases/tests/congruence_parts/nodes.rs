@@ -3,8 +3,8 @@
 use crate::plain::{number, pairs, parts_of, sorted, Labels, Random, Tally, Term};
 use cases::files::Case;
 use cases::row;
-use jh_closure::{are_parts_inside, Closure, Node};
-use jh_cong::Said;
+use jh_closure::congruence_closure::{are_parts_inside, Closure, Node};
+use jh_cong::classes::Said;
 use rattle_std::alloc::Global;
 use std::time::Instant;
 

@@ -1,6 +1,6 @@
 //! Formulas as text, those parts of them of which axioms are made.
 
-use jh_tree::{FieldTerm, Formula, Term};
+use jh_form::{FieldTerm, Formula, Term};
 
 /// The names of bound variables, from the outermost binder on.
 const VARIABLES: [&str; 4] = ["x", "y", "z", "w"];

@@ -1,7 +1,7 @@
 //! Universes of up to four objects with three fields and two names of objects, and the truth of formulas in them: a
 //! plain evaluator, which follows paths by marking objects.
 
-use jh_tree::{FieldTerm, Formula, Term};
+use jh_form::{FieldTerm, Formula, Term};
 
 /// What the names are in a universe of the objects 0 to `last`. A field or an object is named by its turn.
 pub struct World {

@@ -2,12 +2,12 @@
 
 use crate::checker::Checker;
 use crate::figures::{Instances, ROUNDS};
-use jh_enter::enter_formula;
+use jh_import::entering::enter_formula;
 use jh_local::{search_instances, Closed, LocalCause, Searched};
-use jh_localized::LocalForm;
-use jh_structure::Literal;
-use jh_table::Table;
-use jh_trail::{opposite, Decided};
+use jh_local_form::local_sequents::LocalForm;
+use jh_closure::structures::Literal;
+use jh_arena::table::Table;
+use jh_propagation::trail::{opposite, Decided};
 
 /// A closed branch over the nodes of a table: its decisions, and why it is closed.
 struct Leaf {

@@ -5,10 +5,10 @@ use crate::listing::is_tried;
 use crate::random::Random;
 use crate::running::{said_by_runs, Said};
 use crate::sources::Case;
-use jh_options::Options;
-use jh_prove::is_unproved;
-use jh_proving::{prove, Answer, BapaCause};
-use jh_sequent::Sequent;
+use jh_name::options::Options;
+use jh_prove::prover::is_unproved;
+use jh_boxed_calls::sequents::{prove, Answer, BapaCause};
+use jh_seq::sequent::Sequent;
 use rattle_std::alloc::Global;
 use std::fmt;
 

@@ -6,8 +6,8 @@ use crate::running::{said_by_runs, Said};
 use crate::sources::Case;
 use cases::text::kind_word;
 use jh_name::Place;
-use jh_sequent::Sequent;
-use jh_tree::MarkKind;
+use jh_seq::sequent::Sequent;
+use jh_form::MarkKind;
 use std::fmt;
 
 /// How many methods were tried, how many sequents they have, and what came of them.

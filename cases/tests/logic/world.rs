@@ -5,8 +5,8 @@ use crate::random::Random;
 use cases::text;
 use cases::row;
 use cases::values::name;
-use jh_interp::FieldValue::{self, Bool, Int, Obj, Set};
-use jh_interp::Interp;
+use jh_boxed_calls::interpretations::FieldValue::{self, Bool, Int, Obj, Set};
+use jh_boxed_calls::interpretations::Interp;
 use jh_name::{Name, Row};
 use std::fmt::Write;
 

@@ -4,16 +4,16 @@
 use cases::text::name_text;
 use cases::row;
 use cases::values::name;
-use jh_asserting::bare_mark;
-use jh_calls::{push_call, Called, Surroundings};
-use jh_changes::SortedName;
-use jh_command::Command;
-use jh_lowered::{AnyCode, CallCode, Claim, Local, MethodCode, NumberCode, Target};
-use jh_make::{free_number, labelled, truth};
+use jh_command_statements::checks::bare_mark;
+use jh_call_commands::calls::{push_call, Called, Surroundings};
+use jh_state_facts::changes::SortedName;
+use jh_command_terms::command::Command;
+use jh_semantics::typed_code::{AnyCode, CallCode, Claim, Local, MethodCode, NumberCode, Target};
+use jh_arena::makers::{free_number, labelled, truth};
 use jh_name::{Place, Sort, Text};
 use jh_rules::Ty;
-use jh_table::{Shape, Table};
-use jh_tree::{Mark, MarkKind};
+use jh_arena::table::{Shape, Table};
+use jh_form::{Mark, MarkKind};
 use rattle_std::alloc::Global;
 use rattle_std::prelude as rattle;
 

@@ -6,10 +6,10 @@
 use cases::source::program;
 use cases::with_large_stack;
 use jh_ast::Program;
-use jh_modified::modified;
-use jh_type::check;
-use jh_unfold::unfold;
-use jh_written::{written, MethodPlaces};
+use jh_effects::modified_state::modified;
+use jh_type::checker::check;
+use jh_unfolding::unfolder::unfold;
+use jh_effects::written_state::{written, MethodPlaces};
 use rattle_std::alloc::Global;
 use std::time::Instant;
 

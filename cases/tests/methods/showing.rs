@@ -3,20 +3,20 @@
 use cases::source::{unfolded, Refusal};
 use cases::text::{joined, kind_word, name_text, node_text};
 use jh_ast::Program;
-use jh_conditions::{count, split, wp};
-use jh_guarded::{Command, MethodCommand};
-use jh_methods::{method_name, of_method};
-use jh_modified::modified;
+use jh_boxed_commands::conditions::{count, split, wp};
+use jh_boxed_commands::commands::{Command, MethodCommand};
+use jh_boxed_commands::methods::{method_name, of_method};
+use jh_effects::modified_state::modified;
 use jh_name::MethodId;
-use jh_obligations::{obligations, LogicError};
-use jh_sequents::{NodeHyp, Sequents};
-use jh_spec::ParseError;
-use jh_state::state_list;
-use jh_table::Table;
-use jh_tree::{Formula, Mark};
-use jh_type::TypeError;
-use jh_unfold::{Unfolded, VarsError};
-use jh_written::{written, MethodPlaces};
+use jh_obligations::program_sequents::{obligations, LogicError};
+use jh_splitting::{NodeHyp, Sequents};
+use jh_spec::parser::ParseError;
+use jh_vars::state_names::state_list;
+use jh_arena::table::Table;
+use jh_form::{Formula, Mark};
+use jh_type::checker::TypeError;
+use jh_unfolding::unfolder::{Unfolded, VarsError};
+use jh_effects::written_state::{written, MethodPlaces};
 use rattle_std::alloc::Global;
 
 /// What is written of a source, or why it is refused.

@@ -2,7 +2,7 @@
 //! and how long it takes.
 
 use crate::fault;
-use jh_lex::tokens;
+use jh_lex::lexer::tokens;
 use rattle_std::alloc::Global;
 use std::time::Instant;
 

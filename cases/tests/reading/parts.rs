@@ -3,7 +3,7 @@
 
 use jh_ast::{Labelled, Spec, SpecBody, SpecOp, SpecTree, SpecVar, Stmt, StmtBody, VarDef, Word};
 use jh_name::Kind;
-use jh_spec::{SpecItem, SpecPart};
+use jh_spec::parser::{SpecItem, SpecPart};
 
 fn sign(operator: SpecOp) -> &'static str {
     match operator {

@@ -1,6 +1,6 @@
 //! The tokens of sources, or their faults, and some tokens of whole programs.
 
-use jh_lex::{tokens, Token, TokenKind};
+use jh_lex::lexer::{tokens, Token, TokenKind};
 use rattle_std::alloc::Global;
 
 /// Sources, each with its tokens and their places, and two blanks between them.

@@ -1,9 +1,9 @@
 //! What is decided of a query, and sizes that are tried on it.
 
 use cases::row;
-use jh_bapa::{decide, is_well_formed, Decided};
+use jh_bapa::decision::{decide, is_well_formed, Decided};
 use jh_name::Row;
-use jh_query::{fits, is_true, Query, Sizes, Spot, Whole};
+use jh_query::queries::{fits, is_true, Query, Sizes, Spot, Whole};
 use rattle_std::alloc::Global;
 
 use crate::random::Draws;

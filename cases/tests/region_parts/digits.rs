@@ -2,7 +2,7 @@
 //! with how long it takes.
 
 use cases::row;
-use jh_digits::{holds, nodes, solve, Digits, Solved, System};
+use jh_digits::solver::{holds, nodes, solve, Digits, Solved, System};
 use rattle_std::alloc::Global;
 use std::time::Instant;
 

@@ -2,7 +2,7 @@
 
 use crate::brute::decided;
 use cases::queries::query_of;
-use jh_query::size;
+use jh_query::queries::size;
 use std::time::Instant;
 
 /// A small query of an ordinary program: an element is pushed on a counted list.

@@ -1,7 +1,7 @@
 //! Random queries.
 
 use cases::row;
-use jh_query::{Cond, Num, Query, SetExpr};
+use jh_query::queries::{Cond, Num, Query, SetExpr};
 use rattle_std::alloc::Global;
 use rattle_std::boxed::Box;
 

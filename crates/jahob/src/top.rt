@@ -10,8 +10,8 @@ ghost use Rattle.jh_words.specs.CommandLine.{Gen, Run, Verify, gen, job_of, run,
 ghost use Rattle.jh_words.specs.Usage.{IsRefusal};
 
 use jh_files::{Files, Sink, put_all};
-use jh_obligations::{owed_is_one, owed_is_sound, too_many_is_exact};
-use jh_prove::{provable_is_proved, proved_is_valid};
+use jh_reply::jh_obligations::program_sequents::{owed_is_one, owed_is_sound, too_many_is_exact};
+use jh_reply::jh_prove::prover::{provable_is_proved, proved_is_valid};
 use jh_reply::{Reply, run_file, spelled_source_is_accepted, sum_source, verify_file};
 use jh_words::{Job, WordsError, read};
 use std::alloc::Global;

@@ -1,12 +1,12 @@
 -- The nodes of the formulas of a program, as they come from unfolding and as outlines take them.
 use Rattle.std.proofs.Common.{◌≡◌, ◌<◌, refl, ◌∙◌, ℕ, List, Option, None, Some, length, slice_get}
 use Rattle.jh_ast.specs.Programs.{ProgramTree}
-use Rattle.jh_table.specs.Entries.{Listing}
-use Rattle.jh_table.specs.Nodes.{nodes}
+use Rattle.jh_arena.specs.table.Entries.{Listing}
+use Rattle.jh_arena.specs.table.Nodes.{nodes}
 use Rattle.jh_rules.specs.Names.{◌then◌}
 use Rattle.jh_vars.specs.Opened.{opened}
-use Rattle.jh_asserting.specs.Told.{AreFormulas, node_of, told_at}
-use Rattle.jh_unfold.specs.Noted.{node_at}
+use Rattle.jh_boxed_commands.specs.jh_command_statements.checks.Told.{AreFormulas, node_of, told_at}
+use Rattle.jh_boxed_calls.specs.jh_unfolding.unfolder.Noted.{node_at}
 
 told-then : (t : Listing) (o : Option ℕ) → told_at t o ≡ (o then slice_get (nodes t))
 told-then t None = refl

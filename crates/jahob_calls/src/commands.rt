@@ -1,10 +1,10 @@
 //! Calls over boxed commands.
 
 use crate::Called;
-use jh_conditions::{count, split, wp};
-use jh_guarded::Command;
+use jh_boxed_commands::commands::Command;
+use jh_boxed_commands::conditions::{count, split, wp};
+use jh_form::Formula;
 use jh_name::MethodId;
-use jh_tree::Formula;
 use std::alloc::Global;
 
 const FIRST: MethodId = MethodId {

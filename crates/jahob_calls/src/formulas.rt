@@ -1,11 +1,11 @@
 //! Calls over boxed formulas.
-#![tactic(auto, using(jh_tree::proofs::Steps::tree_steps), unfolding(jh_tree::specs::Closed::is_closed_value, jh_tree::specs::Closed::is_closed_term))]
+#![tactic(auto, using(jh_form::proofs::Steps::tree_steps), unfolding(jh_form::specs::Closed::is_closed_value, jh_form::specs::Closed::is_closed_term))]
 
 use crate::Called;
-use jh_form::{copy, open, subst};
+use jh_boxed_calls::formulas::{copy, open, subst};
+use jh_form::{Formula, Term, Value};
 use jh_name::name;
 use jh_reach::axioms;
-use jh_tree::{Formula, Term, Value};
 use std::alloc::Global;
 
 fn answers_subst(alloc: Global) -> bool {

@@ -3,9 +3,9 @@
 ghost use Rattle.std.specs.Prelude.{◌≡◌, true};
 
 use crate::Called;
-use jh_interp::{Interp, member, number, object, truth};
+use jh_boxed_calls::interpretations::{Interp, member, number, object, truth};
+use jh_form::{Formula, IntTerm, SetTerm, Term};
 use jh_name::Row;
-use jh_tree::{Formula, IntTerm, SetTerm, Term};
 use std::alloc::Global;
 
 /// The interpretation whose one object is null and which names nothing.

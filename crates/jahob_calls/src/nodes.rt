@@ -1,14 +1,14 @@
 //! Calls over formulas as nodes.
-#![tactic(auto, using(jh_table::proofs::Listed::growth_steps), unfolding(jh_table::specs::Entries::is_truth, jh_table::specs::Entries::is_set, jh_table::specs::Entries::is_object, jh_table::specs::Entries::the_value, jh_table::specs::Entries::the_object, jh_tree::specs::Closed::is_closed_value, jh_tree::specs::Closed::is_closed_term))]
+#![tactic(auto, using(jh_arena::proofs::table::Listed::growth_steps), unfolding(jh_arena::specs::table::Entries::is_truth, jh_arena::specs::table::Entries::is_set, jh_arena::specs::table::Entries::is_object, jh_arena::specs::table::Entries::the_value, jh_arena::specs::table::Entries::the_object, jh_form::specs::Closed::is_closed_value, jh_form::specs::Closed::is_closed_term))]
 
 use crate::Called;
-use jh_entries::{InstanceError, count, entries};
-use jh_form::{
+use jh_boxed_calls::formulas::{
     Formulas, Table, all_objects, falsehood, implication_of, null, open_several, same_but_labels,
     set_difference, subst_several, truth,
 };
+use jh_boxed_calls::jh_instantiation::instances::{InstanceError, count, entries};
+use jh_form::{Term, Value};
 use jh_name::{NoMemory, name};
-use jh_tree::{Term, Value};
 use std::alloc::Global;
 
 fn entered(alloc: Global) -> Result<(), NoMemory> {

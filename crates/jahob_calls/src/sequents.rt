@@ -1,11 +1,11 @@
 //! Calls over boxed sequents.
 
 use crate::Called;
+use jh_boxed_calls::sequents::{bapa_of, prove};
+use jh_form::{Formula, Mark, MarkKind};
+use jh_name::options::Options;
 use jh_name::{MethodId, Place, Row};
-use jh_options::Options;
-use jh_proving::{bapa_of, prove};
-use jh_sequent::Sequent;
-use jh_tree::{Formula, Mark, MarkKind};
+use jh_seq::sequent::Sequent;
 use std::alloc::Global;
 
 /// A sequent without hypotheses whose goal is false.

@@ -1,24 +1,24 @@
 //! Calls over sources.
 
 ghost use Rattle.std.specs.Prelude.{IfOk};
-ghost use Rattle.jh_asserting.specs.Told.{AreFormulas};
+ghost use Rattle.jh_boxed_commands.specs.jh_command_statements.checks.Told.{AreFormulas};
 ghost use Rattle.jh_ast.specs.Bare.{program_tree};
-ghost use Rattle.jh_sound.specs.Laws.{IsAccepted};
+ghost use Rattle.jh_boxed_commands.specs.jh_logic.source.Laws.{IsAccepted};
 ghost use Rattle.jh_vars.specs.Reading.{IsAcyclic};
 ghost use Rattle.jahob_calls.specs.Lexed.{IsLexed};
 
 use crate::Called;
-use jh_lex::{LexError, Token, TokenKind, places_rise, shape_of_tokens, tokens};
-use jh_methods::{method_name, of_method};
+use jh_boxed_calls::jh_effects::written_state::written;
+use jh_boxed_calls::jh_unfolding::unfolder::{Parts, Unfolded, unfold};
+use jh_boxed_calls::state_lists::{modified_names, written_names};
+use jh_boxed_commands::jh_logic::text::spelled_is_accepted;
+use jh_boxed_commands::methods::{method_name, of_method};
+use jh_lex::lexer::{LexError, Token, TokenKind, places_rise, shape_of_tokens, tokens};
 use jh_name::{MethodId, NoMemory};
-use jh_parse::program;
-use jh_selected::{modified_names, written_names};
-use jh_spec::{formula, spec};
-use jh_spelled::spelled_is_accepted;
-use jh_state::state_list;
-use jh_type::{Typed, check};
-use jh_unfold::{Parts, Unfolded, unfold};
-use jh_written::written;
+use jh_parse::programs::program;
+use jh_spec::parser::{formula, spec};
+use jh_type::checker::{Typed, check};
+use jh_vars::state_names::state_list;
 use std::alloc::Global;
 
 /// A source with one method, whose contract is its one specification.

@@ -1,6 +1,8 @@
-//! What stands for a sequent where it is decided by regions.
+//! The query of a sequent, as definitions.
 #![tactic(auto)]
 
-mod laws;
+pub mod definition;
+pub mod free_name_tests;
 
-pub use laws::{linked_is_least, queries_are_well_formed, refuted_is_false, true_query_is_valid};
+pub use jh_derivation_rules::jh_reach;
+pub use jh_normal_forms;

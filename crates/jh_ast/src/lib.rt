@@ -4,6 +4,8 @@
 //! says which tree a value is.
 #![tactic(auto)]
 
+pub use jh_name;
+
 mod expr;
 mod program;
 mod spec;

@@ -1,7 +1,4 @@
-pub mod Nodes
-pub mod Tables
-pub mod Uses
-pub mod Closing
-pub mod Cores
-pub mod Levels
-pub mod Explaining
+pub mod congruence_closure
+pub mod structures
+pub mod union_find
+pub mod use_lists

@@ -1,4 +1,2 @@
-pub mod Saying
-pub mod Equatable
-pub mod Constants
-pub mod States
+pub mod classes
+pub mod flattening

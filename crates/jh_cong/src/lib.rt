@@ -1,15 +1,5 @@
-//! Congruence closure over the nodes of a table: equations and inequations are asserted, a conflict comes exactly where no
-//! structure meets them, and what follows is told and explained.
+//! Congruence closure over the terms of a table.
 #![tactic(auto)]
 
-mod apart;
-mod clashing;
-mod classes;
-mod following;
-mod literal;
-mod sorts;
-mod state;
-mod telling;
-
-pub use classes::Classes;
-pub use literal::{CongError, Said};
+pub mod classes;
+pub mod flattening;

@@ -2,14 +2,14 @@
 use Rattle.std.proofs.Common.{◌≡◌, refl, sym, ap, ◌∙◌, subst, ℕ, ◌+◌, ◌<◌, ◌≤◌, true, List, [], ◌∷◌, ◌++◌, take, length, slice_get, get_or, Some, add-one}
 use Rattle.std.proofs.lemmas.List.{take_all}
 use Rattle.std.proofs.lemmas.Option.{slice_get_read}
-use Rattle.jh_tree.specs.declared.form.FieldTerm.{FieldTerm}
-use Rattle.jh_tree.specs.Bare.{field_tree, list_tree}
-use Rattle.jh_tree.specs.Tree.{FieldTree, of_field, of_truth}
-use Rattle.jh_tree.specs.Tree as t
-use Rattle.jh_compare.specs.Unmarked.{unmarked_field, unmarked_fields}
-use Rattle.jh_table.specs.Entries.{Listing, are_fields, fields_at}
-use Rattle.jh_table.specs.Growth.{Extends}
-use Rattle.jh_table.specs.Nodes.{nodes}
+use Rattle.jh_form.specs.declared.form.FieldTerm.{FieldTerm}
+use Rattle.jh_form.specs.Bare.{field_tree, list_tree}
+use Rattle.jh_form.specs.Tree.{FieldTree, of_field, of_truth}
+use Rattle.jh_form.specs.Tree as t
+use Rattle.jh_boxed_operations.specs.comparison.Unmarked.{unmarked_field, unmarked_fields}
+use Rattle.jh_arena.specs.table.Entries.{Listing, are_fields, fields_at}
+use Rattle.jh_arena.specs.table.Growth.{Extends}
+use Rattle.jh_arena.specs.table.Nodes.{nodes}
 use Rattle.jh_reach.specs.Axioms.{listed}
 use Rattle.jh_reach.specs.Standing.{AreFields}
 use Rattle.jh_reach.proofs.Standings.{fields-grow, fields-are, fields-at, map-more}

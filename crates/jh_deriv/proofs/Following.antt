@@ -5,27 +5,27 @@ use Rattle.std.proofs.lemmas.Bool.{true≢false}
 use Rattle.std.proofs.lemmas.List.{append-nil, drop_more, drop_all}
 use Rattle.std.proofs.lemmas.Option.{slice_get-get_or}
 use Rattle.jh_name.specs.declared.naming.Name.{Name}
-use Rattle.jh_tree.specs.Tree.{ValueTree, FormulaTree, of_truth}
-use Rattle.jh_tree.specs.Passing.{value_passes, formula_passes, name_equal}
-use Rattle.jh_table.specs.Entries.{the_truth, the_value}
-use Rattle.jh_table.specs.Growth.{Grows}
-use Rattle.jh_tree.specs.Tree as t
-use Rattle.jh_tree.specs.Bare.{formula_tree}
-use Rattle.jh_compare.specs.Unmarked.{unmarked_formula}
-use Rattle.jh_sequent.specs.Sequents.{hyp_tree, sequent_tree}
-use Rattle.jh_sequent.specs.declared.sequent.Hyp.{Hyp}
-use Rattle.jh_sequent.specs.declared.sequent.Sequent.{Sequent}
-use Rattle.jh_steps.specs.declared.step.DerivStep.{DerivStep}
-use Rattle.jh_steps.specs.Steps.{StepTree, step_tree, bare_step}
-use Rattle.jh_steps.specs.Rules.{IsFresh}
-use Rattle.jh_steps.specs.Closes.{after, Runs, FailsAt, facts_of}
-use Rattle.jh_premises.specs.declared.nodes.Nodes.TheVariants as n
-use Rattle.jh_premises.specs.declared.nodes.Adds.TheVariants as a
-use Rattle.jh_premises.specs.Nodes.{formula_at, value_at, formulas_at, branches_at, IsFormula, AreFormulas}
-use Rattle.jh_premises.specs.Nodes as p
-use Rattle.jh_branches.specs.declared.branches.Waiting.{Waiting}
-use Rattle.jh_branches.specs.Placed.{ArePlaced}
-use Rattle.jh_branches.specs.Waits.{waits}
+use Rattle.jh_form.specs.Tree.{ValueTree, FormulaTree, of_truth}
+use Rattle.jh_form.specs.Passing.{value_passes, formula_passes, name_equal}
+use Rattle.jh_arena.specs.table.Entries.{the_truth, the_value}
+use Rattle.jh_arena.specs.table.Growth.{Grows}
+use Rattle.jh_form.specs.Tree as t
+use Rattle.jh_form.specs.Bare.{formula_tree}
+use Rattle.jh_boxed_operations.specs.comparison.Unmarked.{unmarked_formula}
+use Rattle.jh_seq.specs.sequent.Sequents.{hyp_tree, sequent_tree}
+use Rattle.jh_seq.specs.declared.sequent.sequent.Hyp.{Hyp}
+use Rattle.jh_seq.specs.declared.sequent.sequent.Sequent.{Sequent}
+use Rattle.jh_derivation_rules.specs.declared.step.DerivStep.{DerivStep}
+use Rattle.jh_derivation_rules.specs.Steps.{StepTree, step_tree, bare_step}
+use Rattle.jh_derivation_rules.specs.Rules.{IsFresh}
+use Rattle.jh_derivation_rules.specs.Closes.{after, Runs, FailsAt, facts_of}
+use Rattle.jh_derivation_steps.specs.declared.premises.nodes.Nodes.TheVariants as n
+use Rattle.jh_derivation_steps.specs.declared.premises.nodes.Adds.TheVariants as a
+use Rattle.jh_derivation_steps.specs.premises.Nodes.{formula_at, value_at, formulas_at, branches_at, IsFormula, AreFormulas}
+use Rattle.jh_derivation_steps.specs.premises.Nodes as p
+use Rattle.jh_open_branches.specs.declared.branches.Waiting.{Waiting}
+use Rattle.jh_open_branches.specs.Placed.{ArePlaced}
+use Rattle.jh_open_branches.specs.Waits.{waits}
 use Rattle.jh_deriv.specs.Replays.{facts_at, AllFormulas, waiting_at, open_at, AreBranches, Turns, IsStuck, Gains, Comes, bare_facts, bare_steps}
 use Rattle.jh_deriv.proofs.Opens.{facts-append, facts-stay, all-append, open-after}
 use Rattle.jh_deriv.proofs.Turning.{branches-after}

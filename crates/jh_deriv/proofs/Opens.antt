@@ -2,18 +2,18 @@
 use Rattle.std.proofs.Common.{◌≡◌, refl, sym, ap, subst, ◌∙◌, ℕ, ◌+◌, ◌≤◌, arith, List, [], ◌∷◌, ◌++◌, append_assoc, length, take, drop, slice_get, Some}
 use Rattle.std.proofs.Math.Seq.{take-length}
 use Rattle.std.proofs.lemmas.List.{append-nil, take-append-drop, take-append-le, length-take-le}
-use Rattle.jh_tree.specs.Tree.{ValueTree, of_truth}
-use Rattle.jh_table.specs.Entries.{the_truth}
-use Rattle.jh_table.specs.Growth.{Grows}
-use Rattle.jh_steps.specs.Closes.{after}
-use Rattle.jh_premises.specs.declared.nodes.Nodes.{Nodes}
-use Rattle.jh_premises.specs.declared.nodes.Nodes.TheVariants as n
-use Rattle.jh_premises.specs.declared.nodes.Adds.{Adds}
-use Rattle.jh_premises.specs.declared.nodes.Adds.TheVariants as a
-use Rattle.jh_premises.specs.Nodes.{formula_at, formulas_at, branches_at, IsFormula, AreFormulas, AreBranches}
-use Rattle.jh_branches.specs.declared.branches.Waiting.{Waiting}
-use Rattle.jh_branches.specs.Placed.{numbers}
-use Rattle.jh_branches.specs.Waits.{waits, waits_with, kept_by}
+use Rattle.jh_form.specs.Tree.{ValueTree, of_truth}
+use Rattle.jh_arena.specs.table.Entries.{the_truth}
+use Rattle.jh_arena.specs.table.Growth.{Grows}
+use Rattle.jh_derivation_rules.specs.Closes.{after}
+use Rattle.jh_derivation_steps.specs.declared.premises.nodes.Nodes.{Nodes}
+use Rattle.jh_derivation_steps.specs.declared.premises.nodes.Nodes.TheVariants as n
+use Rattle.jh_derivation_steps.specs.declared.premises.nodes.Adds.{Adds}
+use Rattle.jh_derivation_steps.specs.declared.premises.nodes.Adds.TheVariants as a
+use Rattle.jh_derivation_steps.specs.premises.Nodes.{formula_at, formulas_at, branches_at, IsFormula, AreFormulas, AreBranches}
+use Rattle.jh_open_branches.specs.declared.branches.Waiting.{Waiting}
+use Rattle.jh_open_branches.specs.Placed.{numbers}
+use Rattle.jh_open_branches.specs.Waits.{waits, waits_with, kept_by}
 use Rattle.jh_deriv.specs.Replays.{facts_at, AllFormulas, waiting_at, open_at, AreWaiting, Below, Rises}
 
 pub facts-append : (ts : List ValueTree) (xs ys : List ℕ) → facts_at ts (xs ++ ys) ≡ facts_at ts xs ++ facts_at ts ys

@@ -1,15 +1,15 @@
 -- Steps whose operands were entered.
 use Rattle.std.proofs.Common.{◌≡◌, refl, sym, ap, ◌∙◌, ℕ, List, slice_get, Some, None, Ok, Err}
 use Rattle.std.specs.Prelude.{Result, IfOk}
-use Rattle.jh_compare.specs.Unmarked.{unmarked_term, unmarked_field, unmarked_value, unmarked_formula}
+use Rattle.jh_boxed_operations.specs.comparison.Unmarked.{unmarked_term, unmarked_field, unmarked_value, unmarked_formula}
 use Rattle.jh_name.specs.declared.naming.Name.{Name}
 use Rattle.jh_name.specs.declared.place.Kind.{Kind}
-use Rattle.jh_tree.specs.Tree.{ValueTree, TermTree, FieldTree, FieldTrees, FormulaTree, of_object, of_truth, of_field}
-use Rattle.jh_tree.specs.Tree as t
-use Rattle.jh_table.specs.Entries.{the_truth, the_object, the_field, the_value}
-use Rattle.jh_steps.specs.Steps as s
-use Rattle.jh_premises.specs.declared.nodes.NodeStep.TheVariants as d
-use Rattle.jh_premises.specs.Nodes.{step_at, AreOperands, name_of, forest_fields, changed_field, changed_at, changed_value, IsFormula, IsTerm, IsField, IsForest, IsUpdate, IsValue, IsName}
+use Rattle.jh_form.specs.Tree.{ValueTree, TermTree, FieldTree, FieldTrees, FormulaTree, of_object, of_truth, of_field}
+use Rattle.jh_form.specs.Tree as t
+use Rattle.jh_arena.specs.table.Entries.{the_truth, the_object, the_field, the_value}
+use Rattle.jh_derivation_rules.specs.Steps as s
+use Rattle.jh_derivation_steps.specs.declared.premises.nodes.NodeStep.TheVariants as d
+use Rattle.jh_derivation_steps.specs.premises.Nodes.{step_at, AreOperands, name_of, forest_fields, changed_field, changed_at, changed_value, IsFormula, IsTerm, IsField, IsForest, IsUpdate, IsValue, IsName}
 use Rattle.jh_deriv.specs.Replays.{Enters}
 
 it-is-formula : (ts : List ValueTree) (n : ℕ) (x : FormulaTree) → slice_get ts n ≡ Some (of_truth x) → IsFormula ts n

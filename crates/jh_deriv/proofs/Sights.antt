@@ -1,17 +1,17 @@
 -- What is refuted at sight, at nodes.
 use Rattle.std.proofs.Common.{◌≡◌, refl, sym, ap, subst, ◌∙◌, ◌↔◌, ℕ, ℤ, true, false, ◌&&◌, IsTrue, nat_eq, List, slice_get, Option, Some}
 use Rattle.std.proofs.lemmas.Bool.{true≢false, eqb-true, eq-eqb}
-use Rattle.jh_tree.specs.Tree.{ValueTree, IntTree, FormulaTree, of_object, of_number, of_truth, of_set}
-use Rattle.jh_tree.specs.Tree as t
-use Rattle.jh_table.specs.Entries.{Pools, Listing, is_number, the_object, the_number, the_truth, the_set}
-use Rattle.jh_table.specs.Growth.{AreDifferent}
-use Rattle.jh_table.specs.Nodes.{nodes, fits_in, tree_in, shape_tree}
-use Rattle.jh_table.specs.declared.shapes.Shape.{Shape}
-use Rattle.jh_table.specs.declared.shapes.Shape.TheVariants as s
-use Rattle.jh_table.proofs.Children.{it-is-object, it-is-number, it-is-truth, it-is-set}
-use Rattle.jh_table.proofs.PartSteps.{part-EqObject-a, part-EqObject-b, part-EqNumber-a, part-EqNumber-b, part-Iff-a, part-Iff-b, part-EqSet-a, part-EqSet-b}
-use Rattle.jh_steps.specs.Rules.{IsRefuted}
-use Rattle.jh_premises.specs.Nodes.{formula_at, number_at, IsNumber}
+use Rattle.jh_form.specs.Tree.{ValueTree, IntTree, FormulaTree, of_object, of_number, of_truth, of_set}
+use Rattle.jh_form.specs.Tree as t
+use Rattle.jh_arena.specs.table.Entries.{Pools, Listing, is_number, the_object, the_number, the_truth, the_set}
+use Rattle.jh_arena.specs.table.Growth.{AreDifferent}
+use Rattle.jh_arena.specs.table.Nodes.{nodes, fits_in, tree_in, shape_tree}
+use Rattle.jh_arena.specs.declared.table.shapes.Shape.{Shape}
+use Rattle.jh_arena.specs.declared.table.shapes.Shape.TheVariants as s
+use Rattle.jh_arena.proofs.table.Children.{it-is-object, it-is-number, it-is-truth, it-is-set}
+use Rattle.jh_arena.proofs.table.PartSteps.{part-EqObject-a, part-EqObject-b, part-EqNumber-a, part-EqNumber-b, part-Iff-a, part-Iff-b, part-EqSet-a, part-EqSet-b}
+use Rattle.jh_derivation_rules.specs.Rules.{IsRefuted}
+use Rattle.jh_derivation_steps.specs.premises.Nodes.{formula_at, number_at, IsNumber}
 use Rattle.jh_deriv.specs.Replays.{IsItself, AreApart, is_const}
 
 -- Two nodes of one sort are one exactly where what stands at them is.

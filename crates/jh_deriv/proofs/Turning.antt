@@ -3,27 +3,27 @@ use Rattle.std.proofs.Common.{◌≡◌, refl, sym, ap, subst, ◌∙◌, ℕ, z
 use Rattle.std.specs.Prelude.{Result}
 use Rattle.std.proofs.lemmas.List.{length-take-le}
 use Rattle.jh_name.specs.declared.memory.NoMemory.{NoMemory}
-use Rattle.jh_tree.specs.Tree.{ValueTree, FormulaTree, of_truth}
-use Rattle.jh_table.specs.Growth.{Grows, AreDifferent}
+use Rattle.jh_form.specs.Tree.{ValueTree, FormulaTree, of_truth}
+use Rattle.jh_arena.specs.table.Growth.{Grows, AreDifferent}
 use Rattle.jh_name.specs.declared.naming.Name.{Name}
-use Rattle.jh_tree.specs.declared.form.Formula.{Formula}
-use Rattle.jh_steps.specs.declared.step.DerivStep.{DerivStep}
-use Rattle.jh_steps.specs.declared.step.DerivStep.TheVariants as d
-use Rattle.jh_steps.specs.Steps.{StepTree, step_tree, bare_step}
-use Rattle.jh_steps.specs.Steps as s
-use Rattle.jh_steps.specs.Rules.{Rule, rule_of, is_closed_step, Has, HasAll, Suits}
-use Rattle.jh_steps.specs.Closes.{after}
-use Rattle.jh_premises.specs.declared.nodes.Nodes.{Nodes}
-use Rattle.jh_premises.specs.declared.nodes.Nodes.TheVariants as n
-use Rattle.jh_premises.specs.declared.nodes.Adds.{Adds}
-use Rattle.jh_premises.specs.declared.nodes.NodeRule.{NodeRule}
-use Rattle.jh_premises.specs.declared.nodes.NodeStep.{NodeStep}
-use Rattle.jh_premises.specs.declared.nodes.NodeStep.TheVariants as e
-use Rattle.jh_premises.specs.Nodes.{formula_at, formulas_at, branches_at, rule_at, option_rule, step_at, Gives, IsFormula, AreFormulas}
-use Rattle.jh_premises.specs.Nodes as p
-use Rattle.jh_branches.specs.declared.branches.Waiting.{Waiting}
-use Rattle.jh_branches.specs.Placed.{ArePlaced, Stands, StandAll, numbers}
-use Rattle.jh_branches.specs.Waits.{waits, kept_by, Follows}
+use Rattle.jh_form.specs.declared.form.Formula.{Formula}
+use Rattle.jh_derivation_rules.specs.declared.step.DerivStep.{DerivStep}
+use Rattle.jh_derivation_rules.specs.declared.step.DerivStep.TheVariants as d
+use Rattle.jh_derivation_rules.specs.Steps.{StepTree, step_tree, bare_step}
+use Rattle.jh_derivation_rules.specs.Steps as s
+use Rattle.jh_derivation_rules.specs.Rules.{Rule, rule_of, is_closed_step, Has, HasAll, Suits}
+use Rattle.jh_derivation_rules.specs.Closes.{after}
+use Rattle.jh_derivation_steps.specs.declared.premises.nodes.Nodes.{Nodes}
+use Rattle.jh_derivation_steps.specs.declared.premises.nodes.Nodes.TheVariants as n
+use Rattle.jh_derivation_steps.specs.declared.premises.nodes.Adds.{Adds}
+use Rattle.jh_derivation_steps.specs.declared.premises.nodes.NodeRule.{NodeRule}
+use Rattle.jh_derivation_steps.specs.declared.premises.nodes.NodeStep.{NodeStep}
+use Rattle.jh_derivation_steps.specs.declared.premises.nodes.NodeStep.TheVariants as e
+use Rattle.jh_derivation_steps.specs.premises.Nodes.{formula_at, formulas_at, branches_at, rule_at, option_rule, step_at, Gives, IsFormula, AreFormulas}
+use Rattle.jh_derivation_steps.specs.premises.Nodes as p
+use Rattle.jh_open_branches.specs.declared.branches.Waiting.{Waiting}
+use Rattle.jh_open_branches.specs.Placed.{ArePlaced, Stands, StandAll, numbers}
+use Rattle.jh_open_branches.specs.Waits.{waits, kept_by, Follows}
 use Rattle.jh_deriv.specs.Replays.{SuitsAlone, SuitsFacts, Finds, facts_at, AllFormulas, open_at, AreBranches, Turns, IsStuck}
 use Rattle.jh_deriv.proofs.Opens.{all-append, all-take, all-numbers, open-after, open-last, open-kept, below-more, below-append, below-last, below-after, rises-last, rises-append, rises-after, facts-stay, open-stays, waiting-stay, waiting-append, waiting-last, waiting-after}
 

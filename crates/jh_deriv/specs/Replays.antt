@@ -1,25 +1,25 @@
 -- Branches that are open, over nodes, and what a turn of the replay does.
 use Rattle.std.specs.Prelude.{◌≡◌, ◌≤◌, ℕ, Bool, true, false, List, [], ◌∷◌, ◌++◌, map, Option, Some, None, Result, Ok, Err, length}
 use Rattle.jh_name.specs.declared.memory.NoMemory.{NoMemory}
-use Rattle.jh_tree.specs.declared.form.FieldTerm.{FieldTerm}
-use Rattle.jh_tree.specs.Tree.{FieldTree, ValueTree, IntTree, FormulaTree}
-use Rattle.jh_tree.specs.Bare.{field_tree}
-use Rattle.jh_sequent.specs.Sequents.{HypTree, hyp_tree}
-use Rattle.jh_sequent.specs.declared.sequent.Hyp.{Hyp}
-use Rattle.jh_steps.specs.Steps.{StepTree, step_tree, bare_step}
-use Rattle.jh_steps.specs.declared.step.DerivStep.{DerivStep}
-use Rattle.jh_tree.specs.Tree as t
-use Rattle.jh_steps.specs.Steps as s
-use Rattle.jh_steps.specs.Rules.{Rule, rule_of, is_closed_step, IsRefuted, IsFresh, Meets}
-use Rattle.jh_compare.specs.Exchanged.{Exchanged}
-use Rattle.jh_compare.specs.Unmarked.{unmarked_field, unmarked_formula}
-use Rattle.jh_steps.specs.Closes.{after, Runs, FailsAt}
-use Rattle.jh_premises.specs.declared.nodes.NodeRule.{NodeRule}
-use Rattle.jh_premises.specs.declared.nodes.NodeStep.{NodeStep}
-use Rattle.jh_branches.specs.declared.branches.Waiting.{Waiting}
-use Rattle.jh_branches.specs.Placed.{ArePlaced}
-use Rattle.jh_branches.specs.Waits.{kept_by}
-use Rattle.jh_premises.specs.Nodes.{formula_at, rule_at, IsFormula, AreFormulas, IsRule, step_at, AreOperands}
+use Rattle.jh_form.specs.declared.form.FieldTerm.{FieldTerm}
+use Rattle.jh_form.specs.Tree.{FieldTree, ValueTree, IntTree, FormulaTree}
+use Rattle.jh_form.specs.Bare.{field_tree}
+use Rattle.jh_seq.specs.sequent.Sequents.{HypTree, hyp_tree}
+use Rattle.jh_seq.specs.declared.sequent.sequent.Hyp.{Hyp}
+use Rattle.jh_derivation_rules.specs.Steps.{StepTree, step_tree, bare_step}
+use Rattle.jh_derivation_rules.specs.declared.step.DerivStep.{DerivStep}
+use Rattle.jh_form.specs.Tree as t
+use Rattle.jh_derivation_rules.specs.Steps as s
+use Rattle.jh_derivation_rules.specs.Rules.{Rule, rule_of, is_closed_step, IsRefuted, IsFresh, Meets}
+use Rattle.jh_boxed_operations.specs.comparison.Exchanged.{Exchanged}
+use Rattle.jh_boxed_operations.specs.comparison.Unmarked.{unmarked_field, unmarked_formula}
+use Rattle.jh_derivation_rules.specs.Closes.{after, Runs, FailsAt}
+use Rattle.jh_derivation_steps.specs.declared.premises.nodes.NodeRule.{NodeRule}
+use Rattle.jh_derivation_steps.specs.declared.premises.nodes.NodeStep.{NodeStep}
+use Rattle.jh_open_branches.specs.declared.branches.Waiting.{Waiting}
+use Rattle.jh_open_branches.specs.Placed.{ArePlaced}
+use Rattle.jh_open_branches.specs.Waits.{kept_by}
+use Rattle.jh_derivation_steps.specs.premises.Nodes.{formula_at, rule_at, IsFormula, AreFormulas, IsRule, step_at, AreOperands}
 
 -- both sides of the equation are one
 abbrev pub IsItself : FormulaTree → Type 0

@@ -1,25 +1,25 @@
-#![tactic(auto, using(jh_table::proofs::Listed::growth_steps, crate::proofs::Operands::entered_steps))]
+#![tactic(auto, using(jh_arena::proofs::table::Listed::growth_steps, crate::proofs::Operands::entered_steps))]
 
 ghost use Rattle.std.specs.Prelude.{◌≡◌, IfOk, Some, slice_get};
-ghost use Rattle.jh_tree.specs.Tree.{FieldTrees, of_object, of_truth, of_field};
-ghost use Rattle.jh_tree.specs.Tree as t;
-ghost use Rattle.jh_tree.specs.Bare.{term_tree, field_tree, value_tree, formula_tree, list_tree};
-ghost use Rattle.jh_compare.specs.Unmarked.{unmarked_term, unmarked_field, unmarked_fields, unmarked_value, unmarked_formula};
-ghost use Rattle.jh_table.specs.Growth.{Extends};
-ghost use Rattle.jh_table.specs.Nodes.{nodes};
+ghost use Rattle.jh_form.specs.Tree.{FieldTrees, of_object, of_truth, of_field};
+ghost use Rattle.jh_form.specs.Tree as t;
+ghost use Rattle.jh_form.specs.Bare.{term_tree, field_tree, value_tree, formula_tree, list_tree};
+ghost use Rattle.jh_boxed_operations.specs.comparison.Unmarked.{unmarked_term, unmarked_field, unmarked_fields, unmarked_value, unmarked_formula};
+ghost use Rattle.jh_arena.specs.table.Growth.{Extends};
+ghost use Rattle.jh_arena.specs.table.Nodes.{nodes};
 ghost use Rattle.jh_reach.specs.Standing.{AreFields};
-ghost use Rattle.jh_steps.specs.Steps.{base_tree, option_base, step_tree, bare_base, bare_step};
-ghost use Rattle.jh_steps.specs.Steps as s;
+ghost use Rattle.jh_derivation_rules.specs.Steps.{base_tree, option_base, step_tree, bare_base, bare_step};
+ghost use Rattle.jh_derivation_rules.specs.Steps as s;
 ghost use Rattle.jh_deriv.specs.Replays.{Enters, bare_list};
 
-use jh_enter::{enter, enter_field, enter_formula, enter_term};
-use jh_make::{forest, free_object, negation};
+use jh_arena::makers::{forest, free_object, negation};
+use jh_arena::table::{Shape, Table};
+use jh_derivation_rules::{Base, DerivStep};
+use jh_derivation_steps::premises::NodeStep;
+use jh_form::{FieldTerm, Formula, Term, Value};
+use jh_import::entering::{enter, enter_field, enter_formula, enter_term};
 use jh_name::{Kind, Name, NoMemory};
-use jh_normal::unlabelled;
-use jh_premises::NodeStep;
-use jh_steps::{Base, DerivStep};
-use jh_table::{Shape, Table};
-use jh_tree::{FieldTerm, Formula, Term, Value};
+use jh_normal_forms::negation_normal_form::unlabelled;
 
 /// The node of a formula without labels.
 pub fn bare_formula(table: &mut Table, formula: &Formula) -> Result<usize, NoMemory>
@@ -200,7 +200,7 @@ fn axiom(
 }
 
 /// The step over nodes: its operands entered without labels.
-#[tactic(auto, using(jh_table::proofs::Listed::growth_steps, crate::proofs::Operands::entered_steps), unfolding(jh_steps::specs::Steps::bare_step, jh_steps::specs::Steps::step_tree))]
+#[tactic(auto, using(jh_arena::proofs::table::Listed::growth_steps, crate::proofs::Operands::entered_steps), unfolding(jh_derivation_rules::specs::Steps::bare_step, jh_derivation_rules::specs::Steps::step_tree))]
 pub fn entered(table: &mut Table, step: &DerivStep) -> Result<NodeStep, NoMemory>
     ensures step { Enters (nodes table.new) (bare_step (step_tree step.now)) result }
     ensures grows { Extends table.old table.new }

@@ -1,28 +1,28 @@
-#![tactic(auto, using(jh_table::proofs::Listed::growth_steps))]
+#![tactic(auto, using(jh_arena::proofs::table::Listed::growth_steps))]
 
 ghost use Rattle.std.specs.Prelude.{◌≡◌, ◌++◌, ℕ, Ok, None, Some, true, false, OnOk, [], ◌∷◌};
-ghost use Rattle.jh_tree.specs.Bare.{formula_tree};
-ghost use Rattle.jh_tree.specs.Tree as t;
-ghost use Rattle.jh_compare.specs.Unmarked.{unmarked_formula};
-ghost use Rattle.jh_table.specs.Growth.{Extends};
-ghost use Rattle.jh_table.specs.Nodes.{nodes};
-ghost use Rattle.jh_sequent.specs.Sequents.{sequent_tree};
-ghost use Rattle.jh_steps.specs.Steps.{step_tree, bare_step, steps_of};
-ghost use Rattle.jh_steps.specs.Rules.{HasAll};
-ghost use Rattle.jh_steps.specs.Closes.{ClosesSequent, FailsSequent, after, facts_of};
-ghost use Rattle.jh_premises.specs.Nodes.{formulas_at, branches_at, IsRule};
-ghost use Rattle.jh_branches.specs.Placed.{ArePlaced, noted};
+ghost use Rattle.jh_form.specs.Bare.{formula_tree};
+ghost use Rattle.jh_form.specs.Tree as t;
+ghost use Rattle.jh_boxed_operations.specs.comparison.Unmarked.{unmarked_formula};
+ghost use Rattle.jh_arena.specs.table.Growth.{Extends};
+ghost use Rattle.jh_arena.specs.table.Nodes.{nodes};
+ghost use Rattle.jh_seq.specs.sequent.Sequents.{sequent_tree};
+ghost use Rattle.jh_derivation_rules.specs.Steps.{step_tree, bare_step, steps_of};
+ghost use Rattle.jh_derivation_rules.specs.Rules.{HasAll};
+ghost use Rattle.jh_derivation_rules.specs.Closes.{ClosesSequent, FailsSequent, after, facts_of};
+ghost use Rattle.jh_derivation_steps.specs.premises.Nodes.{formulas_at, branches_at, IsRule};
+ghost use Rattle.jh_open_branches.specs.Placed.{ArePlaced, noted};
 ghost use Rattle.jh_deriv.specs.Replays.{AllFormulas, AreBranches, Comes, Gains, IsStuck, SuitsFacts, Turns, bare_facts, bare_steps, facts_at, open_at};
 
 use crate::entering::{bare_formula, negated_goal};
 use crate::suiting::{found, suits_facts};
-use jh_branches::{Branches, FactList};
+use jh_arena::table::Table;
+use jh_derivation_rules::{DerivStep, Derivation, closing_is_exact};
+use jh_derivation_steps::premises::{Adds, NodeRule, Nodes};
+use jh_form::Formula;
 use jh_name::NoMemory;
-use jh_premises::{Adds, NodeRule, Nodes};
-use jh_sequent::{Hyp, Sequent};
-use jh_steps::{DerivStep, Derivation, closing_is_exact};
-use jh_table::Table;
-use jh_tree::Formula;
+use jh_open_branches::{Branches, FactList};
+use jh_seq::sequent::{Hyp, Sequent};
 use std::alloc::Global;
 
 /// What comes of a replay.

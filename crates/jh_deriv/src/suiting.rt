@@ -1,26 +1,26 @@
-#![tactic(auto, using(jh_table::proofs::Listed::growth_steps))]
+#![tactic(auto, using(jh_arena::proofs::table::Listed::growth_steps))]
 
 ghost use Rattle.std.specs.Prelude.{◌≡◌, ◌↔◌, ◌&&◌, not, IsTrue, IfOk};
-ghost use Rattle.jh_tree.specs.Bare.{formula_tree};
-ghost use Rattle.jh_tree.specs.Passing.{value_passes, name_equal};
-ghost use Rattle.jh_table.specs.Growth.{Extends};
-ghost use Rattle.jh_table.specs.Nodes.{nodes};
-ghost use Rattle.jh_steps.specs.Rules.{IsRefuted, IsFresh};
-ghost use Rattle.jh_compare.specs.Exchanged.{Exchanged};
-ghost use Rattle.jh_steps.specs.Steps.{step_tree, bare_step};
-ghost use Rattle.jh_premises.specs.Nodes.{formula_at, number_at, value_at, step_at, AreOperands, IsFormula, IsNumber, IsValue};
+ghost use Rattle.jh_form.specs.Bare.{formula_tree};
+ghost use Rattle.jh_form.specs.Passing.{value_passes, name_equal};
+ghost use Rattle.jh_arena.specs.table.Growth.{Extends};
+ghost use Rattle.jh_arena.specs.table.Nodes.{nodes};
+ghost use Rattle.jh_derivation_rules.specs.Rules.{IsRefuted, IsFresh};
+ghost use Rattle.jh_boxed_operations.specs.comparison.Exchanged.{Exchanged};
+ghost use Rattle.jh_derivation_rules.specs.Steps.{step_tree, bare_step};
+ghost use Rattle.jh_derivation_steps.specs.premises.Nodes.{formula_at, number_at, value_at, step_at, AreOperands, IsFormula, IsNumber, IsValue};
 ghost use Rattle.jh_deriv.specs.Replays.{AllFormulas, AreApart, is_const, Finds, IsItself, SuitsAlone, SuitsFacts, facts_at};
 
 use crate::entering::entered;
-use jh_branches::Other;
-use jh_compare::replaces;
+use jh_arena::table::{Shape, Table};
+use jh_boxed_operations::comparison::replaces;
+use jh_derivation_rules::DerivStep;
+use jh_derivation_steps::jh_substitution::rewriting::names;
+use jh_derivation_steps::premises::{NodeRule, NodeStep, is_closed, rule_of};
+use jh_export::{boxed_formula, value};
+use jh_form::{Formula, Value};
 use jh_name::{Name, NoMemory};
-use jh_premises::{NodeRule, NodeStep, is_closed, rule_of};
-use jh_rewrite::names;
-use jh_steps::DerivStep;
-use jh_table::{Shape, Table};
-use jh_tree::{Formula, Value};
-use jh_value::{boxed_formula, value};
+use jh_open_branches::Other;
 
 /// Whether the sides of an equation are one.
 fn is_itself(table: &Table, node: usize) -> bool
@@ -117,7 +117,7 @@ fn is_exchanged(
 }
 
 /// Whether a step's operands are what its rule asks for beyond their form.
-#[tactic(auto, unfolding(jh_premises::specs::Nodes::step_at, jh_premises::specs::Nodes::AreOperands))]
+#[tactic(auto, unfolding(jh_derivation_steps::specs::premises::Nodes::step_at, jh_derivation_steps::specs::premises::Nodes::AreOperands))]
 fn suits(table: &Table, step: NodeStep) -> Result<bool, NoMemory>
     requires { AreOperands (nodes table.now) step }
     ensures { IfOk result (λ suits. IsTrue suits ↔ SuitsAlone (step_at (nodes table.now) step)) }

@@ -1,17 +1,5 @@
-//! Linear systems over the natural numbers, solved exactly by binary digits.
+//! Linear systems over the natural numbers, and their solutions.
 #![tactic(auto)]
 
-mod counting;
-mod exploring;
-mod following;
-mod marking;
-mod refusing;
-mod solving;
-mod space;
-mod sweeping;
-mod tables;
-mod tracing;
-
-pub use counting::nodes;
-pub use jh_systems::{Digits, Solved, System, holds};
-pub use solving::solve;
+pub mod solver;
+pub mod systems;

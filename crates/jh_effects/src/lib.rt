@@ -1,9 +1,11 @@
-//! What the statements of a method assign and call themselves.
+//! The state that methods write and name.
 #![tactic(auto)]
 
-mod assigning;
-mod effects;
-mod gathering;
+pub mod direct_effects;
+pub mod modified_state;
+pub mod written_state;
 
-pub use effects::{Callee, Effects, Write};
-pub use gathering::effects_of;
+pub use jh_definitions::jh_resolution;
+pub use jh_type;
+pub use jh_unfolding;
+pub use jh_vars;

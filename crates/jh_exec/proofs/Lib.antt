@@ -1,8 +1,1 @@
-pub mod Leading
-pub mod StepCases
-pub mod Turns
-pub mod Results
-pub mod Choosing
-pub mod Popping
-pub mod Simple
-pub mod Whole
+pub use Rattle.jh_machine_code.proofs as of_jh_machine_code

@@ -1,10 +1,7 @@
-//! The machine that runs a method from a memory.
+//! The interpreter.
 #![tactic(auto)]
 
-mod advancing;
-mod branching;
-mod run;
-mod statements;
+pub mod frames;
+pub mod interpreter;
 
-pub use jh_machine::Prepared;
-pub use run::{Ended, free_objects, run_prepared};
+pub use jh_machine_code;

@@ -1,7 +1,3 @@
-pub mod Constraints
-pub mod Derived
-pub mod Reads
-pub mod Exchanged
-pub mod Eliminated
-pub mod Exact
-pub mod Laws
+pub mod cutting
+pub mod elimination
+pub mod local_form

@@ -1,8 +1,6 @@
-//! Derived fields eliminated: what is said of a field by its constraint is said without the field.
+//! The local form of a sequent and the elimination of derived fields, as definitions.
 #![tactic(auto)]
 
-mod laws;
-
-pub use laws::{
-    eliminated_has_shape, eliminated_is_exact, eliminated_is_valid, eliminated_may_stand,
-};
+pub mod cutting;
+pub mod elimination;
+pub mod local_form;

@@ -1,1 +1,9 @@
-pub use Rattle.jh_subst.proofs.Substitutions
+pub mod Steps
+pub mod ClosedSteps
+pub mod ClosedLemmas
+pub mod PassSteps
+pub mod Coincidences
+pub mod Names
+pub mod TruthExamples
+pub mod Numbers
+pub mod Universes

@@ -5,13 +5,13 @@ use Rattle.jh_name.specs.declared.place.Place.{Place}
 use Rattle.jh_name.specs.declared.place.Kind.TheVariants as k
 use Rattle.jh_rules.specs.declared.types.Ty.TheVariants as ty
 use Rattle.jh_rules.specs.Words.{same_text}
-use Rattle.jh_vars.specs.Written.{Callee}
-use Rattle.jh_vars.specs.Resolved.{own}
+use Rattle.jh_semantics.specs.jh_vars.Written.{Callee}
+use Rattle.jh_semantics.specs.jh_vars.Resolved.{own}
 use Rattle.jh_wp.specs.Command.{CommandTree, CommandTrees}
 use Rattle.jh_wp.specs.Command as w
-use Rattle.jh_runs.specs.Code.{Text, Local, Claim, Stmt, Stmts}
-use Rattle.jh_runs.specs.Code as c
-use Rattle.jh_runs.specs.Program.{Program, Method, Member}
+use Rattle.jh_semantics.specs.Code.{Text, Local, Claim, Stmt, Stmts}
+use Rattle.jh_semantics.specs.Code as c
+use Rattle.jh_semantics.specs.Program.{Program, Method, Member}
 use Rattle.jh_guard.specs.Writes.{Writes}
 use Rattle.jh_guard.specs.Methods.{method_command}
 

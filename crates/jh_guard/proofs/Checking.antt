@@ -5,14 +5,14 @@ use Rattle.std.specs.Ordering.{int_eq}
 use Rattle.std.proofs.lemmas.Bool.{true≢false}
 use Rattle.std.proofs.lemmas.Bool.Decides.{nat_tests}
 use Rattle.jh_name.specs.declared.place.Place.{Place}
-use Rattle.jh_tree.specs.Tree as t
-use Rattle.jh_tree.specs.Tree.{FormulaTree}
-use Rattle.jh_tree.specs.Meaning.{Interp, Datum, agree, truth, term_value, int_value, datum}
-use Rattle.jh_tree.specs.Meaning as m
-use Rattle.jh_runs.specs.Code as c
-use Rattle.jh_runs.specs.Code.{ObjectCode, NumberCode, TruthCode, AnyCode}
-use Rattle.jh_runs.specs.State.{State, named}
-use Rattle.jh_runs.specs.Values.{Value, value, null_at, then_value, dereferenced, read_at, both_values, object_of, number_of, truth_of, value_of}
+use Rattle.jh_form.specs.Tree as t
+use Rattle.jh_form.specs.Tree.{FormulaTree}
+use Rattle.jh_form.specs.Meaning.{Interp, Datum, agree, truth, term_value, int_value, datum}
+use Rattle.jh_form.specs.Meaning as m
+use Rattle.jh_semantics.specs.Code as c
+use Rattle.jh_semantics.specs.Code.{ObjectCode, NumberCode, TruthCode, AnyCode}
+use Rattle.jh_semantics.specs.State.{State, named}
+use Rattle.jh_semantics.specs.Values.{Value, value, null_at, then_value, dereferenced, read_at, both_values, object_of, number_of, truth_of, value_of}
 use Rattle.jh_guard.specs.Terms.{object_term, number_term, truth_formula, value_term, Check, receiver_checks, object_checks, read_checks, number_checks, truth_checks, value_checks, guarded}
 use Rattle.jh_guard.specs.Laws.{AllPass, ChecksAreExact}
 

@@ -3,23 +3,23 @@
 use Rattle.std.specs.Prelude.{ℕ, suc, ◌+◌, ◌==◌, Bool, true, false, if◌then◌else◌, List, [], ◌∷◌, ◌++◌, map, length, Option, None, Some, codes, is_some}
 use Rattle.jh_name.specs.declared.naming.Name.{Name}
 use Rattle.jh_name.specs.declared.place.Place.{Place}
-use Rattle.jh_tree.specs.declared.mark.MarkKind.TheVariants as kind
-use Rattle.jh_tree.specs.Tree.{FormulaTree, ValueTree, TermTree, SetTree}
-use Rattle.jh_tree.specs.Tree as t
-use Rattle.jh_walk.specs.Mapped.{LeafMap, unchanged, mapped_formula}
+use Rattle.jh_form.specs.declared.mark.MarkKind.TheVariants as kind
+use Rattle.jh_form.specs.Tree.{FormulaTree, ValueTree, TermTree, SetTree}
+use Rattle.jh_form.specs.Tree as t
+use Rattle.jh_semantics.specs.jh_boxed.Mapped.{LeafMap, unchanged, mapped_formula}
 use Rattle.jh_rules.specs.Words.{same_text}
 use Rattle.jh_rules.specs.declared.types.Ty.{Ty}
 use Rattle.jh_rules.specs.Kinds.{kind_of, is_void}
-use Rattle.jh_state.specs.States.{sort_of}
-use Rattle.jh_vars.specs.Written.{Callee}
+use Rattle.jh_semantics.specs.jh_vars.state_names.States.{sort_of}
+use Rattle.jh_semantics.specs.jh_vars.Written.{Callee}
 use Rattle.jh_wp.specs.Command.{CommandTree}
 use Rattle.jh_wp.specs.Command as w
-use Rattle.jh_runs.specs.Code.{Text, ObjectCode, AnyCode, Local, Target, Claim}
-use Rattle.jh_runs.specs.Code as c
-use Rattle.jh_runs.specs.Program.{Program, Method}
-use Rattle.jh_runs.specs.State.{named}
-use Rattle.jh_runs.specs.WellFormed.{lies_in}
-use Rattle.jh_runs.specs.Entry.{owed}
+use Rattle.jh_semantics.specs.Code.{Text, ObjectCode, AnyCode, Local, Target, Claim}
+use Rattle.jh_semantics.specs.Code as c
+use Rattle.jh_semantics.specs.Program.{Program, Method}
+use Rattle.jh_semantics.specs.State.{named}
+use Rattle.jh_semantics.specs.WellFormed.{lies_in}
+use Rattle.jh_semantics.specs.Entry.{owed}
 use Rattle.jh_guard.specs.Terms.{Check, is_not_null, object_term, value_term, object_checks, receiver_checks, value_checks}
 use Rattle.jh_guard.specs.Items.{Item, Sorted, sorted_item, items_where, free_of}
 use Rattle.jh_guard.specs.Writes.{Writes}

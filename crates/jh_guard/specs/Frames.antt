@@ -3,12 +3,12 @@ use Rattle.std.specs.Prelude.{ℕ, ◌&&◌, not, if◌then◌else◌, List, map
 use Rattle.jh_name.specs.declared.naming.Name.{Name}
 use Rattle.jh_name.specs.declared.place.Kind.{Kind}
 use Rattle.jh_name.specs.declared.place.Kind.TheVariants as k
-use Rattle.jh_tree.specs.Tree.{FormulaTree, SetTree}
-use Rattle.jh_tree.specs.Tree as t
-use Rattle.jh_vars.specs.Written.{Callee}
-use Rattle.jh_runs.specs.Program.{Program, Member}
-use Rattle.jh_runs.specs.State.{named}
-use Rattle.jh_runs.specs.WellFormed.{each_in}
+use Rattle.jh_form.specs.Tree.{FormulaTree, SetTree}
+use Rattle.jh_form.specs.Tree as t
+use Rattle.jh_semantics.specs.jh_vars.Written.{Callee}
+use Rattle.jh_semantics.specs.Program.{Program, Member}
+use Rattle.jh_semantics.specs.State.{named}
+use Rattle.jh_semantics.specs.WellFormed.{each_in}
 use Rattle.jh_guard.specs.Steps.{fresh}
 use Rattle.jh_guard.specs.Writes.{Writes}
 

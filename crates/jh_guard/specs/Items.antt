@@ -3,13 +3,13 @@ use Rattle.std.specs.Prelude.{Bool, true, false, List, ◌∷◌, ◌++◌, map,
 use Rattle.jh_name.specs.declared.naming.Name.{Name}
 use Rattle.jh_name.specs.declared.place.Sort.{Sort}
 use Rattle.jh_name.specs.declared.place.Sort.TheVariants as sort
-use Rattle.jh_tree.specs.Tree.{ValueTree}
-use Rattle.jh_tree.specs.Tree as t
+use Rattle.jh_form.specs.Tree.{ValueTree}
+use Rattle.jh_form.specs.Tree as t
 use Rattle.jh_rules.specs.Kinds.{kind_of}
-use Rattle.jh_state.specs.States.{sort_of, member_sort}
-use Rattle.jh_runs.specs.Code.{Text, Local}
-use Rattle.jh_runs.specs.Program.{Program, Member}
-use Rattle.jh_runs.specs.WellFormed.{all_classes}
+use Rattle.jh_semantics.specs.jh_vars.state_names.States.{sort_of, member_sort}
+use Rattle.jh_semantics.specs.Code.{Text, Local}
+use Rattle.jh_semantics.specs.Program.{Program, Member}
+use Rattle.jh_semantics.specs.WellFormed.{all_classes}
 
 -- a piece of the state: the set of all objects, that of the objects of a class, or a static, field or ghost variable
 pub data Item : Type 0 where

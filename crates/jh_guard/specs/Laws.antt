@@ -1,9 +1,9 @@
 -- What the commands of methods are for.
 use Rattle.std.specs.Prelude.{◌≡◌, true, List, [], ◌∷◌}
-use Rattle.jh_tree.specs.Meaning.{Interp, Datum, truth, datum}
-use Rattle.jh_runs.specs.Code.{AnyCode}
-use Rattle.jh_runs.specs.State.{State}
-use Rattle.jh_runs.specs.Values.{value, value_of}
+use Rattle.jh_form.specs.Meaning.{Interp, Datum, truth, datum}
+use Rattle.jh_semantics.specs.Code.{AnyCode}
+use Rattle.jh_semantics.specs.State.{State}
+use Rattle.jh_semantics.specs.Values.{value, value_of}
 use Rattle.jh_guard.specs.Terms.{Check, value_checks, value_term}
 
 -- all checks are true

@@ -8,3 +8,4 @@ pub mod Calls
 pub mod Statements
 pub mod Methods
 pub mod Laws
+pub use Rattle.jh_wp.specs as jh_wp

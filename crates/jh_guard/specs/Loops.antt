@@ -1,13 +1,13 @@
 -- What comes before the condition of a loop, and its turns (a loop is cut at its invariants).
 use Rattle.std.specs.Prelude.{ℕ, List, [], ◌∷◌, ◌++◌, map, codes}
 use Rattle.jh_name.specs.declared.place.Place.{Place}
-use Rattle.jh_tree.specs.declared.mark.MarkKind.TheVariants as kind
-use Rattle.jh_tree.specs.Tree.{FormulaTree}
-use Rattle.jh_tree.specs.Tree as t
+use Rattle.jh_form.specs.declared.mark.MarkKind.TheVariants as kind
+use Rattle.jh_form.specs.Tree.{FormulaTree}
+use Rattle.jh_form.specs.Tree as t
 use Rattle.jh_wp.specs.Command.{CommandTree}
 use Rattle.jh_wp.specs.Command as w
-use Rattle.jh_runs.specs.Code.{Local, TruthCode, Claim, Stmt}
-use Rattle.jh_runs.specs.Program.{Program}
+use Rattle.jh_semantics.specs.Code.{Local, TruthCode, Claim, Stmt}
+use Rattle.jh_semantics.specs.Program.{Program}
 use Rattle.jh_guard.specs.Terms.{truth_formula, truth_checks}
 use Rattle.jh_guard.specs.Items.{Item, Sorted, sorted_item, sorted_local, items_where}
 use Rattle.jh_guard.specs.Writes.{Writes, stmt_writes, locals_assigned, first_ones}

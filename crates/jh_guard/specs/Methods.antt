@@ -1,18 +1,18 @@
 -- The command of a method, and what has to be true where it returns.
 use Rattle.std.specs.Prelude.{if◌then◌else◌, List, [], ◌∷◌, ◌++◌, map, Option, None, Some, codes}
 use Rattle.jh_name.specs.declared.place.Place.{Place}
-use Rattle.jh_tree.specs.declared.mark.MarkKind.TheVariants as kind
-use Rattle.jh_tree.specs.Tree.{FormulaTree}
-use Rattle.jh_tree.specs.Tree as t
-use Rattle.jh_make.specs.Joined.{joined}
+use Rattle.jh_form.specs.declared.mark.MarkKind.TheVariants as kind
+use Rattle.jh_form.specs.Tree.{FormulaTree}
+use Rattle.jh_form.specs.Tree as t
+use Rattle.jh_semantics.specs.jh_arena.makers.Joined.{joined}
 use Rattle.jh_rules.specs.Kinds.{is_void}
-use Rattle.jh_vars.specs.Written.{Callee}
+use Rattle.jh_semantics.specs.jh_vars.Written.{Callee}
 use Rattle.jh_wp.specs.Command.{CommandTree}
 use Rattle.jh_wp.specs.Command as w
-use Rattle.jh_runs.specs.Code.{Claim}
-use Rattle.jh_runs.specs.Program.{Program, Method}
-use Rattle.jh_runs.specs.WellFormed.{well_formed}
-use Rattle.jh_runs.specs.Entry.{owed}
+use Rattle.jh_semantics.specs.Code.{Claim}
+use Rattle.jh_semantics.specs.Program.{Program, Method}
+use Rattle.jh_semantics.specs.WellFormed.{well_formed}
+use Rattle.jh_semantics.specs.Entry.{owed}
 use Rattle.jh_guard.specs.Items.{items, sorted_item}
 use Rattle.jh_guard.specs.Writes.{Writes}
 use Rattle.jh_guard.specs.Steps.{fresh, sequence, mark_without_name, mark_of, assume_named, assume_claims, copies}

@@ -3,17 +3,17 @@ use Rattle.std.specs.Prelude.{ℕ, suc, List, [], ◌∷◌, ◌++◌, Option, c
 use Rattle.std.specs.Option.{option_map_or}
 use Rattle.jh_name.specs.declared.naming.Name.{Name}
 use Rattle.jh_name.specs.declared.place.Place.{Place}
-use Rattle.jh_tree.specs.declared.mark.MarkKind.TheVariants as kind
-use Rattle.jh_tree.specs.Tree.{FormulaTree, TermTree, ValueTree}
-use Rattle.jh_tree.specs.Tree as t
-use Rattle.jh_vars.specs.Written.{Callee}
+use Rattle.jh_form.specs.declared.mark.MarkKind.TheVariants as kind
+use Rattle.jh_form.specs.Tree.{FormulaTree, TermTree, ValueTree}
+use Rattle.jh_form.specs.Tree as t
+use Rattle.jh_semantics.specs.jh_vars.Written.{Callee}
 use Rattle.jh_wp.specs.Command.{CommandTree}
 use Rattle.jh_wp.specs.Command as w
-use Rattle.jh_runs.specs.Code.{Text, ObjectCode, AnyCode, Local, Target, Claim, Stmt, Stmts}
-use Rattle.jh_runs.specs.Code as c
-use Rattle.jh_runs.specs.Program.{Program}
-use Rattle.jh_runs.specs.State.{named, alloc_name, result_name}
-use Rattle.jh_runs.specs.WellFormed.{well_formed}
+use Rattle.jh_semantics.specs.Code.{Text, ObjectCode, AnyCode, Local, Target, Claim, Stmt, Stmts}
+use Rattle.jh_semantics.specs.Code as c
+use Rattle.jh_semantics.specs.Program.{Program}
+use Rattle.jh_semantics.specs.State.{named, alloc_name, result_name}
+use Rattle.jh_semantics.specs.WellFormed.{well_formed}
 use Rattle.jh_guard.specs.Terms.{is_not_null, truth_formula, truth_checks, value_term, value_checks}
 use Rattle.jh_guard.specs.Writes.{Writes, scope_after}
 use Rattle.jh_guard.specs.Steps.{fresh, sequence, mark_without_name, assert_checks, assert_claim, assume_named, claim_fact, after_changed, target_checks, put_field, put}

@@ -3,17 +3,17 @@ use Rattle.std.specs.Prelude.{ℕ, suc, ◌+◌, List, [], ◌∷◌, ◌++◌, 
 use Rattle.std.specs.Option.{option_map_or}
 use Rattle.jh_name.specs.declared.naming.Name.{Name}
 use Rattle.jh_name.specs.declared.place.Place.{Place}
-use Rattle.jh_tree.specs.declared.mark.Mark.{Mark}
-use Rattle.jh_tree.specs.declared.mark.MarkKind.{MarkKind}
-use Rattle.jh_tree.specs.declared.mark.MarkKind.TheVariants as kind
-use Rattle.jh_tree.specs.Tree.{FormulaTree, ValueTree, TermTree}
-use Rattle.jh_tree.specs.Tree as t
-use Rattle.jh_vars.specs.Resolved.{own}
+use Rattle.jh_form.specs.declared.mark.Mark.{Mark}
+use Rattle.jh_form.specs.declared.mark.MarkKind.{MarkKind}
+use Rattle.jh_form.specs.declared.mark.MarkKind.TheVariants as kind
+use Rattle.jh_form.specs.Tree.{FormulaTree, ValueTree, TermTree}
+use Rattle.jh_form.specs.Tree as t
+use Rattle.jh_semantics.specs.jh_vars.Resolved.{own}
 use Rattle.jh_wp.specs.Command.{CommandTree, CommandTrees}
 use Rattle.jh_wp.specs.Command as w
-use Rattle.jh_runs.specs.Code.{Text, ObjectCode, Target, Claim}
-use Rattle.jh_runs.specs.Code as c
-use Rattle.jh_runs.specs.State.{named}
+use Rattle.jh_semantics.specs.Code.{Text, ObjectCode, Target, Claim}
+use Rattle.jh_semantics.specs.Code as c
+use Rattle.jh_semantics.specs.State.{named}
 use Rattle.jh_guard.specs.Terms.{Check, object_checks, receiver_checks, object_term}
 use Rattle.jh_guard.specs.Items.{Item, Sorted, item_text, is_of_objects, free_of}
 

@@ -2,11 +2,11 @@
 -- first token of its receiver.
 use Rattle.std.specs.Prelude.{Bool, true, false, List, [], ◌∷◌, ◌++◌, map}
 use Rattle.jh_name.specs.declared.place.Place.{Place}
-use Rattle.jh_tree.specs.Tree.{TermTree, IntTree, FormulaTree, ValueTree}
-use Rattle.jh_tree.specs.Tree as t
-use Rattle.jh_runs.specs.Code.{ObjectCode, NumberCode, TruthCode, AnyCode}
-use Rattle.jh_runs.specs.Code as c
-use Rattle.jh_runs.specs.State.{named, this_name}
+use Rattle.jh_form.specs.Tree.{TermTree, IntTree, FormulaTree, ValueTree}
+use Rattle.jh_form.specs.Tree as t
+use Rattle.jh_semantics.specs.Code.{ObjectCode, NumberCode, TruthCode, AnyCode}
+use Rattle.jh_semantics.specs.Code as c
+use Rattle.jh_semantics.specs.State.{named, this_name}
 
 abbrev pub object_term : ObjectCode → TermTree
 object_term c.null = t.null

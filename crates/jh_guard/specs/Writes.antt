@@ -1,9 +1,9 @@
 -- What statements may write: of the state, and of the parameters and locals.
 use Rattle.std.specs.Prelude.{Bool, false, ◌||◌, not, List, [], ◌∷◌, ◌++◌, filter, codes}
 use Rattle.jh_rules.specs.Words.{same_text}
-use Rattle.jh_vars.specs.Written.{Callee}
-use Rattle.jh_runs.specs.Code.{Text, Local, Target, Stmt, Stmts}
-use Rattle.jh_runs.specs.Code as c
+use Rattle.jh_semantics.specs.jh_vars.Written.{Callee}
+use Rattle.jh_semantics.specs.Code.{Text, Local, Target, Stmt, Stmts}
+use Rattle.jh_semantics.specs.Code as c
 
 -- what each method may write, itself or through others, and what its `modifies` names, by the texts of the state
 pub record Writes : Type 0 where

@@ -1,1 +1,2 @@
 mod StopSteps
+pub use Rattle.jh_command_statements.proofs as of_jh_command_statements

@@ -1,20 +1,20 @@
 -- That no run goes on, added to a list of commands; and formulas that stay as the table grows.
 use Rattle.std.proofs.Common.{◌≡◌, refl, ◌∙◌, ap, ℕ, Bool, true, false, if◌then◌else◌, List, [], ◌∷◌, ◌++◌, map, sym, slice_get}
 use Rattle.jh_ast.specs.Programs.{ProgramTree}
-use Rattle.jh_table.specs.Entries.{Listing, is_truth}
-use Rattle.jh_table.specs.Growth.{Extends}
-use Rattle.jh_table.specs.Nodes.{nodes}
+use Rattle.jh_arena.specs.table.Entries.{Listing, is_truth}
+use Rattle.jh_arena.specs.table.Growth.{Extends}
+use Rattle.jh_arena.specs.table.Nodes.{nodes}
 use Rattle.jh_wp.specs.Command as w
-use Rattle.jh_command.specs.declared.command.Command.{Command}
-use Rattle.jh_command.specs.declared.command.Command.TheVariants as c
-use Rattle.jh_command.specs.Code.{command_in, command_fits}
-use Rattle.jh_command.proofs.CodeSteps.{is_truth-grows}
-use Rattle.jh_runs.specs.Program.{Program}
-use Rattle.jh_runs.specs.Entry as entry
-use Rattle.jh_lowered.specs.declared.stmts.Claim.{Claim}
-use Rattle.jh_lowered.specs.declared.stmts.MethodCode.{MethodCode}
-use Rattle.jh_lowered.specs.Statements.{claim_in, method_in}
-use Rattle.jh_changes.specs.Added.{AddsCommands}
+use Rattle.jh_command_statements.specs.jh_command_terms.declared.command.command.Command.{Command}
+use Rattle.jh_command_statements.specs.jh_command_terms.declared.command.command.Command.TheVariants as c
+use Rattle.jh_command_statements.specs.jh_command_terms.command.Code.{command_in, command_fits}
+use Rattle.jh_command_statements.proofs.of_jh_command_terms.command.CodeSteps.{is_truth-grows}
+use Rattle.jh_semantics.specs.Program.{Program}
+use Rattle.jh_semantics.specs.Entry as entry
+use Rattle.jh_semantics.specs.declared.typed_code.stmts.Claim.{Claim}
+use Rattle.jh_semantics.specs.declared.typed_code.stmts.MethodCode.{MethodCode}
+use Rattle.jh_semantics.specs.typed_code.Statements.{claim_in, method_in}
+use Rattle.jh_state_facts.specs.changes.Added.{AddsCommands}
 
 pub adds-stop : (t : Listing) (old new : List Command) → new ≡ old ++ c.Stop ∷ [] → AddsCommands t old new (w.stop ∷ [])
 unfolding command_in command_fits

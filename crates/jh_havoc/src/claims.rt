@@ -1,23 +1,23 @@
-#![tactic(auto, using(crate::proofs::StopSteps::stop_steps, jh_table::proofs::Listed::growth_steps))]
+#![tactic(auto, using(crate::proofs::StopSteps::stop_steps, jh_arena::proofs::table::Listed::growth_steps))]
 
 ghost use Rattle.std.specs.Prelude.{◌≡◌, ◌∷◌, ◌++◌, [], map, if◌then◌else◌, OnOk};
 ghost use Rattle.jh_ast.specs.Programs.{ProgramTree};
-ghost use Rattle.jh_tree.specs.declared.mark.MarkKind.TheVariants as kind;
-ghost use Rattle.jh_table.specs.Growth.{Extends};
+ghost use Rattle.jh_form.specs.declared.mark.MarkKind.TheVariants as kind;
+ghost use Rattle.jh_arena.specs.table.Growth.{Extends};
 ghost use Rattle.jh_wp.specs.Command as w;
-ghost use Rattle.jh_runs.specs.Program.{Program};
-ghost use Rattle.jh_runs.specs.Entry as entry;
-ghost use Rattle.jh_guard.specs.Steps as steps;
-ghost use Rattle.jh_lowered.specs.Statements.{claim_in, method_in};
-ghost use Rattle.jh_changes.specs.Added.{AddsCommands};
-ghost use Rattle.jh_asserting.specs.Told.{AreFormulas};
+ghost use Rattle.jh_semantics.specs.Program.{Program};
+ghost use Rattle.jh_semantics.specs.Entry as entry;
+ghost use Rattle.jh_command_statements.specs.jh_guard.Steps as steps;
+ghost use Rattle.jh_semantics.specs.typed_code.Statements.{claim_in, method_in};
+ghost use Rattle.jh_state_facts.specs.changes.Added.{AddsCommands};
+ghost use Rattle.jh_command_statements.specs.checks.Told.{AreFormulas};
 
-use jh_asserting::{assert_claims, assume_claims};
-use jh_command::Command;
-use jh_lowered::{Claim, MethodCode};
+use jh_arena::table::Table;
+use jh_command_statements::checks::{assert_claims, assume_claims};
+use jh_command_statements::jh_command_terms::command::Command;
+use jh_form::MarkKind;
 use jh_name::NoMemory;
-use jh_table::Table;
-use jh_tree::MarkKind;
+use jh_semantics::typed_code::{Claim, MethodCode};
 
 /// The invariants that a method is owed and owes: all for a public one, none for another.
 pub fn owed(invariants: &[Claim], is_public: bool) -> &[Claim]

@@ -2,6 +2,8 @@
 //! turn of a loop.
 #![tactic(auto)]
 
+pub use jh_command_statements;
+
 mod claims;
 mod states;
 

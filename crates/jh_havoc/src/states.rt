@@ -1,19 +1,19 @@
-#![tactic(auto, using(jh_changes::proofs::AddedSteps::added_steps, jh_table::proofs::Listed::growth_steps))]
+#![tactic(auto, using(jh_state_facts::proofs::changes::AddedSteps::added_steps, jh_arena::proofs::table::Listed::growth_steps))]
 
 ghost use Rattle.std.specs.Prelude.{◌≡◌, ◌++◌, ◌∷◌, true, List, map, filter, codes, IfOk, OnOk, Some, slice_get};
-ghost use Rattle.jh_tree.specs.Tree.{FormulaTree, of_truth};
-ghost use Rattle.jh_table.specs.Entries.{is_truth};
-ghost use Rattle.jh_table.specs.Growth.{Extends};
-ghost use Rattle.jh_table.specs.Nodes.{nodes};
-ghost use Rattle.jh_guard.specs.Items.{Item, sorted_item, is_of_objects};
-ghost use Rattle.jh_guard.specs.Steps as steps;
-ghost use Rattle.jh_changes.specs.Added.{AddsCommands, sorted_in};
+ghost use Rattle.jh_form.specs.Tree.{FormulaTree, of_truth};
+ghost use Rattle.jh_arena.specs.table.Entries.{is_truth};
+ghost use Rattle.jh_arena.specs.table.Growth.{Extends};
+ghost use Rattle.jh_arena.specs.table.Nodes.{nodes};
+ghost use Rattle.jh_command_statements.specs.jh_guard.Items.{Item, sorted_item, is_of_objects};
+ghost use Rattle.jh_command_statements.specs.jh_guard.Steps as steps;
+ghost use Rattle.jh_state_facts.specs.changes.Added.{AddsCommands, sorted_in};
 
-use jh_asserting::assume_named;
-use jh_changes::{SortedName, push_changed, push_growth};
-use jh_command::Command;
+use jh_arena::table::Table;
+use jh_command_statements::checks::assume_named;
+use jh_command_statements::jh_command_terms::command::Command;
 use jh_name::{NoMemory, Place};
-use jh_table::Table;
+use jh_state_facts::changes::{SortedName, push_changed, push_growth};
 
 /// Adds that what was written takes any value, in a state that is well formed, and in which sets of objects only grew since
 /// their copies at a turn: `sets` are those among some of the state. Answers the turn that is free behind what was written.

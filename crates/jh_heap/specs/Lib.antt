@@ -1,7 +1,3 @@
-pub mod Outlines
-pub mod Drafts
-pub mod Rules
-pub mod Reading
-pub mod Writing
-pub mod Errors
-pub mod Held
+pub mod lines
+pub mod object_bounds
+pub mod text

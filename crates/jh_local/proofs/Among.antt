@@ -1,11 +1,11 @@
 -- The first instances among all.
 use Rattle.std.proofs.Common.{◌≡◌, refl, sym, ap, Bool, true, false, inl, inr, ◌&&◌, if◌then◌else◌, subst, List, [], ◌∷◌, ◌++◌}
 use Rattle.std.specs.List.{list_all}
-use Rattle.jh_tree.specs.Tree.{FormulaTree}
-use Rattle.jh_tree.proofs.ClosedLemmas.{both-left, both-right}
-use Rattle.jh_models.specs.Atoms.{StandsIn}
-use Rattle.jh_instances.specs.Entries.{Entry}
-use Rattle.jh_instances.specs.Instances.{is_ground, instances_of}
+use Rattle.jh_form.specs.Tree.{FormulaTree}
+use Rattle.jh_form.proofs.ClosedLemmas.{both-left, both-right}
+use Rattle.jh_models.specs.ground_models.Atoms.{StandsIn}
+use Rattle.jh_inst.specs.instances.Entries.{Entry}
+use Rattle.jh_inst.specs.instances.Instances.{is_ground, instances_of}
 
 -- each formula of the second list stands in the first
 abbrev pub AreAmong : List FormulaTree → List FormulaTree → Type 0

@@ -3,11 +3,11 @@ use denote.Param.Send.{IsSend, IsSync, sendable}
 use Rattle.std.proofs.Crossing.{crosses}
 use Rattle.jh_name.proofs.naming.Name.TheSendSync as name
 use Rattle.jh_name.proofs.row.Row.TheSendSync as row
-use Rattle.jh_tree.proofs.form.FieldTerm.TheLaws.TheKnot as knot
-use Rattle.jh_tree.proofs.mark.Mark.TheSendSync as mark
-use Rattle.jh_structure.specs.contracts.literal.Literal as Literal
-use Rattle.jh_steps.proofs.Crossings.{step_send, step_sync}
-use Rattle.jh_steps.specs.contracts.step.Derivation as Derivation
+use Rattle.jh_form.proofs.form.FieldTerm.TheLaws.TheKnot as knot
+use Rattle.jh_form.proofs.mark.Mark.TheSendSync as mark
+use Rattle.jh_closure.specs.contracts.structures.literal.Literal as Literal
+use Rattle.jh_derivation_rules.proofs.Crossings.{step_send, step_sync}
+use Rattle.jh_derivation_rules.specs.contracts.step.Derivation as Derivation
 use Rattle.jh_local.specs.contracts.answer.LocalCause as LocalCause
 use Rattle.jh_local.specs.contracts.answer.Searched as Searched
 

@@ -1,13 +1,13 @@
 -- The facts of a sequent as the instances are made of them.
 use Rattle.std.proofs.Common.{◌≡◌, sym, subst, ℕ, List, [], ◌∷◌}
-use Rattle.jh_tree.specs.Tree.{FormulaTree}
-use Rattle.jh_table.specs.Entries.{Listing}
-use Rattle.jh_reach.specs.Standing as reach
-use Rattle.jh_counted.specs.Grouping as counted
-use Rattle.jh_sequent.specs.Sequents.{SequentTree}
-use Rattle.jh_instances.specs.Instances.{normal_facts}
-use Rattle.jh_apart.specs.declared.facts.Apart.{Apart}
-use Rattle.jh_apart.specs.Standing.{IsPosed}
+use Rattle.jh_form.specs.Tree.{FormulaTree}
+use Rattle.jh_arena.specs.table.Entries.{Listing}
+use Rattle.jh_derivation_rules.specs.jh_reach.Standing as reach
+use Rattle.jh_ground_input.specs.jh_instantiation.instance_count.Grouping as counted
+use Rattle.jh_seq.specs.sequent.Sequents.{SequentTree}
+use Rattle.jh_inst.specs.instances.Instances.{normal_facts}
+use Rattle.jh_ground_input.specs.declared.facts.Apart.{Apart}
+use Rattle.jh_ground_input.specs.Standing.{IsPosed}
 
 formulas-are : (t : Listing) (ns : List ℕ) (fs : List FormulaTree) → reach.AreFormulas t ns fs → counted.AreFormulas t ns fs
 unfolding reach.AreFormulas

@@ -1,17 +1,17 @@
 -- What a search found has formulas for its atoms.
 use Rattle.std.proofs.Common.{◌≡◌, refl, subst, ℕ, zero, suc, true, inl, inr, List, [], ◌∷◌, ◌++◌, Some, slice_get}
-use Rattle.jh_tree.specs.Tree.{FormulaTree, ValueTree}
-use Rattle.jh_table.specs.Entries.{is_truth}
-use Rattle.jh_structure.specs.Literals.{LiteralTree, IsListed}
-use Rattle.jh_models.specs.Atoms.{IsGroundAtom}
-use Rattle.jh_models.specs.Branches.{ClosedTree, Each}
-use Rattle.jh_models.specs.Budget.{IsSpent}
-use Rattle.jh_models.specs.Explanations.{GoesOn, IsExplanation}
-use Rattle.jh_models.specs.GroundModel.{IsGroundModel}
-use Rattle.jh_trail.specs.declared.decided.Decided.{Decided}
-use Rattle.jh_trail.specs.Saying.{literal_tree_at, literals_at, truth_at}
-use Rattle.jh_search.specs.Paths.{all_closed}
-use Rattle.jh_search.specs.declared.turn.ClosedBranch.{ClosedBranch}
+use Rattle.jh_form.specs.Tree.{FormulaTree, ValueTree}
+use Rattle.jh_arena.specs.table.Entries.{is_truth}
+use Rattle.jh_closure.specs.structures.Literals.{LiteralTree, IsListed}
+use Rattle.jh_models.specs.ground_models.Atoms.{IsGroundAtom}
+use Rattle.jh_models.specs.ground_models.Branches.{ClosedTree, Each}
+use Rattle.jh_models.specs.ground_models.Budget.{IsSpent}
+use Rattle.jh_models.specs.ground_models.Explanations.{GoesOn, IsExplanation}
+use Rattle.jh_models.specs.ground_models.GroundModel.{IsGroundModel}
+use Rattle.jh_propagation.specs.declared.trail.decided.Decided.{Decided}
+use Rattle.jh_propagation.specs.trail.Saying.{literal_tree_at, literals_at, truth_at}
+use Rattle.jh_instance_proofs.specs.jh_search.Paths.{all_closed}
+use Rattle.jh_instance_proofs.specs.jh_search.declared.turn.ClosedBranch.{ClosedBranch}
 use Rattle.jh_local.specs.Standing.{AreFormulas, HasFormulas, EachFormulas}
 use Rattle.jh_local.proofs.Grounds.{is-formula}
 

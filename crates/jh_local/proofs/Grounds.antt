@@ -1,10 +1,10 @@
 -- A node whose tree is a ground atom is a formula: what is none counts as True, which is no atom.
 use Rattle.std.proofs.Common.{◌≡◌, refl, sym, ap, Bool, true, false, ◌⊎◌, inl, inr, List, [], ◌∷◌, ◌++◌, Option, Some, None}
 use Rattle.std.proofs.lemmas.Bool.{true≢false}
-use Rattle.jh_tree.specs.Tree.{FormulaTree, ValueTree, of_object, of_number, of_set, of_field, of_truth}
-use Rattle.jh_tree.specs.Tree as t
-use Rattle.jh_table.specs.Entries.{is_truth, the_truth}
-use Rattle.jh_models.specs.Atoms.{IsGroundAtom, StandsIn, atom_of, atoms_of, ground_atoms}
+use Rattle.jh_form.specs.Tree.{FormulaTree, ValueTree, of_object, of_number, of_set, of_field, of_truth}
+use Rattle.jh_form.specs.Tree as t
+use Rattle.jh_arena.specs.table.Entries.{is_truth, the_truth}
+use Rattle.jh_models.specs.ground_models.Atoms.{IsGroundAtom, StandsIn, atom_of, atoms_of, ground_atoms}
 
 pub in-both : (a : FormulaTree) (xs ys : List FormulaTree) → StandsIn (xs ++ ys) a → StandsIn xs a ⊎ StandsIn ys a
 in-both a [] ys h = inr h

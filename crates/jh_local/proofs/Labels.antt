@@ -2,13 +2,13 @@
 use Rattle.std.proofs.Common.{◌≡◌, refl, sym, ap, ◌∙◌, true, false, inl, inr, List, [], ◌∷◌}
 use Rattle.std.specs.List.{list_all}
 use Rattle.std.proofs.lemmas.Bool.{true≢false}
-use Rattle.jh_tree.specs.Tree.{FormulaTree}
-use Rattle.jh_tree.specs.Tree as t
-use Rattle.jh_tree.proofs.ClosedLemmas.{both-left, both-right}
-use Rattle.jh_normal.specs.Normal.{is_atom}
-use Rattle.jh_models.specs.Atoms.{IsGroundAtom, StandsIn, atom_of, atoms_of, ground_atoms}
-use Rattle.jh_plain.specs.Plain.{are_literals}
-use Rattle.jh_propagating.specs.Problems.{is_label}
+use Rattle.jh_form.specs.Tree.{FormulaTree}
+use Rattle.jh_form.specs.Tree as t
+use Rattle.jh_form.proofs.ClosedLemmas.{both-left, both-right}
+use Rattle.jh_ground_input.specs.jh_normal_forms.negation_normal_form.Normal.{is_atom}
+use Rattle.jh_models.specs.ground_models.Atoms.{IsGroundAtom, StandsIn, atom_of, atoms_of, ground_atoms}
+use Rattle.jh_inst.specs.plain_formulas.Plain.{are_literals}
+use Rattle.jh_propagation.specs.propagation.Problems.{is_label}
 use Rattle.jh_local.proofs.Grounds.{in-both}
 
 no : false ≡ true → ⊥

@@ -9,3 +9,4 @@ mod Facts
 pub mod Crossings
 mod Among
 mod Restricted
+pub use Rattle.jh_ground_input.proofs.of_jh_query_names as of_jh_query_names

@@ -2,18 +2,18 @@
 use Rattle.std.proofs.Common.{◌≡◌, refl, sym, Bool, true, false, ◌&&◌, if◌then◌else◌, List, [], ◌∷◌, ◌++◌, map}
 use Rattle.std.specs.List.{list_all}
 use Rattle.std.proofs.lemmas.Bool.{true≢false}
-use Rattle.jh_tree.specs.Tree.{FormulaTree}
-use Rattle.jh_tree.specs.Tree as t
-use Rattle.jh_tree.proofs.ClosedLemmas.{both-left, both-right}
-use Rattle.jh_compare.specs.Unmarked.{unmarked_formula}
-use Rattle.jh_normal.specs.Normal.{is_atom, normal}
-use Rattle.jh_sequent.specs.Sequents.{HypTree, SequentTree}
-use Rattle.jh_split.specs.Local.{has_local_shape}
-use Rattle.jh_instances.specs.Entries.{Entry, formulas}
-use Rattle.jh_instances.specs.Instances.{is_ground, instances_of, normal_facts}
-use Rattle.jh_interpreted.specs.Instances.{is_local_atom, is_local_instance}
-use Rattle.jh_plain.specs.Laws.{NormalIsPlain}
-use Rattle.jh_plain.specs.Plain.{is_plain, are_literals}
+use Rattle.jh_form.specs.Tree.{FormulaTree}
+use Rattle.jh_form.specs.Tree as t
+use Rattle.jh_form.proofs.ClosedLemmas.{both-left, both-right}
+use Rattle.jh_boxed_operations.specs.comparison.Unmarked.{unmarked_formula}
+use Rattle.jh_ground_input.specs.jh_normal_forms.negation_normal_form.Normal.{is_atom, normal}
+use Rattle.jh_seq.specs.sequent.Sequents.{HypTree, SequentTree}
+use Rattle.jh_seq.specs.splitting.Local.{has_local_shape}
+use Rattle.jh_inst.specs.instances.Entries.{Entry, formulas}
+use Rattle.jh_inst.specs.instances.Instances.{is_ground, instances_of, normal_facts}
+use Rattle.jh_models.specs.interpretations.Instances.{is_local_atom, is_local_instance}
+use Rattle.jh_inst.specs.plain_formulas.Laws.{NormalIsPlain}
+use Rattle.jh_inst.specs.plain_formulas.Plain.{is_plain, are_literals}
 
 no : false ≡ true → ⊥
 no h = true≢false (sym h)

@@ -2,15 +2,15 @@
 use Rattle.std.proofs.Common.{◌≡◌, refl, sym, ap, ◌∙◌, ℕ, zero, suc, Bool, true, false, inl, inr, if◌then◌else◌, List, [], ◌∷◌, ◌++◌, take, length, Option, Some, Result, Ok, Err, IfOk, slice_get, subst}
 use Rattle.std.proofs.lemmas.Bool.{true≢false}
 use Rattle.std.proofs.lemmas.List.{map_push}
-use Rattle.jh_tree.specs.Tree.{FormulaTree, ValueTree, of_truth}
-use Rattle.jh_closure.proofs.Having.{has-pushed}
-use Rattle.jh_table.specs.Entries.{Listing, is_truth, the_truth}
-use Rattle.jh_closure.specs.Nodes.{Has}
-use Rattle.jh_trail.specs.Saying.{AreTruths, truths_at}
-use Rattle.jh_instances.specs.Entries.{Entry}
-use Rattle.jh_instances.specs.Instances.{is_ground, instances_of}
-use Rattle.jh_entries.specs.declared.entry.NodeEntry.{NodeEntry}
-use Rattle.jh_entries.specs.Standing.{IsEntry, AreEntries}
+use Rattle.jh_form.specs.Tree.{FormulaTree, ValueTree, of_truth}
+use Rattle.jh_closure.proofs.congruence_closure.Having.{has-pushed}
+use Rattle.jh_arena.specs.table.Entries.{Listing, is_truth, the_truth}
+use Rattle.jh_closure.specs.congruence_closure.Nodes.{Has}
+use Rattle.jh_propagation.specs.trail.Saying.{AreTruths, truths_at}
+use Rattle.jh_inst.specs.instances.Entries.{Entry}
+use Rattle.jh_inst.specs.instances.Instances.{is_ground, instances_of}
+use Rattle.jh_ground_input.specs.jh_instantiation.declared.instances.entry.NodeEntry.{NodeEntry}
+use Rattle.jh_ground_input.specs.jh_instantiation.instances.Standing.{IsEntry, AreEntries}
 
 some-same : {X : Type 0} (x y : X) → Some x ≡ Some y → x ≡ y
 some-same x y e = cc

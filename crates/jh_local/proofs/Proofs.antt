@@ -1,11 +1,11 @@
 -- A sequent of local shape whose instances have no ground model is valid.
 use Rattle.std.proofs.Common.{◌≡◌, ℕ, true}
-use Rattle.jh_sequent.specs.Sequents.{SequentTree, IsValid}
-use Rattle.jh_split.specs.Local.{is_local}
-use Rattle.jh_instances.specs.Instances.{is_free, made, instances, normal_facts}
-use Rattle.jh_instances.specs.Laws.{ClashingInstancesGiveValid, MadeIsLocal}
-use Rattle.jh_interpreted.specs.Laws.{NoModelGivesClash}
-use Rattle.jh_plain.specs.Laws.{InstancesAreLiterals, NormalIsPlain}
+use Rattle.jh_seq.specs.sequent.Sequents.{SequentTree, IsValid}
+use Rattle.jh_seq.specs.splitting.Local.{is_local}
+use Rattle.jh_inst.specs.instances.Instances.{is_free, made, instances, normal_facts}
+use Rattle.jh_inst.specs.instances.Laws.{ClashingInstancesGiveValid, MadeIsLocal}
+use Rattle.jh_models.specs.interpretations.Laws.{NoModelGivesClash}
+use Rattle.jh_inst.specs.plain_formulas.Laws.{InstancesAreLiterals, NormalIsPlain}
 use Rattle.jh_local.specs.Answers.{HasNoModel}
 use Rattle.jh_local.proofs.Locals.{facts-plain, locals}
 

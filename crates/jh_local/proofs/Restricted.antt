@@ -1,14 +1,14 @@
 -- A ground model of instances is one of some of them, once it is cut down to their atoms.
 use Rattle.std.proofs.Common.{◌≡◌, refl, sym, ap, ◌∙◌, subst, Bool, true, false, inl, inr, List, [], ◌∷◌, ◌++◌}
-use Rattle.jh_tree.specs.Tree.{FormulaTree}
-use Rattle.jh_tree.specs.Tree as t
-use Rattle.jh_structure.specs.Literals.{LiteralTree, IsListed, AreListed}
-use Rattle.jh_structure.proofs.Listed.{meets-listed, more-not-met}
-use Rattle.jh_models.specs.Atoms.{literal, StandsIn, IsGroundAtom, atom_of, atoms_of, ground_atoms}
-use Rattle.jh_models.specs.Truths.{IsDenied, IsTrue, AllTrue}
-use Rattle.jh_models.specs.GroundModel.{IsGroundModel, IsDecided, IsMet}
-use Rattle.jh_models.proofs.Opposites.{not-opposites}
-use Rattle.jh_models.proofs.Growing.{listed-more}
+use Rattle.jh_form.specs.Tree.{FormulaTree}
+use Rattle.jh_form.specs.Tree as t
+use Rattle.jh_closure.specs.structures.Literals.{LiteralTree, IsListed, AreListed}
+use Rattle.jh_closure.proofs.structures.Listed.{meets-listed, more-not-met}
+use Rattle.jh_models.specs.ground_models.Atoms.{literal, StandsIn, IsGroundAtom, atom_of, atoms_of, ground_atoms}
+use Rattle.jh_models.specs.ground_models.Truths.{IsDenied, IsTrue, AllTrue}
+use Rattle.jh_models.specs.ground_models.GroundModel.{IsGroundModel, IsDecided, IsMet}
+use Rattle.jh_models.proofs.ground_models.Opposites.{not-opposites}
+use Rattle.jh_models.proofs.ground_models.Growing.{listed-more}
 use Rattle.jh_local.specs.Answers.{HasNoModel}
 use Rattle.jh_local.proofs.Among.{AreAmong}
 use Rattle.jh_local.proofs.Grounds.{in-both}

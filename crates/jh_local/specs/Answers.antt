@@ -1,18 +1,18 @@
 -- What the ground search may say of a sequent of local shape.
 use Rattle.std.specs.Prelude.{◌≡◌, ◌<◌, ◌≤◌, ℕ, List, map, Option, None, Some}
-use Rattle.jh_tree.specs.Tree.{FormulaTree}
-use Rattle.jh_sequent.specs.Sequents.{SequentTree}
-use Rattle.jh_steps.specs.Steps.{steps_of}
-use Rattle.jh_steps.specs.Closes.{ClosesSequent}
-use Rattle.jh_deriving.specs.Nesting.{OperandsNestWithin}
-use Rattle.jh_structure.specs.declared.literal.Literal.{Literal}
-use Rattle.jh_structure.specs.Literals.{LiteralTree, literal_tree}
-use Rattle.jh_models.specs.Branches.{ClosedTree}
-use Rattle.jh_models.specs.Budget.{IsSpent}
-use Rattle.jh_models.specs.GroundModel.{IsGroundModel}
-use Rattle.jh_query.specs.Size.{capped}
-use Rattle.jh_instances.specs.Instances.{IsFirstFree, instances}
-use Rattle.jh_instances.specs.Count.{count}
+use Rattle.jh_form.specs.Tree.{FormulaTree}
+use Rattle.jh_seq.specs.sequent.Sequents.{SequentTree}
+use Rattle.jh_derivation_rules.specs.Steps.{steps_of}
+use Rattle.jh_derivation_rules.specs.Closes.{ClosesSequent}
+use Rattle.jh_instance_proofs.specs.derivations.Nesting.{OperandsNestWithin}
+use Rattle.jh_closure.specs.declared.structures.literal.Literal.{Literal}
+use Rattle.jh_closure.specs.structures.Literals.{LiteralTree, literal_tree}
+use Rattle.jh_models.specs.ground_models.Branches.{ClosedTree}
+use Rattle.jh_models.specs.ground_models.Budget.{IsSpent}
+use Rattle.jh_models.specs.ground_models.GroundModel.{IsGroundModel}
+use Rattle.jh_query.specs.queries.Size.{capped}
+use Rattle.jh_inst.specs.instances.Instances.{IsFirstFree, instances}
+use Rattle.jh_inst.specs.instances.Count.{count}
 use Rattle.jh_local.specs.declared.answer.Closed.{Closed}
 use Rattle.jh_local.specs.declared.answer.LocalCause.{LocalCause}
 use Rattle.jh_local.specs.declared.answer.LocalCause.TheVariants as cause

@@ -1,8 +1,8 @@
 -- What the ground search is for.
 use Rattle.std.specs.Prelude.{◌≡◌, ℕ, true}
-use Rattle.jh_sequent.specs.Sequents.{SequentTree, IsValid}
-use Rattle.jh_split.specs.Local.{is_local}
-use Rattle.jh_instances.specs.Instances.{is_free, instances}
+use Rattle.jh_seq.specs.sequent.Sequents.{SequentTree, IsValid}
+use Rattle.jh_seq.specs.splitting.Local.{is_local}
+use Rattle.jh_inst.specs.instances.Instances.{is_free, instances}
 use Rattle.jh_local.specs.Answers.{HasNoModel}
 
 -- A sequent of local shape is valid where its instances have no ground model.

@@ -1,9 +1,9 @@
 -- Literals whose atoms are formulas of a table.
 use Rattle.std.specs.Prelude.{◌≡◌, ℕ, true, List, Some, slice_get}
-use Rattle.jh_tree.specs.Tree.{ValueTree}
-use Rattle.jh_table.specs.Entries.{is_truth}
-use Rattle.jh_trail.specs.declared.decided.Decided.{Decided}
-use Rattle.jh_search.specs.declared.turn.ClosedBranch.{ClosedBranch}
+use Rattle.jh_form.specs.Tree.{ValueTree}
+use Rattle.jh_arena.specs.table.Entries.{is_truth}
+use Rattle.jh_propagation.specs.declared.trail.decided.Decided.{Decided}
+use Rattle.jh_instance_proofs.specs.jh_search.declared.turn.ClosedBranch.{ClosedBranch}
 
 abbrev pub AreFormulas : List ValueTree → List Decided → Type 0
 AreFormulas ts ds = (i : ℕ) (d : Decided) → slice_get ds i ≡ Some d → is_truth (slice_get ts d.atom) ≡ true

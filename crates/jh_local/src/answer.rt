@@ -1,6 +1,6 @@
+use jh_closure::structures::Literal;
+use jh_derivation_rules::Derivation;
 use jh_name::Row;
-use jh_steps::Derivation;
-use jh_structure::Literal;
 
 /// Literals of a branch, in the order in which they were found.
 #[derive(Drop)]

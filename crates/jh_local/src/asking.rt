@@ -1,34 +1,36 @@
 ghost use Rattle.std.specs.Prelude.{◌≡◌, ◌<◌, ◌≤◌, ℕ, List, true, IfErr, IfOk};
 ghost use Rattle.std.specs.List.{list_all};
-ghost use Rattle.jh_table.specs.Nodes.{nodes};
-ghost use Rattle.jh_tree.specs.Tree.{FormulaTree};
-ghost use Rattle.jh_sequent.specs.Sequents.{SequentTree};
-ghost use Rattle.jh_localized.specs.Forming.{IsFormed};
-ghost use Rattle.jh_propagating.specs.Problems.{IsProblem, instances_in};
-ghost use Rattle.jh_search.specs.Outcomes.{IsFound};
-ghost use Rattle.jh_apart.specs.Standing.{IsPosed};
-ghost use Rattle.jh_instances.specs.Entries.{Entry};
-ghost use Rattle.jh_instances.specs.Instances.{instances_of};
-ghost use Rattle.jh_plain.specs.Plain.{are_literals};
-ghost use Rattle.jh_instances.specs.Rounds as spec;
-ghost use Rattle.jh_entries.specs.Progressing.{IsProgress};
-ghost use Rattle.jh_entries.specs.Standing.{IsMade};
+ghost use Rattle.jh_arena.specs.table.Nodes.{nodes};
+ghost use Rattle.jh_form.specs.Tree.{FormulaTree};
+ghost use Rattle.jh_seq.specs.sequent.Sequents.{SequentTree};
+ghost use Rattle.jh_ground_input.specs.jh_local_form.local_sequents.Forming.{IsFormed};
+ghost use Rattle.jh_propagation.specs.propagation.Problems.{IsProblem, instances_in};
+ghost use Rattle.jh_instance_proofs.specs.jh_search.Outcomes.{IsFound};
+ghost use Rattle.jh_ground_input.specs.Standing.{IsPosed};
+ghost use Rattle.jh_inst.specs.instances.Entries.{Entry};
+ghost use Rattle.jh_inst.specs.instances.Instances.{instances_of};
+ghost use Rattle.jh_inst.specs.plain_formulas.Plain.{are_literals};
+ghost use Rattle.jh_inst.specs.instances.Rounds as spec;
+ghost use Rattle.jh_ground_input.specs.jh_instantiation.instances.Progressing.{IsProgress};
+ghost use Rattle.jh_ground_input.specs.jh_instantiation.instances.Standing.{IsMade};
 ghost use Rattle.jh_local.specs.Answers.{HasNoModel, IsDerived, IsOutcome, IsSearched, IsSearchedFor};
 
 use crate::answer::{Branch, LocalCause, Searched};
 use crate::boxing::{boxed_branches, boxed_trail};
 use crate::posing::posed;
-use jh_apart::{Apart, facts_apart};
-use jh_cong::Classes;
-use jh_deriving::derived;
-use jh_entries::{InstanceError, NodeEntries, Progress, first_entries, last_entries};
-use jh_localized::LocalForm;
+use jh_arena::table::Table;
+use jh_derivation_rules::Derivation;
+use jh_ground_input::jh_instantiation::instances::{
+    InstanceError, NodeEntries, Progress, first_entries, last_entries,
+};
+use jh_ground_input::jh_local_form::local_sequents::LocalForm;
+use jh_ground_input::{Apart, facts_apart};
+use jh_inst::plain_formulas::{instances_are_literals, normal_is_plain};
+use jh_instance_proofs::derivations::derived;
+use jh_instance_proofs::jh_search::{Found, Searching, search, start_search};
+use jh_models::jh_cong::classes::Classes;
 use jh_name::NoMemory;
-use jh_plain::{instances_are_literals, normal_is_plain};
-use jh_propagating::Problem;
-use jh_search::{Found, Searching, search, start_search};
-use jh_steps::Derivation;
-use jh_table::Table;
+use jh_propagation::propagation::Problem;
 
 /// Why the instances of a problem aren't shown to have no ground model, where this was found. There is no cause where they have none.
 fn cause_of(

@@ -1,22 +1,22 @@
 ghost use Rattle.std.specs.Prelude.{◌≡◌, ◌<◌, List, map, length, true, Some, IfOk, OnOk, slice_get};
-ghost use Rattle.jh_tree.specs.Tree.{FormulaTree};
-ghost use Rattle.jh_table.specs.Entries.{is_truth};
-ghost use Rattle.jh_table.specs.Nodes.{nodes};
-ghost use Rattle.jh_structure.specs.Literals.{literal_tree};
-ghost use Rattle.jh_trail.specs.Saying.{literal_tree_at, literals_at};
-ghost use Rattle.jh_trail.specs.declared.decided.Decided.{Decided};
-ghost use Rattle.jh_search.specs.Paths.{all_closed, closed_at};
-ghost use Rattle.jh_search.specs.declared.turn.ClosedBranch.{ClosedBranch};
+ghost use Rattle.jh_form.specs.Tree.{FormulaTree};
+ghost use Rattle.jh_arena.specs.table.Entries.{is_truth};
+ghost use Rattle.jh_arena.specs.table.Nodes.{nodes};
+ghost use Rattle.jh_closure.specs.structures.Literals.{literal_tree};
+ghost use Rattle.jh_propagation.specs.trail.Saying.{literal_tree_at, literals_at};
+ghost use Rattle.jh_propagation.specs.declared.trail.decided.Decided.{Decided};
+ghost use Rattle.jh_instance_proofs.specs.jh_search.Paths.{all_closed, closed_at};
+ghost use Rattle.jh_instance_proofs.specs.jh_search.declared.turn.ClosedBranch.{ClosedBranch};
 ghost use Rattle.jh_local.specs.Answers.{closed_tree, closed_trees, literal_trees};
 ghost use Rattle.jh_local.specs.Standing.{AreFormulas, EachFormulas};
 
 use crate::answer::Closed;
+use jh_arena::table::Table;
+use jh_closure::structures::Literal;
+use jh_export::boxed_formula;
+use jh_instance_proofs::jh_search::ClosedBranch;
 use jh_name::{NoMemory, Row};
-use jh_search::ClosedBranch;
-use jh_structure::Literal;
-use jh_table::Table;
-use jh_trail::{Decided, Trail};
-use jh_value::boxed_formula;
+use jh_propagation::trail::{Decided, Trail};
 
 /// A literal with its atom boxed.
 fn boxed(table: &Table, literal: Decided) -> Result<Literal, NoMemory>

@@ -1,6 +1,10 @@
 //! What the ground search says of a sequent of local shape.
 #![tactic(auto)]
 
+pub use jh_ground_input::{
+    jh_abstraction, jh_fca, jh_instantiation, jh_local_form, jh_query_names,
+};
+
 mod answer;
 mod asking;
 mod boxing;

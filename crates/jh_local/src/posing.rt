@@ -1,21 +1,21 @@
 ghost use Rattle.std.specs.Prelude.{◌≡◌, ◌<◌, ◌++◌, ◌∷◌, [], List, length, true, if◌then◌else◌, Some, IfOk, OnOk, slice_get};
 ghost use Rattle.std.specs.List.{list_all};
-ghost use Rattle.jh_tree.specs.Tree.{FormulaTree};
-ghost use Rattle.jh_table.specs.Entries.{is_truth};
-ghost use Rattle.jh_table.specs.Nodes.{nodes};
-ghost use Rattle.jh_witnesses.specs.Standing.{IsFormula};
-ghost use Rattle.jh_trail.specs.Saying.{AreTruths, truths_at};
-ghost use Rattle.jh_instances.specs.Entries.{Entry};
-ghost use Rattle.jh_instances.specs.Instances.{is_ground, instances_of};
-ghost use Rattle.jh_plain.specs.Plain.{are_literals};
-ghost use Rattle.jh_entries.specs.Standing.{IsMade};
-ghost use Rattle.jh_propagating.specs.Problems.{IsProblem, instances_in};
+ghost use Rattle.jh_form.specs.Tree.{FormulaTree};
+ghost use Rattle.jh_arena.specs.table.Entries.{is_truth};
+ghost use Rattle.jh_arena.specs.table.Nodes.{nodes};
+ghost use Rattle.jh_ground_input.specs.jh_instantiation.skolem_constants.Standing.{IsFormula};
+ghost use Rattle.jh_propagation.specs.trail.Saying.{AreTruths, truths_at};
+ghost use Rattle.jh_inst.specs.instances.Entries.{Entry};
+ghost use Rattle.jh_inst.specs.instances.Instances.{is_ground, instances_of};
+ghost use Rattle.jh_inst.specs.plain_formulas.Plain.{are_literals};
+ghost use Rattle.jh_ground_input.specs.jh_instantiation.instances.Standing.{IsMade};
+ghost use Rattle.jh_propagation.specs.propagation.Problems.{IsProblem, instances_in};
 
-use jh_entries::{NodeEntries, NodeEntry};
+use jh_arena::table::Table;
+use jh_ground_input::jh_instantiation::instances::{NodeEntries, NodeEntry};
+use jh_ground_input::jh_instantiation::skolem_constants::is_ground;
 use jh_name::NoMemory;
-use jh_propagating::{Problem, pose};
-use jh_table::Table;
-use jh_witnesses::is_ground;
+use jh_propagation::propagation::{Problem, pose};
 
 /// The entry at a place.
 fn entry_at(entries: &NodeEntries, place: usize) -> NodeEntry

@@ -1,18 +1,1 @@
-pub mod Among
-pub mod PartNames
-mod DroppedNames
-mod Holding
-mod Described
-pub mod Naming
-mod NamedClosed
-mod Chained
-mod Sound
-mod Bare
-mod Opens
-mod CutShapes
-mod PartsWithin
-mod Spines
-mod AxiomShapes
-pub mod Shaped
-mod Examples
-mod Worked
+pub use Rattle.jh_abstraction.proofs.of_jh_query_names as of_jh_query_names

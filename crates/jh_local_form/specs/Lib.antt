@@ -1,6 +1,6 @@
-pub mod Each
-pub mod Chosen
-pub mod Named
-pub mod Chains
-pub mod LocalOf
-pub mod Laws
+pub mod field_lists
+pub mod local_sequents
+pub mod updates
+pub use Rattle.jh_abstraction.specs as jh_abstraction
+pub use Rattle.jh_fca.specs as jh_fca
+pub use Rattle.jh_abstraction.specs.jh_query_names as jh_query_names

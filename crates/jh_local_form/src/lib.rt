@@ -1,6 +1,10 @@
-//! The local form of a sequent: what the local prover decides in its place.
+//! The local form of a sequent, over nodes.
 #![tactic(auto)]
 
-mod laws;
+pub mod field_lists;
+pub mod local_sequents;
+pub mod updates;
 
-pub use laws::{local_has_shape, local_is_valid};
+pub use jh_abstraction;
+pub use jh_abstraction::jh_query_names;
+pub use jh_fca;

@@ -1,5 +1,5 @@
-pub mod Reached
-pub mod Histories
-pub mod Sure
-pub mod MethodContracts
-pub mod Laws
+pub mod logic
+pub mod source
+pub mod text
+pub use Rattle.jh_guard.specs as jh_guard
+pub use Rattle.jh_parse.specs as jh_parse

@@ -1,6 +1,8 @@
-//! Valid formulas make programs sound.
+//! The soundness of the program logic: of code, of sources, of texts.
 #![tactic(auto)]
 
-mod laws;
+pub mod logic;
+pub mod source;
+pub mod text;
 
-pub use laws::valid_makes_sound;
+pub use jh_parse;

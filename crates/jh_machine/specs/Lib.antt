@@ -1,1 +1,5 @@
-pub mod Machines
+pub mod continuation
+pub mod ghosts
+pub mod locals
+pub mod machine
+pub mod slots

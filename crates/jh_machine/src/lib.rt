@@ -1,14 +1,9 @@
-//! Where a run stands, and the statements that have no statement in them.
+//! The machine of a run: what is to be done, and each statement without statements in it.
 #![tactic(auto)]
 
-mod asking;
-mod ghost_steps;
-mod machine;
-mod new_objects;
-mod prepared;
-
-pub use asking::ask;
-pub use ghost_steps::{ghost_at, ghost_step};
-pub use machine::{Machine, pay};
-pub use new_objects::make;
-pub use prepared::Prepared;
+pub mod continuation;
+pub mod ghosts;
+pub mod locals;
+pub mod machine;
+pub mod slots;
+pub mod writes;

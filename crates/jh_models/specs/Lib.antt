@@ -1,10 +1,4 @@
-pub mod Atoms
-pub mod Truths
-pub mod GroundModel
-pub mod Clashes
-pub mod Fixpoints
-pub mod Explanations
-pub mod Branches
-pub mod Budget
-pub mod Making
-pub mod Laws
+pub mod backjumping
+pub mod ground_models
+pub mod interpretations
+pub mod shortening

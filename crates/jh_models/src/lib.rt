@@ -1,10 +1,10 @@
-//! Ground models of instances, and what literals decide: definitions, and their laws.
+//! Ground models, propagation and search, as definitions.
 #![tactic(auto)]
 
-mod laws;
+pub mod backjumping;
+pub mod ground_models;
+pub mod interpretations;
+pub mod shortening;
 
-pub use laws::{
-    clash_is_sound, explained_is_closed, fixpoint_is_open, models_hold_propagated,
-    propagation_grows, propagation_is_sound, spent_is_below, spent_is_open,
-    whole_fixpoint_is_model,
-};
+pub use jh_cong;
+pub use jh_derivation_rules::jh_import;

@@ -4,6 +4,7 @@
 mod making;
 mod memory;
 mod naming;
+pub mod options;
 mod place;
 mod row;
 mod text;

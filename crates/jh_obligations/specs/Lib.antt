@@ -1,5 +1,5 @@
-pub mod Faults
-pub mod Owing
-pub mod Owed
-pub mod Sources
-pub mod Laws
+pub mod command_sequents
+pub mod program_sequents
+pub use Rattle.jh_arena.specs as jh_arena
+pub use Rattle.jh_outline.specs.jh_guard as jh_guard
+pub use Rattle.jh_outline.specs.jh_parse as jh_parse

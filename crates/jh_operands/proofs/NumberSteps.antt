@@ -5,9 +5,9 @@ use Rattle.std.specs.declared.alloc.Global.{Global}
 use Rattle.std.specs.declared.boxed.Box.{Box}
 use Rattle.jh_name.specs.declared.naming.Name.{Name}
 use Rattle.jh_name.specs.declared.place.Place.{Place}
-use Rattle.jh_runs.specs.Code as c
-use Rattle.jh_runs.specs.State.{State, named}
-use Rattle.jh_runs.specs.Values.{Value, value, null_at, then_value, both_values, read_at, object_of, number_of}
+use Rattle.jh_semantics.specs.Code as c
+use Rattle.jh_semantics.specs.State.{State, named}
+use Rattle.jh_semantics.specs.Values.{Value, value, null_at, then_value, both_values, read_at, object_of, number_of}
 use Rattle.jh_operands.specs.declared.fault.Fault.{Fault}
 use Rattle.jh_operands.specs.declared.fault.Fault.TheVariants as f
 use Rattle.jh_operands.specs.declared.exprs.ObjectExpr.{ObjectExpr}

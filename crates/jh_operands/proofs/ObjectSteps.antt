@@ -5,10 +5,10 @@ use Rattle.std.specs.declared.boxed.Box.{Box}
 use Rattle.std.proofs.lemmas.Option.{slice_get_within}
 use Rattle.jh_name.specs.declared.naming.Name.{Name}
 use Rattle.jh_name.specs.declared.place.Place.{Place}
-use Rattle.jh_runs.specs.Code.{ObjectCode}
-use Rattle.jh_runs.specs.Code as c
-use Rattle.jh_runs.specs.State.{State, named, this_name}
-use Rattle.jh_runs.specs.Values.{Value, value, null_at, then_value, dereferenced, object_of, read_at}
+use Rattle.jh_semantics.specs.Code.{ObjectCode}
+use Rattle.jh_semantics.specs.Code as c
+use Rattle.jh_semantics.specs.State.{State, named, this_name}
+use Rattle.jh_semantics.specs.Values.{Value, value, null_at, then_value, dereferenced, object_of, read_at}
 use Rattle.jh_operands.specs.declared.fault.Fault.{Fault}
 use Rattle.jh_operands.specs.declared.fault.Fault.TheVariants as f
 use Rattle.jh_operands.specs.declared.exprs.ObjectExpr.{ObjectExpr}

@@ -1,9 +1,9 @@
 -- What the values of expressions of any type cite.
 use Rattle.std.proofs.Common.{◌≡◌, sym, ap, subst, ◌∙◌, ℕ, ℤ, Bool, List}
 use Rattle.jh_name.specs.declared.naming.Name.{Name}
-use Rattle.jh_tree.specs.Meaning as m
-use Rattle.jh_runs.specs.State.{State}
-use Rattle.jh_runs.specs.Values.{value, then_value, object_of, number_of, truth_of, value_of}
+use Rattle.jh_form.specs.Meaning as m
+use Rattle.jh_semantics.specs.State.{State}
+use Rattle.jh_semantics.specs.Values.{value, then_value, object_of, number_of, truth_of, value_of}
 use Rattle.jh_operands.specs.declared.fault.Fault.{Fault}
 use Rattle.jh_operands.specs.declared.fault.Fault.TheVariants as f
 use Rattle.jh_operands.specs.declared.exprs.ObjectExpr.{ObjectExpr}

@@ -1,9 +1,9 @@
--- Which expression of `jh_runs` one over numbers of names is, and that its numbers are those of names at turn 0.
+-- Which expression of `jh_semantics` one over numbers of names is, and that its numbers are those of names at turn 0.
 use Rattle.std.specs.Prelude.{◌≡◌, ℕ, List, [], Some, slice_get}
 use Rattle.std.specs.Option.{option_map_or}
 use Rattle.jh_name.specs.declared.naming.Name.{Name}
-use Rattle.jh_runs.specs.Code as c
-use Rattle.jh_runs.specs.State.{named, this_name}
+use Rattle.jh_semantics.specs.Code as c
+use Rattle.jh_semantics.specs.State.{named, this_name}
 use Rattle.jh_operands.specs.declared.exprs.ObjectExpr.{ObjectExpr}
 use Rattle.jh_operands.specs.declared.exprs.ObjectExpr.TheVariants as x
 use Rattle.jh_operands.specs.declared.exprs.NumberExpr.{NumberExpr}

@@ -2,10 +2,10 @@
 use Rattle.std.specs.Prelude.{◌≡◌, ◌⊎◌, ℕ, zero, suc, ℤ, true, false, FitsSigned}
 use Rattle.std.specs.Int.{w64}
 use Rattle.jh_name.specs.declared.place.Place.{Place}
-use Rattle.jh_runs.specs.Code.{ObjectCode, NumberCode, TruthCode, AnyCode}
-use Rattle.jh_runs.specs.Code as c
-use Rattle.jh_runs.specs.State.{State}
-use Rattle.jh_runs.specs.Values.{Value, value, null_at, then_value, dereferenced, object_of, number_of, truth_of, value_of}
+use Rattle.jh_semantics.specs.Code.{ObjectCode, NumberCode, TruthCode, AnyCode}
+use Rattle.jh_semantics.specs.Code as c
+use Rattle.jh_semantics.specs.State.{State}
+use Rattle.jh_semantics.specs.Values.{Value, value, null_at, then_value, dereferenced, object_of, number_of, truth_of, value_of}
 use Rattle.jh_operands.specs.declared.fault.Fault.{Fault}
 use Rattle.jh_operands.specs.declared.fault.Fault.TheVariants as f
 

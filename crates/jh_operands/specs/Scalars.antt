@@ -1,6 +1,6 @@
 -- What a value of code is among those of all sorts, and that it is in a universe.
 use Rattle.std.specs.Prelude.{ℕ, suc, ◌<◌}
-use Rattle.jh_tree.specs.Meaning.{Datum, an_object, a_number, a_truth}
+use Rattle.jh_form.specs.Meaning.{Datum, an_object, a_number, a_truth}
 use Rattle.jh_operands.specs.declared.values.Scalar.{Scalar}
 use Rattle.jh_operands.specs.declared.values.Scalar.TheVariants as v
 

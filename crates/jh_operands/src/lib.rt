@@ -1,6 +1,8 @@
 //! Expressions of code over the numbers of names, and their values in the memory of a run.
 #![tactic(auto)]
 
+pub use jh_store;
+
 mod exprs;
 mod fault;
 mod numbers;

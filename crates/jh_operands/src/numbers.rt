@@ -1,7 +1,7 @@
 ghost use Rattle.std.specs.Prelude.{◌≡◌, ◌+ℤ◌, ◌-ℤ◌, ◌*ℤ◌, neg_ℤ, IfOk, IfErr, FitsSigned};
 ghost use Rattle.std.specs.Int.{w64};
-ghost use Rattle.jh_runs.specs.Values.{value, number_of};
-ghost use Rattle.jh_memory.specs.Held.{state_of};
+ghost use Rattle.jh_semantics.specs.Values.{value, number_of};
+ghost use Rattle.jh_store.specs.memory.Held.{state_of};
 ghost use Rattle.jh_operands.specs.declared.fault.Fault.TheVariants.{Overflow};
 ghost use Rattle.jh_operands.specs.Exprs.{number_in, NumberFits};
 ghost use Rattle.jh_operands.specs.Faults.{NumberFault, TwoFault};
@@ -10,8 +10,8 @@ use crate::exprs::NumberExpr;
 use crate::fault::Fault;
 use crate::objects::receiver_value;
 use crate::reads;
-use jh_memory::Memory;
 use jh_name::Place;
+use jh_store::memory::Memory;
 
 /// The sum of two numbers.
 fn added(place: Place, left: &i64, right: &i64) -> Result<i64, Fault>

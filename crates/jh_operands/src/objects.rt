@@ -1,6 +1,6 @@
 ghost use Rattle.std.specs.Prelude.{◌≡◌, ◌<◌, suc, List, IfOk, IfErr};
-ghost use Rattle.jh_runs.specs.Values.{value, object_of, dereferenced};
-ghost use Rattle.jh_memory.specs.Held.{state_of};
+ghost use Rattle.jh_semantics.specs.Values.{value, object_of, dereferenced};
+ghost use Rattle.jh_store.specs.memory.Held.{state_of};
 ghost use Rattle.jh_name.specs.declared.naming.Name.{Name};
 ghost use Rattle.jh_operands.specs.Exprs.{object_in, ObjectFits};
 ghost use Rattle.jh_operands.specs.Faults.{IsFault, Never, ObjectFault, ReceiverFault, receiver_of, unless_null};
@@ -8,8 +8,8 @@ ghost use Rattle.jh_operands.specs.Faults.{IsFault, Never, ObjectFault, Receiver
 use crate::exprs::ObjectExpr;
 use crate::fault::Fault;
 use crate::reads;
-use jh_memory::Memory;
 use jh_name::Place;
+use jh_store::memory::Memory;
 
 /// An object, or a fault where it is null.
 fn not_null(place: Place, object: u32) -> Result<u32, Fault>

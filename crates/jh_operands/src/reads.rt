@@ -4,9 +4,9 @@
 
 ghost use Rattle.std.specs.Prelude.{◌≡◌, ◌<◌, suc};
 ghost use Rattle.jh_name.specs.declared.naming.Name.{Name};
-ghost use Rattle.jh_memory.specs.Held.{state_of, IsNamed};
+ghost use Rattle.jh_store.specs.memory.Held.{state_of, IsNamed};
 
-use jh_memory::Memory;
+use jh_store::memory::Memory;
 
 pub(crate) fn object(memory: &Memory<'_>, name: usize) -> u32
     ensures value { (x : Name) → IsNamed memory.now name x → result ≡ (state_of memory.now).object x }

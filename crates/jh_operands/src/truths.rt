@@ -1,8 +1,8 @@
 ghost use Rattle.std.specs.Prelude.{◌≡◌, ◌==◌, not, int_lt, int_le, IfOk, IfErr};
 ghost use Rattle.std.specs.Ordering.{int_eq};
-ghost use Rattle.jh_tree.specs.Meaning.{agree};
-ghost use Rattle.jh_runs.specs.Values.{value, object_of, truth_of};
-ghost use Rattle.jh_memory.specs.Held.{state_of};
+ghost use Rattle.jh_form.specs.Meaning.{agree};
+ghost use Rattle.jh_semantics.specs.Values.{value, object_of, truth_of};
+ghost use Rattle.jh_store.specs.memory.Held.{state_of};
 ghost use Rattle.jh_operands.specs.Exprs.{object_in, truth_in, ObjectFits, TruthFits};
 ghost use Rattle.jh_operands.specs.Faults.{TruthFault, TwoObjectFault};
 
@@ -11,7 +11,7 @@ use crate::fault::Fault;
 use crate::numbers::two_numbers;
 use crate::objects::{object_value, receiver_value};
 use crate::reads;
-use jh_memory::Memory;
+use jh_store::memory::Memory;
 
 /// The values of two expressions for objects, from the left.
 #[tactic(auto, using(crate::proofs::TruthSteps::pair_steps))]

@@ -1,8 +1,8 @@
 #![tactic(auto, using(crate::proofs::ValueSteps::value_steps))]
 
 ghost use Rattle.std.specs.Prelude.{◌≡◌, ◌<◌, suc, IfOk, IfErr};
-ghost use Rattle.jh_runs.specs.Values.{value, value_of};
-ghost use Rattle.jh_memory.specs.Held.{state_of};
+ghost use Rattle.jh_semantics.specs.Values.{value, value_of};
+ghost use Rattle.jh_store.specs.memory.Held.{state_of};
 ghost use Rattle.jh_operands.specs.Exprs.{any_in, AnyFits};
 ghost use Rattle.jh_operands.specs.Faults.{AnyFault};
 ghost use Rattle.jh_operands.specs.Scalars.{datum_of, IsInside};
@@ -12,7 +12,7 @@ use crate::fault::Fault;
 use crate::numbers::number_value;
 use crate::objects::object_value;
 use crate::truths::truth_value;
-use jh_memory::Memory;
+use jh_store::memory::Memory;
 
 /// A value of code: an object, a number or a truth.
 #[derive(Clone, Copy, PartialEq, Eq)]

@@ -1,8 +1,13 @@
-//! The outline of a program: all that the commands of its methods are made from.
+//! The outline of a program, made from its source.
 #![tactic(auto)]
 
-mod draft;
-mod framing;
-mod listing;
+pub mod declarations;
+pub mod outline;
 
-pub use draft::{Declared, Draft, Tabled, draft_of};
+pub use jh_effects;
+pub use jh_effects::{jh_type, jh_unfolding};
+pub use jh_logic;
+pub use jh_logic::jh_parse;
+pub use jh_lowering;
+pub use jh_method_commands;
+pub use jh_symbols;

@@ -1,6 +1,3 @@
-pub mod Literals
-pub mod Members
-pub mod MemberReading
-pub mod MemberReads
-pub mod Parsed
-pub mod Separated
+pub mod expressions
+pub mod programs
+pub mod statements

@@ -1,14 +1,2 @@
-pub mod Tree
-pub mod Bare
-pub mod Sizing
-pub mod Truth
-pub mod Fitting
-pub mod Linear
-pub mod Comparing
-pub mod Same
-pub mod Size
-pub mod Sides
-pub mod Later
-pub mod Tallies
-pub mod Linearity
-pub mod Named
+pub mod partial_truth
+pub mod queries

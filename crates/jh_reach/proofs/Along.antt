@@ -1,12 +1,12 @@
 -- Formulas about a list of fields without loose bound variables, as facts about the values of the fields.
 use Rattle.std.proofs.Common.{◌≡◌, refl, sym, ap, ◌∙◌, ℕ, zero, suc, ◌<◌, ◌≢◌, true, List, [], ◌∷◌, map, slice_get, slice_index, Some, length, arith}
 use Rattle.std.proofs.lemmas.Bool.{eqb-true, eq-eqb}
-use Rattle.jh_tree.specs.Tree.{TermTree, FieldTree, FormulaTree, FieldTrees, of_object}
-use Rattle.jh_tree.specs.Tree as t
-use Rattle.jh_tree.specs.Closed.{is_closed_term, is_closed_field}
-use Rattle.jh_tree.specs.Meaning.{Fields, Interp, InUniverse, reaches, is_forest, edge, term_value, field_value, fields_value, truth}
-use Rattle.jh_tree.proofs.ClosedLemmas.{term_value-closed, field_value-closed}
-use Rattle.jh_tree.proofs.Universes.{term_inside, field_inside}
+use Rattle.jh_form.specs.Tree.{TermTree, FieldTree, FormulaTree, FieldTrees, of_object}
+use Rattle.jh_form.specs.Tree as t
+use Rattle.jh_form.specs.Closed.{is_closed_term, is_closed_field}
+use Rattle.jh_form.specs.Meaning.{Fields, Interp, InUniverse, reaches, is_forest, edge, term_value, field_value, fields_value, truth}
+use Rattle.jh_form.proofs.ClosedLemmas.{term_value-closed, field_value-closed}
+use Rattle.jh_form.proofs.Universes.{term_inside, field_inside}
 use Rattle.jh_reach.specs.Axioms.{listed, child, differ, way, forest, ends_at_null, end_at_null}
 use Rattle.jh_reach.specs.Truths.{AreClosed}
 use Rattle.jh_reach.proofs.Paths.{Reaches, StayInside, EndAtNull}

@@ -2,15 +2,15 @@
 use Rattle.std.proofs.Common.{◌≡◌, refl, sym, ap, ◌∙◌, subst, ℕ, zero, suc, true, List, [], ◌∷◌, ◌++◌, slice_get, Option, Some, None}
 use Rattle.std.specs.Prelude.{slice_set}
 use Rattle.std.proofs.lemmas.List.{append-nil}
-use Rattle.jh_tree.specs.Tree.{FieldTree, FormulaTree, of_object, of_field, of_truth}
-use Rattle.jh_table.specs.Entries.{Listing, are_fields}
-use Rattle.jh_table.specs.Growth.{Extends}
-use Rattle.jh_table.specs.Nodes.{nodes}
+use Rattle.jh_form.specs.Tree.{FieldTree, FormulaTree, of_object, of_field, of_truth}
+use Rattle.jh_arena.specs.table.Entries.{Listing, are_fields}
+use Rattle.jh_arena.specs.table.Growth.{Extends}
+use Rattle.jh_arena.specs.table.Nodes.{nodes}
 use Rattle.jh_reach.specs.declared.backbones.Base.{Base}
 use Rattle.jh_reach.specs.Axioms.{BaseTree, BackboneTree, axioms_of_list, axioms_of_base, axioms_of, axiom_of_update}
 use Rattle.jh_reach.specs.Standing.{AreFields, AreFormulas, fields_in}
 use Rattle.jh_reach.specs.Based.{IsSorted, IsThere, IsSortedBase, IsBaseAt}
-use Rattle.jh_ways.proofs.NodeSteps.{holds-field, holds-object}
+use Rattle.jh_path_formulas.proofs.NodeSteps.{holds-field, holds-object}
 use Rattle.jh_reach.proofs.Standings.{fields-are, fields-there, formulas-push, formulas-as}
 
 -- another member at a place

@@ -2,7 +2,7 @@
 use Rattle.std.proofs.Common.{◌≡◌, sym, ◌∙◌, subst, ℕ, zero, suc, ◌<◌, ◌≢◌, List, length, inl, inr, arith}
 use Rattle.std.specs.Prelude.{◌⊎◌}
 use Rattle.std.proofs.lemmas.Bool.{cases_eq}
-use Rattle.jh_tree.specs.Meaning.{Fields, edge}
+use Rattle.jh_form.specs.Meaning.{Fields, edge}
 use Rattle.jh_reach.proofs.Paths.{Path, Reaches, StayInside, EndAtNull, reach-step, reach-joined, reach-same, not-null}
 use Rattle.jh_reach.proofs.Forests.{Forest, one-edge}
 

@@ -1,8 +1,8 @@
 -- How many numbers below a bound pass a test: all of them where as many pass, and more of them where one more passes.
 use Rattle.std.proofs.Common.{◌≡◌, refl, sym, ℕ, zero, suc, ◌<◌, ◌≤◌, Bool, true, false, ◌&&◌, if◌then◌else◌, inl, inr, arith}
 use Rattle.std.proofs.lemmas.Bool.{or_cases, or_left, or_right, cases_eq, true≢false}
-use Rattle.jh_tree.specs.Meaning.{any_below, all_below, count_below}
-use Rattle.jh_tree.proofs.ClosedLemmas.{both-left, both-right}
+use Rattle.jh_form.specs.Meaning.{any_below, all_below, count_below}
+use Rattle.jh_form.proofs.ClosedLemmas.{both-left, both-right}
 
 pub any-below : (n : ℕ) (p : ℕ → Bool) → any_below n p ≡ true → (x : ℕ) × (x < n) × (p x ≡ true)
 any-below zero p h = absurd (cc)

@@ -5,14 +5,14 @@ use Rattle.std.proofs.lemmas.List.{take_all, append-nil, map-append}
 use Rattle.std.proofs.lemmas.List.Concat.{flat_map-append}
 use Rattle.std.proofs.lemmas.Option.{slice_get_read, slice_get-get_or}
 use Rattle.jh_name.specs.declared.naming.Name.{Name}
-use Rattle.jh_tree.specs.declared.form.Formula.{Formula}
-use Rattle.jh_tree.specs.Bare.{term_tree, formula_tree}
-use Rattle.jh_tree.specs.Tree.{TermTree, FieldTree, FormulaTree, ValueTree, free_field, of_object, of_field}
-use Rattle.jh_tree.proofs.ClosedLemmas.{both-left, both-right}
-use Rattle.jh_table.specs.Entries.{Listing, is_truth, the_truth}
-use Rattle.jh_table.specs.Growth.{Extends}
-use Rattle.jh_table.specs.Nodes.{nodes}
-use Rattle.jh_make.specs.Joined.{are_truths, truths_at}
+use Rattle.jh_form.specs.declared.form.Formula.{Formula}
+use Rattle.jh_form.specs.Bare.{term_tree, formula_tree}
+use Rattle.jh_form.specs.Tree.{TermTree, FieldTree, FormulaTree, ValueTree, free_field, of_object, of_field}
+use Rattle.jh_form.proofs.ClosedLemmas.{both-left, both-right}
+use Rattle.jh_arena.specs.table.Entries.{Listing, is_truth, the_truth}
+use Rattle.jh_arena.specs.table.Growth.{Extends}
+use Rattle.jh_arena.specs.table.Nodes.{nodes}
+use Rattle.jh_arena.specs.makers.Joined.{are_truths, truths_at}
 use Rattle.jh_reach.specs.declared.reaching.Backbone.{Backbone}
 use Rattle.jh_reach.specs.declared.reaching.NameBase.{NameBase}
 use Rattle.jh_reach.specs.Axioms.{axioms_of}
@@ -20,7 +20,7 @@ use Rattle.jh_reach.specs.Named.{named_fields, base_tree, backbone_tree}
 use Rattle.jh_reach.specs.declared.backbones.Base.{Base}
 use Rattle.jh_reach.specs.Based.{IsSortedBase, IsBaseAt}
 use Rattle.jh_reach.specs.Standing.{AreFields, AreFormulas}
-use Rattle.jh_ways.proofs.NodeSteps.{holds-field, holds-object}
+use Rattle.jh_path_formulas.proofs.NodeSteps.{holds-field, holds-object}
 use Rattle.jh_reach.proofs.Standings.{fields-grow, formulas-grow, formulas-append, formulas-as, map-more}
 
 fields-append : (t : Listing) (ns ms : List ℕ) (fs gs : List FieldTree) → AreFields t ns fs → AreFields t ms gs → AreFields t (ns ++ ms) (fs ++ gs)

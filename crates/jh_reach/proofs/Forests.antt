@@ -4,8 +4,8 @@ use Rattle.std.proofs.Common.{◌≡◌, sym, ap, ◌∙◌, subst, ℕ, zero, s
 use Rattle.std.specs.Prelude.{◌⊎◌}
 use Rattle.std.specs.List.{list_all}
 use Rattle.std.proofs.lemmas.Bool.{or_cases, eqb-true, eq-eqb, not-true, true≢false}
-use Rattle.jh_tree.specs.Meaning.{Fields, edge, reaches, every, all_below, no_cycle, no_sharing, is_forest}
-use Rattle.jh_tree.proofs.ClosedLemmas.{both-left, both-right}
+use Rattle.jh_form.specs.Meaning.{Fields, edge, reaches, every, all_below, no_cycle, no_sharing, is_forest}
+use Rattle.jh_form.proofs.ClosedLemmas.{both-left, both-right}
 use Rattle.jh_reach.proofs.Counts.{all-below}
 use Rattle.jh_reach.proofs.Paths.{Path, Reaches, StayInside, EndAtNull, all-edge, reach-step, path-last, path-inside, not-null}
 use Rattle.jh_reach.proofs.Shortening.{reach-true}

@@ -2,10 +2,10 @@
 use Rattle.std.proofs.Common.{◌≡◌, refl, ℕ, zero, suc, ◌<◌, true, List, [], ◌∷◌, ◌++◌, map, slice_get, Some, length, inl, inr, arith}
 use Rattle.std.specs.Prelude.{◌⊎◌}
 use Rattle.std.proofs.lemmas.Bool.{cases_eq}
-use Rattle.jh_tree.specs.Tree.{TermTree, FieldTree, FormulaTree, FieldTrees}
-use Rattle.jh_tree.specs.Tree as t
-use Rattle.jh_tree.specs.Meaning.{Fields, Interp, InUniverse, edge, term_value, field_value, truth}
-use Rattle.jh_make.specs.Joined.{joined}
+use Rattle.jh_form.specs.Tree.{TermTree, FieldTree, FormulaTree, FieldTrees}
+use Rattle.jh_form.specs.Tree as t
+use Rattle.jh_form.specs.Meaning.{Fields, Interp, InUniverse, edge, term_value, field_value, truth}
+use Rattle.jh_arena.specs.makers.Joined.{joined}
 use Rattle.jh_reach.specs.Axioms.{disjoined, child, differ, way, forest, end_at_null, reach_itself, reaches_child, reach_children, child_reaches, first_step, leads_there, last_step, ways_join, ways_on, ways_up, ways_compare, null_reaches_null, leads_not_back, no_way_back, has_one_parent, share_no_child, pairs_share_no_child, one_parent}
 use Rattle.jh_reach.specs.Truths.{AreClosed}
 use Rattle.jh_reach.proofs.Paths.{Path, Reaches, reach-self, reach-edge, reach-joined, path-last, path-inside, path-null}

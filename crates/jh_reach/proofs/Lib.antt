@@ -1,4 +1,4 @@
-pub use Rattle.jh_ways.proofs.NodeSteps
+pub use Rattle.jh_path_formulas.proofs.NodeSteps
 mod Paths
 mod Counts
 mod Shortening

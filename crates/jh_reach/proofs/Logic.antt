@@ -1,11 +1,11 @@
 -- Truth of connectives, binders and joined lists, as implications between facts.
 use Rattle.std.proofs.Common.{◌≡◌, refl, sym, ap, ◌∙◌, ℕ, zero, suc, ◌<◌, Bool, true, false, not, ◌||◌, List, [], ◌∷◌, ◌++◌, map, slice_get, Some}
 use Rattle.std.proofs.lemmas.Bool.{and_from, or_left, or_right, not-true, true≢false}
-use Rattle.jh_tree.specs.Tree.{FieldTree, FormulaTree}
-use Rattle.jh_tree.specs.Tree as t
-use Rattle.jh_tree.specs.Meaning.{Interp, agree, truth}
-use Rattle.jh_tree.proofs.ClosedLemmas.{both-left, both-right}
-use Rattle.jh_make.specs.Joined.{joined}
+use Rattle.jh_form.specs.Tree.{FieldTree, FormulaTree}
+use Rattle.jh_form.specs.Tree as t
+use Rattle.jh_form.specs.Meaning.{Interp, agree, truth}
+use Rattle.jh_form.proofs.ClosedLemmas.{both-left, both-right}
+use Rattle.jh_arena.specs.makers.Joined.{joined}
 use Rattle.jh_reach.specs.Axioms.{disjoined}
 use Rattle.jh_reach.proofs.Counts.{below-all, below-any}
 

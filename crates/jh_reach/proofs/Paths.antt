@@ -3,8 +3,8 @@
 use Rattle.std.proofs.Common.{◌≡◌, refl, sym, subst, ℕ, zero, suc, ◌<◌, ◌≢◌, Bool, true, List, [], ◌∷◌, length, inl, inr, arith}
 use Rattle.std.specs.List.{list_any, list_all}
 use Rattle.std.proofs.lemmas.Bool.{or_cases, or_left, or_right, eqb-true, eq-eqb}
-use Rattle.jh_tree.specs.Meaning.{Fields, leads, edge}
-use Rattle.jh_tree.proofs.ClosedLemmas.{both-left, both-right}
+use Rattle.jh_form.specs.Meaning.{Fields, leads, edge}
+use Rattle.jh_form.proofs.ClosedLemmas.{both-left, both-right}
 
 -- k steps, each along a field of the list, lead from a to b
 abbrev pub Path : List Fields → ℕ → ℕ → ℕ → Type 0

@@ -3,8 +3,8 @@
 use Rattle.std.proofs.Common.{◌≡◌, refl, sym, ◌∙◌, ℕ, zero, suc, ◌<◌, ◌≤◌, Bool, true, false, ◌&&◌, not, List, length, inl, inr, arith}
 use Rattle.std.specs.Prelude.{◌⊎◌}
 use Rattle.std.proofs.lemmas.Bool.{or_left, cases_Bool, and_from, not-true, not_from_false, eq-eqb, true≢false}
-use Rattle.jh_tree.specs.Meaning.{Fields, leads, reaches, edge, any_below, count_below}
-use Rattle.jh_tree.proofs.ClosedLemmas.{both-left, both-right}
+use Rattle.jh_form.specs.Meaning.{Fields, leads, reaches, edge, any_below, count_below}
+use Rattle.jh_form.proofs.ClosedLemmas.{both-left, both-right}
 use Rattle.jh_reach.proofs.Counts.{any-below, below-any, count-full, count-more}
 use Rattle.jh_reach.proofs.Paths.{Path, Reaches, StayInside, edge-any, leads-path}
 

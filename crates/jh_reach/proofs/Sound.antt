@@ -2,8 +2,8 @@
 use Rattle.std.proofs.Common.{◌≡◌, ℕ, true, List, [], ◌∷◌, Option, Some, None}
 use Rattle.std.specs.List.{All}
 use Rattle.std.proofs.lemmas.List.Elements.{All-nil, All-append, All-from_recursion}
-use Rattle.jh_tree.specs.Tree.{FieldTree}
-use Rattle.jh_tree.specs.Meaning.{Interp, InUniverse, truth}
+use Rattle.jh_form.specs.Tree.{FieldTree}
+use Rattle.jh_form.specs.Meaning.{Interp, InUniverse, truth}
 use Rattle.jh_reach.specs.Axioms.{BaseTree, axiom_of_update, axioms_of_list, axioms_of_base}
 use Rattle.jh_reach.specs.Truths.{AreClosed, IsBase, IsThatUpdate, OfBase, AxiomsAreTrue}
 use Rattle.jh_reach.proofs.Held.{reach_itself-true, reach_children-true, first_step-true, last_step-true, ways_join-true, ways_compare-true, null_reaches_null-true, no_way_back-true, one_parent-true}

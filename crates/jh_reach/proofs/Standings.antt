@@ -2,17 +2,17 @@
 use Rattle.std.proofs.Common.{◌≡◌, refl, sym, ap, ◌∙◌, subst, ℕ, zero, suc, ◌+◌, ◌<◌, ◌≤◌, true, ◌&&◌, List, [], ◌∷◌, ◌++◌, map, take, drop, length, slice_get, get_or, Some, ◌-◌, add-one, append_assoc, length-drop, arith}
 use Rattle.std.proofs.lemmas.List.{take_all, drop_all, append-nil}
 use Rattle.std.proofs.lemmas.Option.{slice_get-get_or}
-use Rattle.jh_tree.specs.Tree.{TermTree, FieldTree, FormulaTree, more, or, of_field, of_truth}
-use Rattle.jh_table.specs.Entries.{Listing, is_field, is_truth, the_field, the_truth, are_fields, fields_at}
-use Rattle.jh_table.specs.Growth.{Extends}
-use Rattle.jh_table.specs.Nodes.{nodes}
-use Rattle.jh_make.specs.Joined.{are_truths, truths_at}
+use Rattle.jh_form.specs.Tree.{TermTree, FieldTree, FormulaTree, more, or, of_field, of_truth}
+use Rattle.jh_arena.specs.table.Entries.{Listing, is_field, is_truth, the_field, the_truth, are_fields, fields_at}
+use Rattle.jh_arena.specs.table.Growth.{Extends}
+use Rattle.jh_arena.specs.table.Nodes.{nodes}
+use Rattle.jh_arena.specs.makers.Joined.{are_truths, truths_at}
 use Rattle.jh_reach.specs.Axioms.{listed, disjoined, ways_on, ways_up, ways_compare, changed_one, changed_several, changed_ways, pairs_share_no_child, share_no_child}
 use Rattle.jh_reach.specs.Standing.{AreFields, AreFormulas, HoldsField, IsAlong, fields_in}
-use Rattle.jh_enter.specs.Entered.{IsList}
-use Rattle.jh_tree.proofs.ClosedLemmas.{both-left, both-right}
-use Rattle.jh_table.proofs.Growing.{are_fields-stay}
-use Rattle.jh_ways.proofs.NodeSteps.{it-is-field, it-is-truth, field-there, truth-there, holds-field}
+use Rattle.jh_import.specs.entering.Entered.{IsList}
+use Rattle.jh_form.proofs.ClosedLemmas.{both-left, both-right}
+use Rattle.jh_arena.proofs.table.Growing.{are_fields-stay}
+use Rattle.jh_path_formulas.proofs.NodeSteps.{it-is-field, it-is-truth, field-there, truth-there, holds-field}
 
 pub fields-grow : (t u : Listing) (ns : List ℕ) (fs : List FieldTree) → Extends t u → AreFields t ns fs → AreFields u ns fs
 unfolding AreFields

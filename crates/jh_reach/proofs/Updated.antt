@@ -2,10 +2,10 @@
 use Rattle.std.proofs.Common.{◌≡◌, refl, sym, ap, ◌∙◌, subst, ℕ, zero, suc, ◌<◌, ◌≢◌, ◌==◌, true, if◌then◌else◌, List, [], ◌∷◌, slice_get, Some, length, inl, inr, arith}
 use Rattle.std.specs.Prelude.{slice_set}
 use Rattle.std.proofs.lemmas.Bool.{cases_eq, or_cases, eq-eqb, ne_eqb}
-use Rattle.jh_tree.specs.Tree.{TermTree, FieldTree, FormulaTree, of_object}
-use Rattle.jh_tree.specs.Tree as t
-use Rattle.jh_tree.specs.Closed.{is_closed_term, is_closed_field}
-use Rattle.jh_tree.specs.Meaning.{Interp, InUniverse, edge, term_value, field_value, truth}
+use Rattle.jh_form.specs.Tree.{TermTree, FieldTree, FormulaTree, of_object}
+use Rattle.jh_form.specs.Tree as t
+use Rattle.jh_form.specs.Closed.{is_closed_term, is_closed_field}
+use Rattle.jh_form.specs.Meaning.{Interp, InUniverse, edge, term_value, field_value, truth}
 use Rattle.jh_reach.specs.Axioms.{child, differ, way, forest, end_at_null, BaseTree, before, stops_at, leaves_out, changed_one, changed_several, changed_ways, axiom_of_update}
 use Rattle.jh_reach.specs.Truths.{AreClosed, IsBase, IsThatUpdate}
 use Rattle.jh_reach.proofs.Paths.{Reaches, StayInside, EndAtNull}

@@ -1,10 +1,10 @@
 -- The axioms of reachability along a list of fields: what holds of all paths, in formulas that take reaching as it stands.
 -- A bound variable is the number of binders between it and its own: under `ALL x y.`, x is 1 and y is 0.
 use Rattle.std.specs.Prelude.{ℕ, List, [], ◌∷◌, ◌++◌, map, Option, Some, None, slice_set}
-use Rattle.jh_tree.specs.Tree.{TermTree, FieldTree, FormulaTree}
-use Rattle.jh_tree.specs.Tree as t
-use Rattle.jh_make.specs.Joined.{joined}
-pub use Rattle.jh_ways.specs.Ways.{listed, child, differ, way, forest, stops_at, leaves_out}
+use Rattle.jh_form.specs.Tree.{TermTree, FieldTree, FormulaTree}
+use Rattle.jh_form.specs.Tree as t
+use Rattle.jh_arena.specs.makers.Joined.{joined}
+pub use Rattle.jh_path_formulas.specs.Ways.{listed, child, differ, way, forest, stops_at, leaves_out}
 
 -- the formulas joined by Or to the right; none give the formula that is false
 abbrev pub disjoined : List FormulaTree → FormulaTree

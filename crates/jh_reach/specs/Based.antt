@@ -1,8 +1,8 @@
 -- What stands in a table at the nodes of what a list of fields came from.
 use Rattle.std.specs.Prelude.{◌≡◌, Option, Some, None, slice_get}
-use Rattle.jh_tree.specs.Tree.{of_object, of_field}
-use Rattle.jh_table.specs.Entries.{Listing}
-use Rattle.jh_table.specs.Nodes.{nodes}
+use Rattle.jh_form.specs.Tree.{of_object, of_field}
+use Rattle.jh_arena.specs.table.Entries.{Listing}
+use Rattle.jh_arena.specs.table.Nodes.{nodes}
 use Rattle.jh_reach.specs.declared.backbones.Base.{Base}
 use Rattle.jh_reach.specs.Axioms.{BaseTree}
 use Rattle.jh_reach.specs.Standing.{HoldsField, HoldsObject}

@@ -1,8 +1,8 @@
 -- The backbones of the program's type, as trees.
 use Rattle.std.specs.Prelude.{List, [], ◌∷◌, map, Option, Some, None}
 use Rattle.jh_name.specs.declared.naming.Name.{Name}
-use Rattle.jh_tree.specs.Tree.{FieldTree, free_field}
-use Rattle.jh_tree.specs.Bare.{term_tree}
+use Rattle.jh_form.specs.Tree.{FieldTree, free_field}
+use Rattle.jh_form.specs.Bare.{term_tree}
 use Rattle.jh_reach.specs.declared.reaching.Backbone.{Backbone}
 use Rattle.jh_reach.specs.declared.reaching.NameBase.{NameBase}
 use Rattle.jh_reach.specs.Axioms.{BaseTree, BackboneTree}

@@ -1,6 +1,6 @@
 -- What axioms say of one field of a list.
 use Rattle.std.specs.Prelude.{List}
-use Rattle.jh_tree.specs.Tree.{FieldTree, FormulaTree}
+use Rattle.jh_form.specs.Tree.{FieldTree, FormulaTree}
 use Rattle.jh_reach.specs.declared.parts.Part.{Part}
 use Rattle.jh_reach.specs.declared.parts.Part.TheVariants as p
 use Rattle.jh_reach.specs.Axioms.{ends_at_null, reaches_child, child_reaches, leads_there, leads_not_back, has_one_parent}

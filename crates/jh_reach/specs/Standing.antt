@@ -1,9 +1,9 @@
 -- How lists of fields and of formulas stand in a table.
 use Rattle.std.specs.Prelude.{◌≡◌, ℕ, true, List, [], ◌∷◌, map, Some, slice_get}
-use Rattle.jh_tree.specs.Tree.{FieldTree, FieldTrees, FormulaTree, ValueTree, of_object, of_field, of_truth}
-use Rattle.jh_table.specs.Entries.{Listing, the_field, the_object, the_truth, the_list, are_fields, fields_at}
-use Rattle.jh_table.specs.Nodes.{nodes}
-pub use Rattle.jh_ways.specs.Ways.{HoldsField, HoldsObject, HoldsFormula, list_at}
+use Rattle.jh_form.specs.Tree.{FieldTree, FieldTrees, FormulaTree, ValueTree, of_object, of_field, of_truth}
+use Rattle.jh_arena.specs.table.Entries.{Listing, the_field, the_object, the_truth, the_list, are_fields, fields_at}
+use Rattle.jh_arena.specs.table.Nodes.{nodes}
+pub use Rattle.jh_path_formulas.specs.Ways.{HoldsField, HoldsObject, HoldsFormula, list_at}
 
 -- at these nodes stand these fields, one by one
 unfoldable pub AreFields : Listing → List ℕ → List FieldTree → Type 0

@@ -1,10 +1,10 @@
 -- That the axioms are true.
 use Rattle.std.specs.Prelude.{◌≡◌, ℕ, suc, ◌<◌, true, List, [], Option, Some, None, length, slice_get}
 use Rattle.std.specs.List.{All}
-use Rattle.jh_tree.specs.Tree.{FieldTree, FormulaTree, of_object}
-use Rattle.jh_tree.specs.Tree as t
-use Rattle.jh_tree.specs.Closed.{is_closed_term, is_closed_field}
-use Rattle.jh_tree.specs.Meaning.{Interp, InUniverse, field_value, truth}
+use Rattle.jh_form.specs.Tree.{FieldTree, FormulaTree, of_object}
+use Rattle.jh_form.specs.Tree as t
+use Rattle.jh_form.specs.Closed.{is_closed_term, is_closed_field}
+use Rattle.jh_form.specs.Meaning.{Interp, InUniverse, field_value, truth}
 use Rattle.jh_reach.specs.Axioms.{BaseTree, BackboneTree, axioms_of}
 
 -- no field of the list has loose bound variables

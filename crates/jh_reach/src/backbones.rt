@@ -1,17 +1,17 @@
 #![tactic(auto)]
 
 ghost use Rattle.std.specs.Prelude.{◌≡◌, true, List, IfOk, Some, slice_get, slice_set};
-ghost use Rattle.jh_tree.specs.Tree.{FieldTree, of_truth};
-ghost use Rattle.jh_table.specs.Entries.{are_fields};
-ghost use Rattle.jh_table.specs.Growth.{Extends};
-ghost use Rattle.jh_table.specs.Nodes.{nodes};
+ghost use Rattle.jh_form.specs.Tree.{FieldTree, of_truth};
+ghost use Rattle.jh_arena.specs.table.Entries.{are_fields};
+ghost use Rattle.jh_arena.specs.table.Growth.{Extends};
+ghost use Rattle.jh_arena.specs.table.Nodes.{nodes};
 ghost use Rattle.jh_reach.specs.Axioms.{BaseTree, BackboneTree, axioms_of_list, axioms_of, axiom_of_update};
 ghost use Rattle.jh_reach.specs.Based.{IsSorted, IsBaseAt, IsSortedBase, IsThere};
 ghost use Rattle.jh_reach.specs.Standing.{AreFields, AreFormulas, IsAlong};
 
 use crate::groups::{first_axioms, last_axioms, update_axiom};
+use jh_arena::table::Table;
 use jh_name::NoMemory;
-use jh_table::Table;
 use std::alloc::Global;
 
 /// What a list of fields came from, by nodes: its member at `place`, counted from 0, is a field that was updated at an

@@ -1,17 +1,17 @@
 #![tactic(auto)]
 
 ghost use Rattle.std.specs.Prelude.{◌≡◌, List, IfOk, Some, slice_get};
-ghost use Rattle.jh_tree.specs.Tree.{TermTree, FieldTree, of_object, of_field, of_truth};
-ghost use Rattle.jh_table.specs.Growth.{Extends};
-ghost use Rattle.jh_table.specs.Nodes.{nodes};
+ghost use Rattle.jh_form.specs.Tree.{TermTree, FieldTree, of_object, of_field, of_truth};
+ghost use Rattle.jh_arena.specs.table.Growth.{Extends};
+ghost use Rattle.jh_arena.specs.table.Nodes.{nodes};
 ghost use Rattle.jh_reach.specs.Axioms.{listed, ways_compare, changed_ways};
 ghost use Rattle.jh_reach.specs.Standing.{AreFields, HoldsField, HoldsObject, IsAlong, list_at};
-ghost use Rattle.jh_enter.specs.Entered.{IsList};
+ghost use Rattle.jh_import.specs.entering.Entered.{IsList};
 
 use crate::nine::{ways_on, ways_up};
 use crate::updates::{told_by_one, told_by_several};
+use jh_arena::table::Table;
 use jh_name::NoMemory;
-use jh_table::Table;
 
 /// The node of that of two objects on ways that meet one reaches the other: along one field, of those that one object
 /// reaches, and along several, of those that reach one.

@@ -1,6 +1,8 @@
 //! The axioms of reachability along lists of fields.
 #![tactic(auto)]
 
+pub use jh_import;
+
 mod backbones;
 mod choices;
 mod fields;

@@ -1,20 +1,20 @@
 #![tactic(auto)]
 
 ghost use Rattle.std.specs.Prelude.{◌≡◌, ◌++◌, true, List, map, IfOk, OnOk, Some, slice_get};
-ghost use Rattle.jh_tree.specs.Tree.{FieldTree, FormulaTree, of_field, of_truth};
-ghost use Rattle.jh_table.specs.Entries.{are_fields};
-ghost use Rattle.jh_table.specs.Growth.{Extends};
-ghost use Rattle.jh_table.specs.Nodes.{nodes};
-ghost use Rattle.jh_make.specs.Joined.{joined, are_truths};
+ghost use Rattle.jh_form.specs.Tree.{FieldTree, FormulaTree, of_field, of_truth};
+ghost use Rattle.jh_arena.specs.table.Entries.{are_fields};
+ghost use Rattle.jh_arena.specs.table.Growth.{Extends};
+ghost use Rattle.jh_arena.specs.table.Nodes.{nodes};
+ghost use Rattle.jh_arena.specs.makers.Joined.{joined, are_truths};
 ghost use Rattle.jh_reach.specs.Axioms.{disjoined, has_one_parent, share_no_child, pairs_share_no_child};
 ghost use Rattle.jh_reach.specs.Parts.{part_tree};
 ghost use Rattle.jh_reach.specs.Standing.{AreFields, AreFormulas, HoldsField, IsAlong};
 
 use crate::fields::share_no_child;
 use crate::parts::{Part, part_of};
-use jh_make::{conjunction_of, disjunction, falsehood};
+use jh_arena::makers::{conjunction_of, disjunction, falsehood};
+use jh_arena::table::Table;
 use jh_name::NoMemory;
-use jh_table::Table;
 
 /// The nodes of what a part says of each field of a list.
 fn parts_of(

@@ -1,19 +1,19 @@
 #![tactic(auto, unfolding(crate::specs::Parts::part_tree))]
 
 ghost use Rattle.std.specs.Prelude.{◌≡◌, List, IfOk, Some, slice_get};
-ghost use Rattle.jh_tree.specs.Tree.{FieldTree, of_field, of_truth};
-ghost use Rattle.jh_table.specs.Growth.{Extends};
-ghost use Rattle.jh_table.specs.Nodes.{nodes};
+ghost use Rattle.jh_form.specs.Tree.{FieldTree, of_field, of_truth};
+ghost use Rattle.jh_arena.specs.table.Growth.{Extends};
+ghost use Rattle.jh_arena.specs.table.Nodes.{nodes};
 ghost use Rattle.jh_reach.specs.Axioms.{listed};
 ghost use Rattle.jh_reach.specs.Parts.{part_tree};
 ghost use Rattle.jh_reach.specs.Standing.{HoldsField, list_at};
-ghost use Rattle.jh_enter.specs.Entered.{IsList};
+ghost use Rattle.jh_import.specs.entering.Entered.{IsList};
 
 use crate::fields::{
     child_reaches, ends_at_null, has_one_parent, leads_not_back, leads_there, reaches_child,
 };
+use jh_arena::table::Table;
 use jh_name::NoMemory;
-use jh_table::Table;
 
 /// What an axiom says of one field of a list, in turn for each.
 #[derive(Clone, Copy)]

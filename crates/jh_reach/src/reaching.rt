@@ -2,22 +2,22 @@
 
 ghost use Rattle.std.specs.Prelude.{◌≡◌, true, map, IfOk};
 ghost use Rattle.std.specs.List.{flat_map};
-ghost use Rattle.jh_tree.specs.Bare.{formula_tree};
-ghost use Rattle.jh_table.specs.Growth.{Extends};
-ghost use Rattle.jh_table.specs.Nodes.{nodes};
-ghost use Rattle.jh_make.specs.Joined.{are_truths, truths_at};
+ghost use Rattle.jh_form.specs.Bare.{formula_tree};
+ghost use Rattle.jh_arena.specs.table.Growth.{Extends};
+ghost use Rattle.jh_arena.specs.table.Nodes.{nodes};
+ghost use Rattle.jh_arena.specs.makers.Joined.{are_truths, truths_at};
 ghost use Rattle.jh_reach.specs.Axioms.{axioms_of};
 ghost use Rattle.jh_reach.specs.Standing.{AreFields, AreFormulas};
 ghost use Rattle.jh_reach.specs.Based.{IsSortedBase, IsBaseAt};
 ghost use Rattle.jh_reach.specs.Named.{named_fields, base_tree, backbone_tree};
 
 use crate::backbones::{Base, backbone_axioms};
-use jh_enter::enter_term;
-use jh_make::free_field;
+use jh_arena::makers::free_field;
+use jh_arena::table::Table;
+use jh_export::boxed_formula;
+use jh_form::{Formula, Term};
+use jh_import::entering::enter_term;
 use jh_name::{Name, NoMemory, Row};
-use jh_table::Table;
-use jh_tree::{Formula, Term};
-use jh_value::boxed_formula;
 use std::alloc::Global;
 
 /// A list of fields that formulas reach along, and what it came from.

@@ -2,22 +2,22 @@
 #![tactic(auto)]
 
 ghost use Rattle.std.specs.Prelude.{◌≡◌, ◌++◌, List, map, IfOk, Some, slice_get};
-ghost use Rattle.jh_tree.specs.Tree.{TermTree, FieldTree, FormulaTree, of_object, of_field, of_truth};
-ghost use Rattle.jh_tree.specs.Tree as t;
-ghost use Rattle.jh_table.specs.Growth.{Extends};
-ghost use Rattle.jh_table.specs.Nodes.{nodes};
-ghost use Rattle.jh_enter.specs.Entered.{IsList};
-ghost use Rattle.jh_make.specs.Joined.{joined};
-ghost use Rattle.jh_ways.specs.Ways.{listed, child, differ, way, forest, stops_at, leaves_out, HoldsField, HoldsObject, HoldsFormula, list_at};
+ghost use Rattle.jh_form.specs.Tree.{TermTree, FieldTree, FormulaTree, of_object, of_field, of_truth};
+ghost use Rattle.jh_form.specs.Tree as t;
+ghost use Rattle.jh_arena.specs.table.Growth.{Extends};
+ghost use Rattle.jh_arena.specs.table.Nodes.{nodes};
+ghost use Rattle.jh_import.specs.entering.Entered.{IsList};
+ghost use Rattle.jh_arena.specs.makers.Joined.{joined};
+ghost use Rattle.jh_path_formulas.specs.Ways.{listed, child, differ, way, forest, stops_at, leaves_out, HoldsField, HoldsObject, HoldsFormula, list_at};
 ghost use Rattle.jh_reach.specs.Axioms.{disjoined, end_at_null, ends_at_null, reaches_child, child_reaches, leads_there, leads_not_back, has_one_parent, share_no_child, pairs_share_no_child, reach_itself, reach_children, first_step, last_step, ways_join, ways_on, ways_up, null_reaches_null, no_way_back, one_parent, changed_ways, first_of_list, last_of_list};
 ghost use Rattle.jh_reach.specs.Standing.{AreFields, AreFormulas, IsAlong};
 
 use crate::lists::each;
 use crate::parts::Part;
 use crate::terms::{follows_for_two, for_two};
+use jh_arena::table::{Shape, Table};
 use jh_name::NoMemory;
-use jh_table::{Shape, Table};
-use jh_ways::{in_forest, leaves_out, not_null, stops_at};
+use jh_path_formulas::{in_forest, leaves_out, not_null, stops_at};
 
 /// The node of what the ways along one field are, by those before an update.
 fn ways_before(

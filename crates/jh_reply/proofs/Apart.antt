@@ -5,17 +5,17 @@ use Rattle.std.specs.Prelude.{Some, None, slice_get}
 use Rattle.std.specs.List.{Contains}
 use Rattle.std.specs.Option.{option_map_or}
 use Rattle.jh_ast.specs.Programs.{ProgramTree}
-use Rattle.jh_lex.specs.declared.error.LexError.{LexError}
-use Rattle.jh_lex.specs.declared.error.LexError.TheVariants as lex
-use Rattle.jh_lex.specs.declared.token.Token.{Token}
-use Rattle.jh_lex.specs.Lexes.{Lexes, IsFirstFault}
-use Rattle.jh_lex.proofs.Unique.{one_list, one_fault, fault_or_list}
+use Rattle.jh_lex.specs.declared.lexer.error.LexError.{LexError}
+use Rattle.jh_lex.specs.declared.lexer.error.LexError.TheVariants as lex
+use Rattle.jh_lex.specs.declared.lexer.token.Token.{Token}
+use Rattle.jh_lex.specs.lexer.Lexes.{Lexes, IsFirstFault}
+use Rattle.jh_lex.proofs.lexer.Unique.{one_list, one_fault, fault_or_list}
 use Rattle.jh_name.specs.declared.place.Place.{Place}
-use Rattle.jh_nest.specs.Nesting.{AllShallow, IsFirstDeep}
+use Rattle.jh_spec.specs.nesting.Nesting.{AllShallow, IsFirstDeep}
 use Rattle.jh_rules.specs.Breaks.{Breaks}
 use Rattle.jh_vars.specs.States.{Variable, class_text}
-use Rattle.jh_obligations.specs.Laws.{OneIsFirst}
-use Rattle.jh_obligations.specs.Sources.{OwesMuch}
+use Rattle.jh_gen_laws.specs.jh_obligations.program_sequents.Laws.{OneIsFirst}
+use Rattle.jh_gen_laws.specs.jh_obligations.program_sequents.Sources.{OwesMuch}
 use Rattle.jh_vars.specs.Reading.{IsCyclic, IsFirst, IsFirstCyclic, variables}
 use Rattle.jh_reply.specs.Refusals.{RefusedAt, not_utf8, bad_char, open_comment, open_quote, too_wide, syntax, too_deep, IsMistyped, IsCircular, IsCrowded, method_text}
 use Rattle.jh_reply.proofs.Verifying.{parses-one, spells-one, refused-parses}

@@ -3,22 +3,22 @@ use Rattle.std.proofs.Common.{◌≡◌, ◌⊎◌, refl, sym, ap, ◌∙◌, �
 use Rattle.jh_ast.specs.Programs.{ProgramTree}
 use Rattle.jh_rules.specs.Names.{declared_in}
 use Rattle.jh_vars.specs.Written.{Callee}
-use Rattle.jh_runs.specs.Program.{Program}
-use Rattle.jh_runs.specs.Progress.{Outcome, returned, stopped}
-use Rattle.jh_runs.specs.Heaps.{Heap, Args, Cell, answered, listed}
-use Rattle.jh_runs.specs.LoweredProgram.{program_of}
-use Rattle.jh_heap.specs.Errors.{IsError}
-use Rattle.jh_heap.specs.Outlines.{outline_of}
-use Rattle.jh_heap.specs.Reading.{Reading, reading}
-use Rattle.jh_heap.specs.declared.reading.HeapError.{HeapError}
-use Rattle.jh_heap.specs.declared.reading.HeapError.TheVariants as heap
-use Rattle.jh_todo.specs.declared.stop.Stop.{Stop}
-use Rattle.jh_todo.specs.declared.stop.Stop.TheVariants as stop
-use Rattle.jh_todo.specs.Todos.{EndsAs}
-use Rattle.jh_runner.specs.Runs.{OverflowsOn, outcome_on}
-use Rattle.jh_outcome.specs.Outcomes.{IsAbsent, IsReason, IsReasonIn, IsWhy, Returns, Starts}
-use Rattle.jh_outcome.specs.declared.unreturned.Unreturned.{Unreturned}
-use Rattle.jh_outcome.specs.declared.unreturned.Unreturned.TheVariants as why
+use Rattle.jh_semantics.specs.Program.{Program}
+use Rattle.jh_semantics.specs.Progress.{Outcome, returned, stopped}
+use Rattle.jh_semantics.specs.Heaps.{Heap, Args, Cell, answered, listed}
+use Rattle.jh_semantics.specs.LoweredProgram.{program_of}
+use Rattle.jh_run.specs.jh_heap.text.Errors.{IsError}
+use Rattle.jh_run.specs.jh_heap.text.Outlines.{outline_of}
+use Rattle.jh_run.specs.jh_heap.text.Reading.{Reading, reading}
+use Rattle.jh_run.specs.jh_heap.declared.text.reading.HeapError.{HeapError}
+use Rattle.jh_run.specs.jh_heap.declared.text.reading.HeapError.TheVariants as heap
+use Rattle.jh_run.specs.jh_machine.declared.continuation.stop.Stop.{Stop}
+use Rattle.jh_run.specs.jh_machine.declared.continuation.stop.Stop.TheVariants as stop
+use Rattle.jh_run.specs.jh_machine.continuation.Todos.{EndsAs}
+use Rattle.jh_run.specs.runner.Runs.{OverflowsOn, outcome_on}
+use Rattle.jh_run.specs.outcome.Outcomes.{IsAbsent, IsReason, IsReasonIn, IsWhy, Returns, Starts}
+use Rattle.jh_run.specs.declared.outcome.unreturned.Unreturned.{Unreturned}
+use Rattle.jh_run.specs.declared.outcome.unreturned.Unreturned.TheVariants as why
 use Rattle.jh_reply.specs.Causes.{heap_status, stop_status, unreturned_status}
 use Rattle.jh_reply.specs.Run.{IsOverflow, ending_at, ending_in, ending_named, ending_of, ending_read, ending_status, ends, outcome_status}
 

@@ -4,16 +4,16 @@ use Rattle.std.specs.Prelude.{Option, None, Some, IfSome, if◌then◌else◌}
 use Rattle.std.proofs.lemmas.Bool.{true≢false}
 use Rattle.jh_files.specs.Counts.{Rose}
 use Rattle.jh_ast.specs.Programs.{ProgramTree}
-use Rattle.jh_outcome.specs.Outcomes.{has_method}
-use Rattle.jh_obligations.specs.Laws.{OwedIsLittle, LittleIsNotMuch, OwedIsOne}
-use Rattle.jh_obligations.specs.Sources.{OwesLittle, OwesMuch}
-use Rattle.jh_prove.specs.Laws.{ProvableIsProved}
-use Rattle.jh_report.specs.Report.{Reported, is_accepted}
+use Rattle.jh_run.specs.outcome.Outcomes.{has_method}
+use Rattle.jh_gen_laws.specs.jh_obligations.program_sequents.Laws.{OwedIsLittle, LittleIsNotMuch, OwedIsOne}
+use Rattle.jh_gen_laws.specs.jh_obligations.program_sequents.Sources.{OwesLittle, OwesMuch}
+use Rattle.jh_report.specs.jh_prove.prover.Laws.{ProvableIsProved}
+use Rattle.jh_report.specs.report.Report.{Reported, is_accepted}
 use Rattle.jh_reply.specs.Refusals.{Spells, RefusedAt, IsMistyped, IsCircular, IsCrowded}
 use Rattle.jh_reply.specs.Causes.{FilesSeen, SinkSeen, Finding, reported, summed, ran, unreturned, no_job, no_method, refused, mistyped, circular, crowded, file_failed, file_too_long, no_memory, IsRead_in, as_source, as_heap, Comes, due, unreturned_status, Takes, Delivered, Answered, IsExcused, IsWithoutFile, IsRunStatus, IsCutShort, IsRefusal, by_place, by_rule, by_loop, Exact}
 use Rattle.jh_reply.specs.Made.{default_options, made_source}
 use Rattle.jh_reply.specs.Run.{IsBegun, IsSource, ending_of, ending_status}
-use Rattle.jh_options.specs.declared.Options.{Options}
+use Rattle.jh_name.specs.declared.options.Options.{Options}
 use Rattle.jh_reply.specs.Verify.{Tells, Judges, OwesProvable, are_proved_or_spent, options_of, source_limit}
 use Rattle.jh_reply.specs.Words.{source_of}
 use Rattle.jh_words.specs.CommandLine.{Gen, Job, Run, Verify, gen, job_of, run, verify}

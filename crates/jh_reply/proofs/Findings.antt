@@ -2,16 +2,16 @@
 use Rattle.std.proofs.Common.{◌≡◌, ◌≤◌, ℕ, List, sym, ◌∙◌, Bool, true, false, arith, inl, inr}
 use Rattle.std.specs.Prelude.{◌≢◌, Some, ◌⊎◌, if◌then◌else◌}
 use Rattle.jh_ast.specs.Programs.{ProgramTree}
-use Rattle.jh_heap.specs.declared.reading.HeapError.{HeapError}
-use Rattle.jh_heap.specs.declared.reading.HeapError.TheVariants as heap
-use Rattle.jh_todo.specs.declared.stop.Stop.{Stop}
-use Rattle.jh_todo.specs.declared.stop.Stop.TheVariants as stop
-use Rattle.jh_outcome.specs.declared.unreturned.Unreturned.{Unreturned}
-use Rattle.jh_outcome.specs.declared.unreturned.Unreturned.TheVariants as why
-use Rattle.jh_sound.specs.Laws.{IsAccepted}
-use Rattle.jh_obligations.specs.Laws.{OwedIsOne, OwedIsSound}
-use Rattle.jh_prove.specs.Laws.{ProvableIsProved, ProvedIsValid}
-use Rattle.jh_report.specs.Report.{is_accepted}
+use Rattle.jh_run.specs.jh_heap.declared.text.reading.HeapError.{HeapError}
+use Rattle.jh_run.specs.jh_heap.declared.text.reading.HeapError.TheVariants as heap
+use Rattle.jh_run.specs.jh_machine.declared.continuation.stop.Stop.{Stop}
+use Rattle.jh_run.specs.jh_machine.declared.continuation.stop.Stop.TheVariants as stop
+use Rattle.jh_run.specs.declared.outcome.unreturned.Unreturned.{Unreturned}
+use Rattle.jh_run.specs.declared.outcome.unreturned.Unreturned.TheVariants as why
+use Rattle.jh_run.specs.jh_logic.source.Laws.{IsAccepted}
+use Rattle.jh_gen_laws.specs.jh_obligations.program_sequents.Laws.{OwedIsOne, OwedIsSound}
+use Rattle.jh_report.specs.jh_prove.prover.Laws.{ProvableIsProved, ProvedIsValid}
+use Rattle.jh_report.specs.report.Report.{is_accepted}
 use Rattle.jh_reply.specs.Refusals.{Spells}
 use Rattle.jh_reply.specs.declared.reply.Reply.{Reply}
 use Rattle.jh_reply.specs.Causes.{FilesSeen, SinkSeen, Finding, reported, summed, ran, unreturned, no_job, no_method, refused, mistyped, circular, crowded, file_failed, file_too_long, no_memory, Comes, Due, due, reply_due, unreturned_status, Takes, IsTaken, Delivered, HaveNoFault, Answered, Fits}

@@ -7,16 +7,16 @@ use Rattle.jh_files.specs.declared.fault.FileFault.{FileFault}
 use Rattle.jh_files.specs.declared.fault.FileFault.TheVariants as fault
 use Rattle.jh_ast.specs.Programs.{ProgramTree}
 use Rattle.jh_vars.specs.States.{class_text}
-use Rattle.jh_outcome.specs.Outcomes.{IsReason, has_method}
-use Rattle.jh_outcome.specs.declared.unreturned.Unreturned.{Unreturned}
-use Rattle.jh_outcome.specs.declared.unreturned.Unreturned.TheVariants as why
+use Rattle.jh_run.specs.outcome.Outcomes.{IsReason, has_method}
+use Rattle.jh_run.specs.declared.outcome.unreturned.Unreturned.{Unreturned}
+use Rattle.jh_run.specs.declared.outcome.unreturned.Unreturned.TheVariants as why
 use Rattle.jh_reply.specs.Refusals.{Spells, method_text}
 use Rattle.jh_reply.specs.declared.reply.Reply.{Reply}
 use Rattle.jh_reply.specs.declared.reply.Reply.TheVariants as reply
 use Rattle.jh_reply.specs.Causes.{FilesSeen, Finding, reported, summed, ran, unreturned, no_job, no_method, refused, mistyped, circular, crowded, file_failed, file_too_long, no_memory, IsRead_in, as_source, as_heap, Comes, Due, due, unreturned_status, unreturned_text, fault_text, Says, IsReply, IsSumReply, IsRefusal, by_place, by_rule, by_loop, FitsRefusal, FitsGen, FitsBytes, FitsFault, IsFaultReply, IsUsageReply, IsPageReply, IsUnreturnedReply, FitsFile, FitsOutcome, FitsHeap, FitsMethod, FitsSource, FitsRun, FitsWords, Fits}
 use Rattle.jh_reply.specs.Made.{made_source}
 use Rattle.jh_reply.specs.Run.{IsCalled, IsSource}
-use Rattle.jh_options.specs.declared.Options.{Options}
+use Rattle.jh_name.specs.declared.options.Options.{Options}
 use Rattle.jh_reply.specs.Verify.{Tells, options_of, source_limit}
 use Rattle.jh_reply.specs.Words.{source_of}
 use Rattle.jh_words.specs.CommandLine.{Gen, Job, Run, Verify, gen, job_of, run, verify}

@@ -2,15 +2,15 @@
 use Rattle.std.proofs.Common.{◌≡◌, refl, sym, ap, subst, ℕ, zero, suc, ◌+◌, ◌≤◌, List, [], ◌∷◌, ◌++◌, drop, length, Some, slice_get, add-one}
 use Rattle.std.proofs.lemmas.List.{append_assoc, append-nil, drop_all}
 use Rattle.jh_ast.specs.Programs.{ProgramTree}
-use Rattle.jh_table.specs.Entries.{Listing}
-use Rattle.jh_table.specs.Growth.{Extends}
-use Rattle.jh_sequents.specs.Pairs.{ArePaired}
-use Rattle.jh_sequents.specs.declared.splitting.Sequents.{Sequents}
-use Rattle.jh_sequents.proofs.Grown.{sequents-stay}
-use Rattle.jh_written.proofs.Gathering.{some-is, none-some}
-use Rattle.jh_obligations.specs.Owed.{AllStand, Debt, Stand}
-use Rattle.jh_report.specs.Report.{Reported}
-use Rattle.jh_options.specs.declared.Options.{Options}
+use Rattle.jh_arena.specs.table.Entries.{Listing}
+use Rattle.jh_arena.specs.table.Growth.{Extends}
+use Rattle.jh_report.specs.jh_splitting.Pairs.{ArePaired}
+use Rattle.jh_report.specs.jh_splitting.declared.splitting.Sequents.{Sequents}
+use Rattle.jh_report.proofs.of_jh_splitting.Grown.{sequents-stay}
+use Rattle.jh_run.proofs.of_jh_effects.written_state.Gathering.{some-is, none-some}
+use Rattle.jh_gen_laws.specs.jh_obligations.program_sequents.Owed.{AllStand, Debt, Stand}
+use Rattle.jh_report.specs.report.Report.{Reported}
+use Rattle.jh_name.specs.declared.options.Options.{Options}
 use Rattle.jh_reply.specs.Verify.{IsJudged}
 
 -- lists in pairs are as long as one another

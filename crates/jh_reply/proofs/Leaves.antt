@@ -3,7 +3,7 @@ use Rattle.std.proofs.Common.{◌≡◌, refl, subst, ℕ, ◌≤◌, ◌<◌, n
 use Rattle.std.proofs.lemmas.Bool.Decides.{nat_tests}
 use Rattle.std.specs.Prelude.{Option, None, Some, option_and_then, codes}
 use Rattle.std.specs.Str.Parse.{digits_value}
-use Rattle.jh_tree.proofs.ClosedLemmas.{both-left}
+use Rattle.jh_arena.proofs.of_jh_form.ClosedLemmas.{both-left}
 use Rattle.jh_words.specs.CommandLine.{Gen, Given, Parts, Run, Setting, Verify, Word, are_options, called, cut_at, gen, gen_job, gen_source, generated, is_file, is_name, is_number, is_within, job_by, job_of, leaves, methods_in, number_given, number_in, number_of, number_within, parts, rounds, run, run_job, same_word, steps, verified, verify, verify_job, workers, value_for}
 
 pub some-same : {X : Type 0} (x y : X) → Some x ≡ Some y → x ≡ y

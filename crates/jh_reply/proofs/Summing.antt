@@ -2,8 +2,8 @@
 use Rattle.std.proofs.Common.{◌≡◌, ◌≤◌, ℕ, List, subst, string_bytes, inl, inr}
 use Rattle.jh_ast.specs.Programs.{ProgramTree}
 use Rattle.jh_gen.specs.Generated.{source}
-use Rattle.jh_made.specs.Laws.{IsProgram, MadeIsProgram}
-use Rattle.jh_obligations.specs.Sources.{OwesMuch}
+use Rattle.jh_gen_laws.specs.program.Laws.{IsProgram, MadeIsProgram}
+use Rattle.jh_gen_laws.specs.jh_obligations.program_sequents.Sources.{OwesMuch}
 use Rattle.jh_words.specs.CommandLine.{Gen}
 use Rattle.jh_reply.specs.Refusals.{Spells}
 use Rattle.jh_reply.specs.declared.reply.Reply.{Reply}

@@ -4,10 +4,10 @@ use Rattle.std.proofs.lemmas.List.Folds.{list_all-append, sum_by-zero}
 use Rattle.std.specs.Prelude.{not}
 use Rattle.std.specs.List.{list_all}
 use Rattle.jh_gen.specs.declared.summing.Counts.{Counts}
-use Rattle.jh_prove.specs.Answers.{is_unproved, all_proved}
-use Rattle.jh_prove.specs.declared.answer.Answer.{Answer}
-use Rattle.jh_prove.specs.declared.answer.Answer.TheVariants as answer
-use Rattle.jh_report.specs.Report.{Reported, all_answers, is_accepted}
+use Rattle.jh_report.specs.jh_prove.prover.Answers.{is_unproved, all_proved}
+use Rattle.jh_report.specs.jh_prove.declared.prover.answer.Answer.{Answer}
+use Rattle.jh_report.specs.jh_prove.declared.prover.answer.Answer.TheVariants as answer
+use Rattle.jh_report.specs.report.Report.{Reported, all_answers, is_accepted}
 use Rattle.jh_reply.specs.Made.{IsTally, counts_of}
 
 -- counts that are those of what is reported are one

@@ -2,37 +2,37 @@
 use Rattle.std.proofs.Common.{◌≡◌, ◌<◌, ◌≤◌, ℕ, List, [], ◌∷◌, length, ap, sym, subst, ◌∙◌, ◌&&◌, Bool, true, false, refl, arith}
 use Rattle.std.specs.Prelude.{Option, Err, if◌then◌else◌}
 use Rattle.jh_ast.specs.Programs.{ProgramTree}
-use Rattle.jh_lex.specs.declared.error.LexError.{LexError}
-use Rattle.jh_lex.specs.declared.token.Token.{Token}
-use Rattle.jh_lex.specs.Lexes.{Lexes, IsFirstFault}
-use Rattle.jh_lex.specs.Reports.{UnlessMemory}
-use Rattle.jh_lex.proofs.Unique.{one_list, fault_or_list}
+use Rattle.jh_lex.specs.declared.lexer.error.LexError.{LexError}
+use Rattle.jh_lex.specs.declared.lexer.token.Token.{Token}
+use Rattle.jh_lex.specs.lexer.Lexes.{Lexes, IsFirstFault}
+use Rattle.jh_lex.specs.lexer.Reports.{UnlessMemory}
+use Rattle.jh_lex.proofs.lexer.Unique.{one_list, fault_or_list}
 use Rattle.jh_name.specs.declared.place.Place.{Place}
-use Rattle.jh_nest.specs.Nesting.{nesting_at}
-use Rattle.jh_parse.specs.Members.{Spells as Spelled}
-use Rattle.jh_parse.specs.Parsed.{ParsedProgram}
-use Rattle.jh_spec.specs.declared.error.ParseError.{ParseError}
-use Rattle.jh_spec.specs.declared.error.ParseError.TheVariants as parse
-use Rattle.jh_parse.proofs.MemberComplete.{at_most_one_program}
+use Rattle.jh_spec.specs.nesting.Nesting.{nesting_at}
+use Rattle.jh_run.specs.jh_parse.programs.Members.{Spells as Spelled}
+use Rattle.jh_run.specs.jh_parse.programs.Parsed.{ParsedProgram}
+use Rattle.jh_spec.specs.declared.parser.error.ParseError.{ParseError}
+use Rattle.jh_spec.specs.declared.parser.error.ParseError.TheVariants as parse
+use Rattle.jh_run.proofs.of_jh_parse.programs.MemberComplete.{at_most_one_program}
 use Rattle.jh_vars.specs.Reading.{IsFirstCyclic}
 use Rattle.jh_rules.specs.Breaks.{Breaks}
-use Rattle.jh_runs.specs.LoweredProgram.{IsSound}
-use Rattle.jh_sequent.specs.Sequents.{SequentTree}
-use Rattle.jh_sequents.specs.Pairs.{ArePaired}
-use Rattle.jh_split.specs.Laws.{AllValid}
-use Rattle.jh_sound.specs.Laws.{IsAccepted}
-use Rattle.jh_sound.proofs.Lists.{and-left, and-right}
-use Rattle.jh_type.specs.Refused.{IsRefused}
-use Rattle.jh_type.specs.declared.typed.TypeError.{TypeError}
-use Rattle.jh_type.specs.declared.typed.TypeError.TheVariants as type
-use Rattle.jh_obligations.specs.Laws.{EachValid, OwedIsSound, LittleIsNotMuch, OwedIsOne}
-use Rattle.jh_obligations.specs.Owed.{Debt}
-use Rattle.jh_obligations.specs.Sources.{OwesLittle, OwesMuch}
-use Rattle.jh_prove.specs.Answers.{all_proved}
-use Rattle.jh_prove.specs.Laws.{ProvedIsValid, ProvableIsProved}
-use Rattle.jh_options.specs.declared.Options.{Options}
-use Rattle.jh_prove.specs.Right.{AllProvable}
-use Rattle.jh_report.specs.Report.{Reported, is_accepted}
+use Rattle.jh_semantics.specs.LoweredProgram.{IsSound}
+use Rattle.jh_gen_laws.specs.jh_seq.sequent.Sequents.{SequentTree}
+use Rattle.jh_report.specs.jh_splitting.Pairs.{ArePaired}
+use Rattle.jh_gen_laws.specs.jh_seq.splitting.Laws.{AllValid}
+use Rattle.jh_run.specs.jh_logic.source.Laws.{IsAccepted}
+use Rattle.jh_run.proofs.of_jh_logic.source.Lists.{and-left, and-right}
+use Rattle.jh_run.specs.jh_type.checker.Refused.{IsRefused}
+use Rattle.jh_run.specs.jh_type.declared.checker.typed.TypeError.{TypeError}
+use Rattle.jh_run.specs.jh_type.declared.checker.typed.TypeError.TheVariants as type
+use Rattle.jh_gen_laws.specs.jh_obligations.program_sequents.Laws.{EachValid, OwedIsSound, LittleIsNotMuch, OwedIsOne}
+use Rattle.jh_gen_laws.specs.jh_obligations.program_sequents.Owed.{Debt}
+use Rattle.jh_gen_laws.specs.jh_obligations.program_sequents.Sources.{OwesLittle, OwesMuch}
+use Rattle.jh_report.specs.jh_prove.prover.Answers.{all_proved}
+use Rattle.jh_report.specs.jh_prove.prover.Laws.{ProvedIsValid, ProvableIsProved}
+use Rattle.jh_name.specs.declared.options.Options.{Options}
+use Rattle.jh_report.specs.jh_prove.prover.Right.{AllProvable}
+use Rattle.jh_report.specs.report.Report.{Reported, is_accepted}
 use Rattle.jh_reply.specs.declared.error.Refusal.{Refusal}
 use Rattle.jh_reply.specs.declared.error.Refusal.TheVariants as refusal
 use Rattle.jh_reply.specs.Refusals.{Parses, Spells, RefusedAt, not_utf8, bad_char, open_comment, open_quote, too_wide, syntax, too_deep, IsTyped, IsMistyped, IsCircular, IsCrowded, IsLoopOf, IsWhy, refusal_of}

@@ -9,21 +9,21 @@ use Rattle.jh_ast.specs.Programs.{ProgramTree}
 use Rattle.jh_reply.specs.declared.reply.Reply.{Reply}
 use Rattle.jh_reply.specs.declared.reply.Reply.TheVariants as reply
 use Rattle.jh_vars.specs.States.{class_text}
-use Rattle.jh_obligations.specs.Sources.{OwesLittle, OwesMuch}
-use Rattle.jh_heap.specs.declared.reading.HeapError.{HeapError}
-use Rattle.jh_heap.specs.declared.reading.HeapError.TheVariants as heap
-use Rattle.jh_todo.specs.declared.stop.Stop.{Stop}
-use Rattle.jh_todo.specs.declared.stop.Stop.TheVariants as stop
-use Rattle.jh_outcome.specs.Outcomes.{IsReason, Returns, has_method}
-use Rattle.jh_outcome.specs.declared.unreturned.Unreturned.{Unreturned}
-use Rattle.jh_outcome.specs.declared.unreturned.Unreturned.TheVariants as unreturned_by
-use Rattle.jh_report.specs.Report.{Reported, report_of, is_accepted}
+use Rattle.jh_gen_laws.specs.jh_obligations.program_sequents.Sources.{OwesLittle, OwesMuch}
+use Rattle.jh_run.specs.jh_heap.declared.text.reading.HeapError.{HeapError}
+use Rattle.jh_run.specs.jh_heap.declared.text.reading.HeapError.TheVariants as heap
+use Rattle.jh_run.specs.jh_machine.declared.continuation.stop.Stop.{Stop}
+use Rattle.jh_run.specs.jh_machine.declared.continuation.stop.Stop.TheVariants as stop
+use Rattle.jh_run.specs.outcome.Outcomes.{IsReason, Returns, has_method}
+use Rattle.jh_run.specs.declared.outcome.unreturned.Unreturned.{Unreturned}
+use Rattle.jh_run.specs.declared.outcome.unreturned.Unreturned.TheVariants as unreturned_by
+use Rattle.jh_report.specs.report.Report.{Reported, report_of, is_accepted}
 use Rattle.jh_reply.specs.declared.error.Unreported.{Unreported}
 use Rattle.jh_reply.specs.declared.error.Unreported.TheVariants as unreported
 use Rattle.jh_reply.specs.Refusals.{Spells, RefusedAt, IsMistyped, IsCircular, IsCrowded, method_text}
 use Rattle.jh_name.specs.declared.place.MethodId.{MethodId}
 use Rattle.jh_name.specs.declared.place.Place.{Place}
-use Rattle.jh_options.specs.declared.Options.{Options}
+use Rattle.jh_name.specs.declared.options.Options.{Options}
 use Rattle.jh_reply.specs.Verify.{Tells, options_of, are_proved_or_spent, IsRead, IsRefused, IsIll, IsLooped, IsOverfull, IsReport, Judges, OwesProvable, source_limit}
 use Rattle.jh_reply.specs.Made.{default_options, IsSummary, made_source, summary_of}
 use Rattle.jh_reply.specs.Run.{IsBegun, IsCalled, IsOverflow, IsSource, ending_of, ending_status}

@@ -4,12 +4,12 @@ use Rattle.jh_files.specs.Contents.{Appends}
 use Rattle.jh_ast.specs.Programs.{ProgramTree}
 use Rattle.jh_gen.specs.Generated.{source, summary}
 use Rattle.jh_gen.specs.declared.summing.Counts.{Counts}
-use Rattle.jh_runs.specs.LoweredProgram.{IsSound}
-use Rattle.jh_options.specs.declared.Options.{Options}
-use Rattle.jh_prove.specs.Answers.{is_unproved}
-use Rattle.jh_prove.specs.declared.answer.Answer.{Answer}
-use Rattle.jh_prove.specs.declared.answer.Answer.TheVariants as answer
-use Rattle.jh_report.specs.Report.{Reported, all_answers, is_accepted}
+use Rattle.jh_semantics.specs.LoweredProgram.{IsSound}
+use Rattle.jh_name.specs.declared.options.Options.{Options}
+use Rattle.jh_report.specs.jh_prove.prover.Answers.{is_unproved}
+use Rattle.jh_report.specs.jh_prove.declared.prover.answer.Answer.{Answer}
+use Rattle.jh_report.specs.jh_prove.declared.prover.answer.Answer.TheVariants as answer
+use Rattle.jh_report.specs.report.Report.{Reported, all_answers, is_accepted}
 use Rattle.jh_reply.specs.Refusals.{Spells}
 use Rattle.jh_reply.specs.Verify.{Judges, OwesProvable, are_proved_or_spent}
 use Rattle.jh_words.specs.CommandLine.{Gen, gen, job_of, leaves, rounds}

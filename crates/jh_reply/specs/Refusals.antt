@@ -3,22 +3,22 @@ use Rattle.std.specs.Prelude.{ℕ, ◌≡◌, List, [], slice_get}
 use Rattle.std.specs.Option.{option_map_or}
 use Rattle.jh_name.specs.declared.place.MethodId.{MethodId}
 use Rattle.jh_name.specs.declared.place.Place.{Place}
-use Rattle.jh_lex.specs.declared.token.Token.{Token}
-use Rattle.jh_lex.specs.declared.error.LexError.TheVariants as lex
-use Rattle.jh_lex.specs.Lexes.{Lexes, IsFirstFault}
+use Rattle.jh_lex.specs.declared.lexer.token.Token.{Token}
+use Rattle.jh_lex.specs.declared.lexer.error.LexError.TheVariants as lex
+use Rattle.jh_lex.specs.lexer.Lexes.{Lexes, IsFirstFault}
 use Rattle.jh_ast.specs.Programs.{ClassPart, MethodPart, ProgramTree}
-use Rattle.jh_nest.specs.Nesting.{AllShallow, IsFirstDeep}
-use Rattle.jh_parse.specs.Members as grammar
+use Rattle.jh_spec.specs.nesting.Nesting.{AllShallow, IsFirstDeep}
+use Rattle.jh_run.specs.jh_parse.programs.Members as grammar
 use Rattle.jh_rules.specs.Breaks.{Breaks}
 use Rattle.jh_rules.specs.Faults.{fault}
 use Rattle.jh_rules.specs.Words.{text_of}
-use Rattle.jh_spec.specs.Parsed.{IsStart}
+use Rattle.jh_spec.specs.parser.Parsed.{IsStart}
 use Rattle.jh_vars.specs.Reading.{IsAcyclic, IsFirstCyclic}
 use Rattle.jh_vars.specs.States.{class_text}
-use Rattle.jh_obligations.specs.Sources.{OwesMuch}
-use Rattle.jh_type.specs.Refused.{IsLeastFault}
-use Rattle.jh_type.specs.declared.typed.TypeError.{TypeError}
-use Rattle.jh_type.specs.declared.typed.TypeError.TheVariants as type
+use Rattle.jh_gen_laws.specs.jh_obligations.program_sequents.Sources.{OwesMuch}
+use Rattle.jh_run.specs.jh_type.checker.Refused.{IsLeastFault}
+use Rattle.jh_run.specs.jh_type.declared.checker.typed.TypeError.{TypeError}
+use Rattle.jh_run.specs.jh_type.declared.checker.typed.TypeError.TheVariants as type
 use Rattle.jh_reply.specs.declared.error.Refusal.{Refusal}
 use Rattle.jh_reply.specs.declared.error.Refusal.TheVariants as refusal
 

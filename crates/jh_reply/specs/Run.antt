@@ -5,14 +5,14 @@ use Rattle.jh_ast.specs.Programs.{ProgramTree}
 use Rattle.jh_name.specs.declared.place.Place.{Place}
 use Rattle.jh_rules.specs.Names.{declared_in}
 use Rattle.jh_vars.specs.Written.{Callee}
-use Rattle.jh_runs.specs.Program.{Program, Method}
-use Rattle.jh_runs.specs.Progress.{Outcome, Stop, returned, stopped, null_dereferenced, assert_failed, no_object, steps_out}
-use Rattle.jh_runs.specs.Heaps.{Heap, Args}
-use Rattle.jh_runs.specs.LoweredProgram.{program_of}
-use Rattle.jh_heap.specs.Outlines.{outline_of}
-use Rattle.jh_heap.specs.Reading.{Reading, reading, read, bad_line, not_well_formed}
-use Rattle.jh_runner.specs.Runs.{outcome_on, OverflowsOn}
-use Rattle.jh_outcome.specs.Outcomes.{Returns, Starts, has_method}
+use Rattle.jh_semantics.specs.Program.{Program, Method}
+use Rattle.jh_semantics.specs.Progress.{Outcome, Stop, returned, stopped, null_dereferenced, assert_failed, no_object, steps_out}
+use Rattle.jh_semantics.specs.Heaps.{Heap, Args}
+use Rattle.jh_semantics.specs.LoweredProgram.{program_of}
+use Rattle.jh_run.specs.jh_heap.text.Outlines.{outline_of}
+use Rattle.jh_run.specs.jh_heap.text.Reading.{Reading, reading, read, bad_line, not_well_formed}
+use Rattle.jh_run.specs.runner.Runs.{outcome_on, OverflowsOn}
+use Rattle.jh_run.specs.outcome.Outcomes.{Returns, Starts, has_method}
 use Rattle.jh_reply.specs.Refusals.{Spells}
 use Rattle.jh_reply.specs.Verify.{Tells, source_limit}
 use Rattle.jh_words.specs.CommandLine.{Run, job_of, run}

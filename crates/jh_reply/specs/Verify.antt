@@ -5,14 +5,14 @@ use Rattle.jh_files.specs.Contents.{Appends}
 use Rattle.jh_ast.specs.Programs.{ProgramTree}
 use Rattle.jh_name.specs.declared.place.Place.{Place}
 use Rattle.jh_vars.specs.States.{class_text}
-use Rattle.jh_runs.specs.LoweredProgram.{IsSound}
-use Rattle.jh_sequents.specs.Pairs.{ArePaired}
-use Rattle.jh_obligations.specs.Owed.{Debt}
-use Rattle.jh_obligations.specs.Sources.{Owes}
-use Rattle.jh_options.specs.declared.Options.{Options}
-use Rattle.jh_prove.specs.Answers.{all_proved_or_spent}
-use Rattle.jh_prove.specs.Right.{AllRight, AllProvable}
-use Rattle.jh_report.specs.Report.{Reported, report_of, is_accepted}
+use Rattle.jh_semantics.specs.LoweredProgram.{IsSound}
+use Rattle.jh_report.specs.jh_splitting.Pairs.{ArePaired}
+use Rattle.jh_gen_laws.specs.jh_obligations.program_sequents.Owed.{Debt}
+use Rattle.jh_gen_laws.specs.jh_obligations.program_sequents.Sources.{Owes}
+use Rattle.jh_name.specs.declared.options.Options.{Options}
+use Rattle.jh_report.specs.jh_prove.prover.Answers.{all_proved_or_spent}
+use Rattle.jh_report.specs.jh_prove.prover.Right.{AllRight, AllProvable}
+use Rattle.jh_report.specs.report.Report.{Reported, report_of, is_accepted}
 use Rattle.jh_reply.specs.Refusals.{Spells, RefusedAt, IsMistyped, IsCircular, IsCrowded, method_text}
 use Rattle.jh_reply.specs.Words.{source_of}
 use Rattle.jh_words.specs.CommandLine.{Job, Verify, job_of, verify}

@@ -3,7 +3,7 @@ ghost use Rattle.std.specs.Prelude.{◌≡◌, ◌≢◌, ℕ, List};
 ghost use Rattle.jh_name.specs.declared.place.Place.{Place};
 ghost use Rattle.jh_reply.specs.Refusals.{IsCircular, IsCrowded, IsMistyped, RefusedAt};
 
-use jh_obligations::too_many_is_exact;
+use jh_gen_laws::jh_obligations::program_sequents::too_many_is_exact;
 
 /// At most one refusal applies to given bytes: they are refused with one number, at one place unless it is that of syntax; or they
 /// break a type rule; or they have a cyclic variable, of which one is the first; or a method has too

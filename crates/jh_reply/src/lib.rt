@@ -2,6 +2,9 @@
 //! a run prints, or why there is none of these.
 #![tactic(auto)]
 
+pub use jh_gen_laws::jh_obligations;
+pub use jh_report::jh_prove;
+
 mod error;
 mod laws;
 mod making;

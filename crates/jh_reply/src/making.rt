@@ -4,7 +4,7 @@
 ghost use Rattle.std.specs.Prelude.{◌-◌, ◌<◌, ◌≤◌, ◌^◌, length};
 ghost use Rattle.jh_ast.specs.Bare.{program_tree};
 ghost use Rattle.jh_ast.specs.Programs.{ProgramTree};
-ghost use Rattle.jh_sound.specs.Laws.{IsAccepted};
+ghost use Rattle.jh_run.specs.jh_logic.source.Laws.{IsAccepted};
 ghost use Rattle.jh_vars.specs.Reading.{IsAcyclic};
 ghost use Rattle.jh_words.specs.Held.{gen_in};
 ghost use Rattle.jh_reply.specs.Causes.{FitsGen, FitsMade, IsSumReply};
@@ -15,10 +15,10 @@ use crate::reading::{read, spelled_source_is_accepted};
 use crate::reply::{Reply, reply_to_refusal};
 use crate::tallying::tally;
 use jh_gen::{Counts, source_of, summary};
-use jh_made::made_is_program;
+use jh_gen_laws::program::made_is_program;
 use jh_name::NoMemory;
-use jh_options::Options;
-use jh_unfold::Unfolded;
+use jh_name::options::Options;
+use jh_run::jh_unfolding::unfolder::Unfolded;
 use jh_words::Gen;
 use std::alloc::Global;
 

@@ -2,20 +2,20 @@
 ghost use Rattle.std.specs.Prelude.{◌≡◌, ◌-◌, ◌<◌, ◌^◌, ℕ, List, length, IfErr, IfOk};
 ghost use Rattle.jh_ast.specs.Bare.{program_tree};
 ghost use Rattle.jh_ast.specs.Programs.{ProgramTree as SourceTree};
-ghost use Rattle.jh_lex.specs.Lexes.{Lexes};
-ghost use Rattle.jh_sound.specs.Laws.{IsAccepted};
+ghost use Rattle.jh_lex.specs.lexer.Lexes.{Lexes};
+ghost use Rattle.jh_run.specs.jh_logic.source.Laws.{IsAccepted};
 ghost use Rattle.jh_vars.specs.Reading.{IsAcyclic};
-ghost use Rattle.jh_unfold.specs.Holding.{IsCause};
+ghost use Rattle.jh_run.specs.jh_unfolding.unfolder.Holding.{IsCause};
 ghost use Rattle.jh_reply.specs.Refusals.{Parses, Spells, IsTyped, IsWhy, IsLoopOf, refusal_of};
 
 use crate::error::Refusal;
 use jh_ast::Program as Source;
-use jh_lex::{LexError, Token, places_rise, shape_of_tokens, tokens};
-use jh_parse::program;
-use jh_spec::ParseError;
-use jh_spelled::spelled_is_accepted;
-use jh_type::{TypeError, Typed, check};
-use jh_unfold::{Unfolded, VarsError, unfold};
+use jh_lex::lexer::{LexError, Token, places_rise, shape_of_tokens, tokens};
+use jh_run::jh_logic::text::spelled_is_accepted;
+use jh_run::jh_parse::programs::program;
+use jh_run::jh_type::checker::{TypeError, Typed, check};
+use jh_run::jh_unfolding::unfolder::{Unfolded, VarsError, unfold};
+use jh_spec::parser::ParseError;
 use std::alloc::Global;
 
 /// The most bytes that a source or a heap text may have.

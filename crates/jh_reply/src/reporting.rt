@@ -3,30 +3,30 @@
 
 ghost use Rattle.std.specs.Prelude.{◌≡◌, ◌<◌, ◌++◌, ◌∷◌, [], List, length, string_bytes, IfErr, IfOk, OnOk};
 ghost use Rattle.jh_ast.specs.Bare.{program_tree};
-ghost use Rattle.jh_asserting.specs.Told.{AreFormulas};
-ghost use Rattle.jh_sequents.specs.Pairs.{ArePaired};
-ghost use Rattle.jh_sound.specs.Laws.{IsAccepted};
-ghost use Rattle.jh_table.specs.Growth.{Extends};
+ghost use Rattle.jh_run.specs.jh_command_statements.checks.Told.{AreFormulas};
+ghost use Rattle.jh_report.specs.jh_splitting.Pairs.{ArePaired};
+ghost use Rattle.jh_run.specs.jh_logic.source.Laws.{IsAccepted};
+ghost use Rattle.jh_arena.specs.table.Growth.{Extends};
 ghost use Rattle.jh_vars.specs.Reading.{IsAcyclic};
 ghost use Rattle.jh_vars.specs.States.{class_text};
-ghost use Rattle.jh_obligations.specs.Owed.{AllStand, Debt, Stand};
-ghost use Rattle.jh_obligations.specs.Sources.{IsLogicFault, Owes};
-ghost use Rattle.jh_report.specs.Gathered.{Gathers};
-ghost use Rattle.jh_report.specs.Report.{Reported};
+ghost use Rattle.jh_gen_laws.specs.jh_obligations.program_sequents.Owed.{AllStand, Debt, Stand};
+ghost use Rattle.jh_gen_laws.specs.jh_obligations.program_sequents.Sources.{IsLogicFault, Owes};
+ghost use Rattle.jh_report.specs.report.Gathered.{Gathers};
+ghost use Rattle.jh_report.specs.report.Report.{Reported};
 ghost use Rattle.jh_reply.specs.Causes.{IsUnreported, crowded_text};
 ghost use Rattle.jh_reply.specs.Refusals.{method_text};
 ghost use Rattle.jh_reply.specs.Verify.{IsJudged, IsReport, Judges};
 
 use crate::error::Unreported;
+use jh_arena::table::Table;
 use jh_ast::Program;
+use jh_gen_laws::jh_obligations::program_sequents::{LogicError, obligations};
+use jh_name::options::Options;
 use jh_name::{MethodId, NoMemory};
-use jh_obligations::{LogicError, obligations};
-use jh_options::Options;
-use jh_prove::{Answer, answers};
-use jh_report::Report;
-use jh_sequents::Sequents;
-use jh_table::Table;
-use jh_unfold::{Parts, Unfolded};
+use jh_report::jh_prove::prover::{Answer, answers};
+use jh_report::jh_splitting::Sequents;
+use jh_report::report::Report;
+use jh_run::jh_unfolding::unfolder::{Parts, Unfolded};
 use std::alloc::Global;
 
 /// A report on a program, and whether every sequent is proved.

@@ -9,11 +9,11 @@ ghost use Rattle.jh_words.specs.Held.{run_in};
 use crate::reading::{SOURCE_LIMIT, read};
 use crate::reply::{Reply, reply_to_fault, reply_to_refusal, said};
 use jh_files::Files;
-use jh_heap::HeapError;
 use jh_name::{NoMemory, Place, Text};
-use jh_outcome::{Unreturned, has_method, run_method};
-use jh_todo::Stop;
-use jh_unfold::Unfolded;
+use jh_run::jh_heap::text::HeapError;
+use jh_run::jh_machine::continuation::Stop;
+use jh_run::jh_unfolding::unfolder::Unfolded;
+use jh_run::outcome::{Unreturned, has_method, run_method};
 use jh_words::{Run, no_method, page};
 use std::alloc::Global;
 

@@ -4,16 +4,16 @@
 ghost use Rattle.std.specs.Prelude.{◌≡◌, ◌+◌, ◌<◌, ◌++◌, ◌∷◌, [], ℕ, List, count_by, IfErr, IfOk, OnOk};
 ghost use Rattle.jh_ast.specs.Bare.{program_tree};
 ghost use Rattle.jh_ast.specs.Programs.{ProgramTree};
-ghost use Rattle.jh_asserting.specs.Told.{AreFormulas};
-ghost use Rattle.jh_sequent.specs.Sequents.{SequentTree};
-ghost use Rattle.jh_sequents.specs.Pairs.{ArePaired};
-ghost use Rattle.jh_sound.specs.Laws.{IsAccepted};
-ghost use Rattle.jh_table.specs.Growth.{Extends};
+ghost use Rattle.jh_run.specs.jh_command_statements.checks.Told.{AreFormulas};
+ghost use Rattle.jh_gen_laws.specs.jh_seq.sequent.Sequents.{SequentTree};
+ghost use Rattle.jh_report.specs.jh_splitting.Pairs.{ArePaired};
+ghost use Rattle.jh_run.specs.jh_logic.source.Laws.{IsAccepted};
+ghost use Rattle.jh_arena.specs.table.Growth.{Extends};
 ghost use Rattle.jh_vars.specs.Reading.{IsAcyclic};
-ghost use Rattle.jh_obligations.specs.Owed.{AllStand, Debt, Stand};
-ghost use Rattle.jh_obligations.specs.Sources.{Owes};
-ghost use Rattle.jh_prove.specs.Answers.{is_unproved};
-ghost use Rattle.jh_report.specs.Report.{Reported};
+ghost use Rattle.jh_gen_laws.specs.jh_obligations.program_sequents.Owed.{AllStand, Debt, Stand};
+ghost use Rattle.jh_gen_laws.specs.jh_obligations.program_sequents.Sources.{Owes};
+ghost use Rattle.jh_report.specs.jh_prove.prover.Answers.{is_unproved};
+ghost use Rattle.jh_report.specs.report.Report.{Reported};
 ghost use Rattle.jh_reply.specs.Causes.{IsUnreported};
 ghost use Rattle.jh_reply.specs.Made as spec;
 ghost use Rattle.jh_reply.specs.Made.{IsTallied, IsTally};
@@ -21,14 +21,14 @@ ghost use Rattle.jh_reply.specs.Verify.{IsJudged};
 
 use crate::error::Unreported;
 use crate::reporting::why_unreported;
+use jh_arena::table::Table;
 use jh_gen::Counts;
+use jh_gen_laws::jh_obligations::program_sequents::obligations;
 use jh_name::NoMemory;
-use jh_obligations::obligations;
-use jh_options::Options;
-use jh_prove::{Answer, answers, is_unproved};
-use jh_sequents::Sequents;
-use jh_table::Table;
-use jh_unfold::{Parts, Unfolded};
+use jh_name::options::Options;
+use jh_report::jh_prove::prover::{Answer, answers, is_unproved};
+use jh_report::jh_splitting::Sequents;
+use jh_run::jh_unfolding::unfolder::{Parts, Unfolded};
 use std::alloc::Global;
 
 fn is_trivial(answer: &Answer) -> bool

@@ -3,7 +3,7 @@
 
 ghost use Rattle.std.specs.Prelude.{◌≡◌, ◌-◌, ◌<◌, ◌^◌, ℕ, List, length, string_bytes};
 ghost use Rattle.jh_ast.specs.Bare.{program_tree};
-ghost use Rattle.jh_sound.specs.Laws.{IsAccepted};
+ghost use Rattle.jh_run.specs.jh_logic.source.Laws.{IsAccepted};
 ghost use Rattle.jh_vars.specs.Reading.{IsAcyclic};
 ghost use Rattle.jh_reply.specs.Causes.{FitsBytes, FitsFile, IsReply};
 
@@ -12,8 +12,8 @@ use crate::reading::{SOURCE_LIMIT, read, spelled_source_is_accepted};
 use crate::reply::{Reply, reply_to_fault, reply_to_refusal};
 use crate::reporting::verify;
 use jh_files::Files;
-use jh_options::Options;
-use jh_unfold::Unfolded;
+use jh_name::options::Options;
+use jh_run::jh_unfolding::unfolder::Unfolded;
 use std::alloc::Global;
 
 fn reply_to_program(alloc: Global, options: Options, source: Unfolded) -> Reply

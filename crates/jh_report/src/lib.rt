@@ -1,7 +1,8 @@
-//! The report on a program, made method by method.
+//! The report.
 #![tactic(auto)]
 
-mod line;
-mod report;
+pub mod causes;
+pub mod report;
 
-pub use report::Report;
+pub use jh_prove;
+pub use jh_splitting;

@@ -1,8 +1,8 @@
 -- Each rule broken by a small source, with the place, and beside it a source that breaks none.
 use Rattle.std.proofs.Common.{◌≡◌, refl, ℕ, pos, Bool, true, false, List, [], ◌∷◌, Option, Some, None, codes}
-use Rattle.jh_name.specs.declared.place.Place.{Place}
-use Rattle.jh_name.specs.declared.place.Kind.{Kind}
-use Rattle.jh_name.specs.declared.place.Kind.TheVariants as k
+use Rattle.jh_ast.specs.jh_name.declared.place.Place.{Place}
+use Rattle.jh_ast.specs.jh_name.declared.place.Kind.{Kind}
+use Rattle.jh_ast.specs.jh_name.declared.place.Kind.TheVariants as k
 use Rattle.jh_ast.specs.declared.word.Word.{Word}
 use Rattle.jh_ast.specs.declared.word.JType.{JType}
 use Rattle.jh_ast.specs.declared.word.JType.TheVariants as j

@@ -3,7 +3,7 @@ use Rattle.std.proofs.Common.{◌≡◌, refl, sym, ap, ◌∙◌, ℕ, Bool, tr
 use Rattle.std.specs.Option.{option_map_or}
 use Rattle.std.proofs.lemmas.Bool.{true≢false}
 use Rattle.std.proofs.lemmas.Bool.Decides.{nat_tests}
-use Rattle.jh_name.specs.declared.place.Place.{Place}
+use Rattle.jh_ast.specs.jh_name.declared.place.Place.{Place}
 use Rattle.jh_rules.specs.declared.fault.Fault.{Fault}
 use Rattle.jh_rules.specs.declared.found.Found.{Found}
 use Rattle.jh_rules.specs.Faults.{Judged, right, wrong, needs, both, pair_of, ◌>>=◌}

@@ -1,7 +1,7 @@
 -- Which rules a program breaks, and where.
 use Rattle.std.specs.Prelude.{ℕ, List}
 use Rattle.std.specs.List.{Contains}
-use Rattle.jh_name.specs.declared.place.Place.{Place}
+use Rattle.jh_ast.specs.jh_name.declared.place.Place.{Place}
 use Rattle.jh_ast.specs.Programs.{ProgramTree}
 use Rattle.jh_rules.specs.declared.fault.Fault.{Fault}
 use Rattle.jh_rules.specs.Faults.{fault}

@@ -2,7 +2,7 @@
 use Rattle.std.specs.Prelude.{ℕ, ◌||◌, not, Bool, true, false, List, ◌∷◌, length, Option, Some, None, is_some, codes, if◌then◌else◌}
 use Rattle.std.specs.List.{flat_map}
 use Rattle.std.specs.Option.{option_map_or}
-use Rattle.jh_name.specs.declared.place.Place.{Place}
+use Rattle.jh_ast.specs.jh_name.declared.place.Place.{Place}
 use Rattle.jh_ast.specs.declared.word.Word.{Word}
 use Rattle.jh_ast.specs.declared.expr.Op.{Op}
 use Rattle.jh_ast.specs.declared.expr.Op.TheVariants as op

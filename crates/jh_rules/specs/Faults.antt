@@ -1,7 +1,7 @@
 -- What is found of a part: the faults in it, and what is known of it where nothing is wrong.
 use Rattle.std.specs.Prelude.{ℕ, Bool, List, [], ◌∷◌, ◌++◌, Option, Some, None, if◌then◌else◌}
 use Rattle.std.specs.Option.{option_map_or}
-use Rattle.jh_name.specs.declared.place.Place.{Place}
+use Rattle.jh_ast.specs.jh_name.declared.place.Place.{Place}
 use Rattle.jh_rules.specs.declared.fault.Fault.{Fault}
 
 abbrev pub fault : ℕ → Place → Fault

@@ -2,9 +2,9 @@
 use Rattle.std.specs.Prelude.{ℕ, ◌&&◌, ◌||◌, Bool, true, false, List, [], ◌∷◌, ◌++◌, map, Option, Some, None, is_some, option_map, codes, if◌then◌else◌}
 use Rattle.std.specs.List.{flat_map, list_all}
 use Rattle.std.specs.Option.{option_map_or}
-use Rattle.jh_name.specs.declared.place.Place.{Place}
-use Rattle.jh_name.specs.declared.place.Kind.{Kind}
-use Rattle.jh_name.specs.declared.place.Kind.TheVariants as k
+use Rattle.jh_ast.specs.jh_name.declared.place.Place.{Place}
+use Rattle.jh_ast.specs.jh_name.declared.place.Kind.{Kind}
+use Rattle.jh_ast.specs.jh_name.declared.place.Kind.TheVariants as k
 use Rattle.jh_ast.specs.declared.word.Word.{Word}
 use Rattle.jh_ast.specs.declared.spec.SpecOp.{SpecOp}
 use Rattle.jh_ast.specs.declared.spec.SpecOp.TheVariants as op

@@ -1,7 +1,7 @@
 -- Types and kinds as tests.
 use Rattle.std.specs.Prelude.{ℕ, ◌==◌, ◌||◌, Bool, true, false, Option, Some, None}
-use Rattle.jh_name.specs.declared.place.Kind.{Kind}
-use Rattle.jh_name.specs.declared.place.Kind.TheVariants as k
+use Rattle.jh_ast.specs.jh_name.declared.place.Kind.{Kind}
+use Rattle.jh_ast.specs.jh_name.declared.place.Kind.TheVariants as k
 use Rattle.jh_rules.specs.declared.types.Ty.{Ty}
 use Rattle.jh_rules.specs.declared.types.Ty.TheVariants as ty
 

@@ -2,8 +2,8 @@
 use Rattle.std.specs.Prelude.{ℕ, ◌+◌, Bool, false, true, List, [], ◌∷◌, ◌++◌, map, Option, Some, None, option_map, is_some, slice_get, codes, if◌then◌else◌}
 use Rattle.std.specs.List.{flat_map}
 use Rattle.std.specs.Option.{option_map_or}
-use Rattle.jh_name.specs.declared.place.Kind.{Kind}
-use Rattle.jh_name.specs.declared.place.Kind.TheVariants as k
+use Rattle.jh_ast.specs.jh_name.declared.place.Kind.{Kind}
+use Rattle.jh_ast.specs.jh_name.declared.place.Kind.TheVariants as k
 use Rattle.jh_ast.specs.declared.word.Word.{Word}
 use Rattle.jh_ast.specs.declared.word.JType.{JType}
 use Rattle.jh_ast.specs.declared.word.JType.TheVariants as j

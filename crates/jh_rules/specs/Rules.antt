@@ -2,9 +2,9 @@
 use Rattle.std.specs.Prelude.{ℕ, ℤ, pos, ◌==◌, nat_lt, ◌&&◌, ◌||◌, not, Bool, true, false, List, [], ◌∷◌, map, length, Option, Some, None, is_some, codes, if◌then◌else◌}
 use Rattle.std.specs.List.{list_any}
 use Rattle.std.specs.Option.{option_map_or}
-use Rattle.jh_name.specs.declared.place.Place.{Place}
-use Rattle.jh_name.specs.declared.place.Kind.{Kind}
-use Rattle.jh_name.specs.declared.place.Kind.TheVariants as k
+use Rattle.jh_ast.specs.jh_name.declared.place.Place.{Place}
+use Rattle.jh_ast.specs.jh_name.declared.place.Kind.{Kind}
+use Rattle.jh_ast.specs.jh_name.declared.place.Kind.TheVariants as k
 use Rattle.jh_ast.specs.declared.word.Word.{Word}
 use Rattle.jh_ast.specs.declared.word.JType.{JType}
 use Rattle.jh_ast.specs.declared.word.JType.TheVariants as j

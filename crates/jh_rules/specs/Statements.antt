@@ -2,8 +2,8 @@
 use Rattle.std.specs.Prelude.{ℕ, ◌+◌, ◌&&◌, not, Bool, true, false, List, [], ◌∷◌, ◌++◌, Option, Some, None, is_some, option_map, codes}
 use Rattle.std.specs.List.{flat_map}
 use Rattle.std.specs.Option.{option_map_or}
-use Rattle.jh_name.specs.declared.place.Place.{Place}
-use Rattle.jh_name.specs.declared.place.Kind.{Kind}
+use Rattle.jh_ast.specs.jh_name.declared.place.Place.{Place}
+use Rattle.jh_ast.specs.jh_name.declared.place.Kind.{Kind}
 use Rattle.jh_ast.specs.declared.word.Word.{Word}
 use Rattle.jh_ast.specs.declared.word.JType.{JType}
 use Rattle.jh_ast.specs.declared.word.JType.TheVariants as j

@@ -2,7 +2,7 @@
 use Rattle.std.specs.Prelude.{ℕ, ◌==◌, ◌&&◌, ◌||◌, nat_lt, nat_eq, Bool, List, [], ◌∷◌, Option, Some, None, option_map, if◌then◌else◌}
 use Rattle.std.specs.List.{list_any}
 use Rattle.std.specs.Cmp.Lexicographic.{pointwise}
-use Rattle.jh_name.specs.declared.place.Place.{Place}
+use Rattle.jh_ast.specs.jh_name.declared.place.Place.{Place}
 use Rattle.jh_ast.specs.declared.word.Word.{Word}
 
 -- texts

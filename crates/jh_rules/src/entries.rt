@@ -1,5 +1,5 @@
 use crate::Ty;
-use jh_name::{Kind, Row};
+use jh_ast::jh_name::{Kind, Row};
 
 /// What a field or static is: static or not, and its type where the type word is known.
 #[derive(Clone, Copy, PartialEq, Eq)]

@@ -5,7 +5,7 @@ ghost use Rattle.jh_rules.specs.Faults.{Judged, needs, right, wrong, given, both
 ghost use Rattle.jh_rules.specs.Found.{Finds, is_less, lesser, asked_of};
 
 use crate::Fault;
-use jh_name::Place;
+use jh_ast::jh_name::Place;
 
 /// What is found of a part of a program: the least fault in it, and what is known of it where nothing in it
 /// is wrong.

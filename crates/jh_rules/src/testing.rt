@@ -7,8 +7,8 @@ ghost use Rattle.jh_rules.specs.Words.{is_before};
 ghost use Rattle.jh_ast.specs.Bare.{expr_tree, expr_body_tree};
 
 use crate::Ty;
+use jh_ast::jh_name::{Kind, Place};
 use jh_ast::{Expr, ExprBody};
-use jh_name::{Kind, Place};
 
 /// Whether a type is int.
 pub fn is_int(ty: Ty) -> bool

@@ -1,19 +1,19 @@
 -- How what is closed goes back over nodes.
 use Rattle.std.proofs.Common.{◌≡◌, refl, sym, ap, ◌∙◌, subst, ℕ, true, false, List, [], ◌∷◌, ◌++◌, length, Some, slice_get, ◌⊎◌, inl, inr}
 use Rattle.std.proofs.lemmas.List.{map-append, length-map}
-use Rattle.jh_tree.specs.Tree.{ValueTree}
-use Rattle.jh_table.proofs.Listed.{slice_get-append, slice_get-last}
-use Rattle.jh_structure.specs.Literals.{LiteralTree, IsListed}
-use Rattle.jh_closure.specs.Nodes.{Has}
-use Rattle.jh_closure.proofs.Having.{has-left, has-last, has-pushed}
-use Rattle.jh_models.specs.Budget.{IsSpent}
-use Rattle.jh_backjumping.specs.Paths as paths
-use Rattle.jh_backjumping.specs.Laws.{SearchGoesBack}
-use Rattle.jh_trail.specs.declared.decided.Decided.{Decided}
-use Rattle.jh_trail.specs.Listing.{DecideOnce}
-use Rattle.jh_trail.specs.Saying.{literal_tree_at, literals_at, opposite_of}
-use Rattle.jh_propagating.specs.declared.problem.Problem.{Problem}
-use Rattle.jh_propagating.specs.Problems.{instances_in}
+use Rattle.jh_form.specs.Tree.{ValueTree}
+use Rattle.jh_arena.proofs.table.Listed.{slice_get-append, slice_get-last}
+use Rattle.jh_closure.specs.structures.Literals.{LiteralTree, IsListed}
+use Rattle.jh_closure.specs.congruence_closure.Nodes.{Has}
+use Rattle.jh_closure.proofs.congruence_closure.Having.{has-left, has-last, has-pushed}
+use Rattle.jh_models.specs.ground_models.Budget.{IsSpent}
+use Rattle.jh_models.specs.backjumping.Paths as paths
+use Rattle.jh_models.specs.backjumping.Laws.{SearchGoesBack}
+use Rattle.jh_propagation.specs.declared.trail.decided.Decided.{Decided}
+use Rattle.jh_propagation.specs.trail.Listing.{DecideOnce}
+use Rattle.jh_propagation.specs.trail.Saying.{literal_tree_at, literals_at, opposite_of}
+use Rattle.jh_propagation.specs.declared.propagation.problem.Problem.{Problem}
+use Rattle.jh_propagation.specs.propagation.Problems.{instances_in}
 use Rattle.jh_search.specs.declared.turn.Turn.{Turn}
 use Rattle.jh_search.specs.declared.turn.ClosedBranch.{ClosedBranch}
 use Rattle.jh_search.specs.Joining.{AreJoined}

@@ -2,27 +2,27 @@
 use Rattle.std.proofs.Common.{◌≡◌, sym, ap, ◌∙◌, subst, ℕ, ◌<◌, arith, Bool, true, false, List, [], ◌∷◌, ◌++◌, length, drop, Some, slice_get, ◌⊎◌, inl, inr}
 use Rattle.std.proofs.lemmas.List.{length-map}
 use Rattle.std.proofs.lemmas.Option.{slice_get_within}
-use Rattle.jh_tree.specs.Tree.{FormulaTree, ValueTree}
-use Rattle.jh_table.specs.Nodes.{nodes}
-use Rattle.jh_table.specs.Growth.{AreDifferent}
-use Rattle.jh_structure.specs.Literals.{LiteralTree, IsListed}
-use Rattle.jh_closure.specs.Nodes.{Has}
-use Rattle.jh_closure.proofs.Having.{has-pushed, has-at}
-use Rattle.jh_models.specs.Atoms.{literal, IsGroundAtom}
-use Rattle.jh_models.specs.Clashes.{DecidesAtom, IsOpen}
-use Rattle.jh_models.specs.Fixpoints.{IsFixpoint}
-use Rattle.jh_models.specs.GroundModel.{IsGroundModel}
-use Rattle.jh_models.specs.Laws.{FixpointIsOpen, WholeFixpointIsModel}
-use Rattle.jh_backjumping.specs.Paths as paths
-use Rattle.jh_backjumping.specs.Laws.{SearchGoesOn}
-use Rattle.jh_trail.specs.declared.decided.Decided.{Decided}
-use Rattle.jh_trail.specs.Listing.{decided, DecideOnce, IsUndecided}
-use Rattle.jh_trail.specs.Saying.{truth_at, literal_tree_at, literals_at}
-use Rattle.jh_propagating.specs.declared.problem.Problem.{Problem}
-use Rattle.jh_propagating.specs.declared.branch.Branch.{Branch}
-use Rattle.jh_propagating.specs.declared.branch.Reason.TheVariants as reason
-use Rattle.jh_propagating.specs.Problems.{instances_in}
-use Rattle.jh_propagating.specs.Branches.{IsBranch, IsSaid, parts_of}
+use Rattle.jh_form.specs.Tree.{FormulaTree, ValueTree}
+use Rattle.jh_arena.specs.table.Nodes.{nodes}
+use Rattle.jh_arena.specs.table.Growth.{AreDifferent}
+use Rattle.jh_closure.specs.structures.Literals.{LiteralTree, IsListed}
+use Rattle.jh_closure.specs.congruence_closure.Nodes.{Has}
+use Rattle.jh_closure.proofs.congruence_closure.Having.{has-pushed, has-at}
+use Rattle.jh_models.specs.ground_models.Atoms.{literal, IsGroundAtom}
+use Rattle.jh_models.specs.ground_models.Clashes.{DecidesAtom, IsOpen}
+use Rattle.jh_models.specs.ground_models.Fixpoints.{IsFixpoint}
+use Rattle.jh_models.specs.ground_models.GroundModel.{IsGroundModel}
+use Rattle.jh_models.specs.ground_models.Laws.{FixpointIsOpen, WholeFixpointIsModel}
+use Rattle.jh_models.specs.backjumping.Paths as paths
+use Rattle.jh_models.specs.backjumping.Laws.{SearchGoesOn}
+use Rattle.jh_propagation.specs.declared.trail.decided.Decided.{Decided}
+use Rattle.jh_propagation.specs.trail.Listing.{decided, DecideOnce, IsUndecided}
+use Rattle.jh_propagation.specs.trail.Saying.{truth_at, literal_tree_at, literals_at}
+use Rattle.jh_propagation.specs.declared.propagation.problem.Problem.{Problem}
+use Rattle.jh_propagation.specs.declared.propagation.branch.Branch.{Branch}
+use Rattle.jh_propagation.specs.declared.propagation.branch.Reason.TheVariants as reason
+use Rattle.jh_propagation.specs.propagation.Problems.{instances_in}
+use Rattle.jh_propagation.specs.propagation.Branches.{IsBranch, IsSaid, parts_of}
 use Rattle.jh_search.specs.declared.turn.Turn.{Turn}
 use Rattle.jh_search.specs.declared.turn.Searching.{Searching}
 use Rattle.jh_search.specs.declared.turn.ClosedBranch.{ClosedBranch}

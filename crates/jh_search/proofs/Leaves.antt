@@ -1,23 +1,23 @@
 -- How a branch is closed over nodes.
 use Rattle.std.proofs.Common.{◌≡◌, refl, sym, ap, ◌∙◌, subst, suc, arith, true, List, [], ◌∷◌, ◌++◌, append_assoc, append-nil, length, inl, inr}
 use Rattle.std.proofs.lemmas.List.{map-append}
-use Rattle.jh_tree.specs.Tree.{FormulaTree, ValueTree}
-use Rattle.jh_table.specs.Nodes.{nodes}
-use Rattle.jh_table.specs.Growth.{AreDifferent}
-use Rattle.jh_structure.specs.Literals.{LiteralTree, IsListed}
-use Rattle.jh_closure.specs.Nodes.{Has}
-use Rattle.jh_models.specs.Clashes.{Clash, none}
-use Rattle.jh_models.specs.Explanations.{Closes, IsExplanation}
-use Rattle.jh_models.specs.Branches.{ClosedTree}
-use Rattle.jh_backjumping.specs.Paths as paths
-use Rattle.jh_backjumping.specs.Laws.{SearchGoesOn}
-use Rattle.jh_trail.specs.declared.decided.Decided.{Decided}
-use Rattle.jh_trail.specs.Saying.{literal_tree_at, literals_at}
-use Rattle.jh_propagating.specs.declared.problem.Problem.{Problem}
-use Rattle.jh_propagating.specs.declared.branch.Cause.{Cause}
-use Rattle.jh_propagating.specs.Problems.{instances_in}
-use Rattle.jh_explaining.specs.declared.step.Step.{Step}
-use Rattle.jh_explaining.specs.Steps.{literals_of, trees_of}
+use Rattle.jh_form.specs.Tree.{FormulaTree, ValueTree}
+use Rattle.jh_arena.specs.table.Nodes.{nodes}
+use Rattle.jh_arena.specs.table.Growth.{AreDifferent}
+use Rattle.jh_closure.specs.structures.Literals.{LiteralTree, IsListed}
+use Rattle.jh_closure.specs.congruence_closure.Nodes.{Has}
+use Rattle.jh_models.specs.ground_models.Clashes.{Clash, none}
+use Rattle.jh_models.specs.ground_models.Explanations.{Closes, IsExplanation}
+use Rattle.jh_models.specs.ground_models.Branches.{ClosedTree}
+use Rattle.jh_models.specs.backjumping.Paths as paths
+use Rattle.jh_models.specs.backjumping.Laws.{SearchGoesOn}
+use Rattle.jh_propagation.specs.declared.trail.decided.Decided.{Decided}
+use Rattle.jh_propagation.specs.trail.Saying.{literal_tree_at, literals_at}
+use Rattle.jh_propagation.specs.declared.propagation.problem.Problem.{Problem}
+use Rattle.jh_propagation.specs.declared.propagation.branch.Cause.{Cause}
+use Rattle.jh_propagation.specs.propagation.Problems.{instances_in}
+use Rattle.jh_explanations.specs.declared.step.Step.{Step}
+use Rattle.jh_explanations.specs.Steps.{literals_of, trees_of}
 use Rattle.jh_search.specs.declared.turn.Turn.{Turn}
 use Rattle.jh_search.specs.declared.turn.ClosedBranch.{ClosedBranch}
 use Rattle.jh_search.specs.declared.turn.Searching.{Searching}

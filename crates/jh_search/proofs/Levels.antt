@@ -2,17 +2,17 @@
 use Rattle.std.proofs.Common.{◌≡◌, refl, sym, ◌∙◌, subst, ℕ, zero, suc, ◌<◌, ◌≤◌, arith, List, [], ◌∷◌, ◌++◌, length, take, take-take, drop, Some, slice_get, ◌⊎◌, inl, inr}
 use Rattle.std.proofs.lemmas.List.{length-take-le}
 use Rattle.std.proofs.lemmas.Option.{slice_get_within}
-use Rattle.jh_table.specs.Nodes.{nodes}
-use Rattle.jh_table.proofs.Listed.{slice_get-append, slice_get-last}
-use Rattle.jh_closure.specs.Cores.{Begins}
-use Rattle.jh_models.specs.GroundModel.{IsMet}
-use Rattle.jh_trail.specs.declared.decided.Decided.{Decided}
-use Rattle.jh_trail.specs.Saying.{literals_at}
-use Rattle.jh_propagating.specs.declared.problem.Problem.{Problem}
-use Rattle.jh_propagating.specs.declared.branch.Reason.{Reason}
-use Rattle.jh_propagating.specs.Branches.{Parts, AreParts}
-use Rattle.jh_propagating.specs.Levels.{IsLevel, cut_to}
-use Rattle.jh_propagating.proofs.Levels.{level-here, level-alike, level-longer}
+use Rattle.jh_arena.specs.table.Nodes.{nodes}
+use Rattle.jh_arena.proofs.table.Listed.{slice_get-append, slice_get-last}
+use Rattle.jh_closure.specs.congruence_closure.Cores.{Begins}
+use Rattle.jh_models.specs.ground_models.GroundModel.{IsMet}
+use Rattle.jh_propagation.specs.declared.trail.decided.Decided.{Decided}
+use Rattle.jh_propagation.specs.trail.Saying.{literals_at}
+use Rattle.jh_propagation.specs.declared.propagation.problem.Problem.{Problem}
+use Rattle.jh_propagation.specs.declared.propagation.branch.Reason.{Reason}
+use Rattle.jh_propagation.specs.propagation.Branches.{Parts, AreParts}
+use Rattle.jh_propagation.specs.propagation.Levels.{IsLevel, cut_to}
+use Rattle.jh_propagation.proofs.propagation.Levels.{level-here, level-alike, level-longer}
 use Rattle.jh_search.specs.declared.turn.Turn.{Turn}
 use Rattle.jh_search.specs.Levels.{AreLevels, IsTurnedFrom}
 use Rattle.jh_search.proofs.Lists.{slice-pushed}

@@ -1,14 +1,14 @@
 -- Literals over nodes and over formulas in lists.
 use Rattle.std.proofs.Common.{◌≡◌, refl, sym, ap, ◌∙◌, subst, ℕ, zero, suc, ◌+◌, ◌<◌, arith, add-one, List, [], ◌∷◌, ◌++◌, length, take, Some, None, Result, Ok, Err, IfOk, OnOk, Option, IfNone, IfSome, slice_get, ◌⊎◌, inl, inr}
 use Rattle.std.proofs.lemmas.Option.{slice_get_within}
-use Rattle.jh_tree.specs.Tree.{ValueTree, of_truth}
-use Rattle.jh_table.specs.Growth.{AreDifferent}
-use Rattle.jh_table.proofs.Children.{it-is-truth}
-use Rattle.jh_structure.specs.Literals.{LiteralTree, IsListed}
-use Rattle.jh_closure.specs.Nodes.{Has}
-use Rattle.jh_trail.specs.declared.decided.Decided.{Decided}
-use Rattle.jh_trail.specs.Listing.{decided}
-use Rattle.jh_trail.specs.Saying.{IsTruth, truth_at, literal_tree_at, literals_at}
+use Rattle.jh_form.specs.Tree.{ValueTree, of_truth}
+use Rattle.jh_arena.specs.table.Growth.{AreDifferent}
+use Rattle.jh_arena.proofs.table.Children.{it-is-truth}
+use Rattle.jh_closure.specs.structures.Literals.{LiteralTree, IsListed}
+use Rattle.jh_closure.specs.congruence_closure.Nodes.{Has}
+use Rattle.jh_propagation.specs.declared.trail.decided.Decided.{Decided}
+use Rattle.jh_propagation.specs.trail.Listing.{decided}
+use Rattle.jh_propagation.specs.trail.Saying.{IsTruth, truth_at, literal_tree_at, literals_at}
 
 pub has-listed : (ts : List ValueTree) (ds : List Decided) (d : Decided) → Has ds d → IsListed (literals_at ts ds) (literal_tree_at ts d)
 has-listed ts [] d h = absurd h

@@ -2,16 +2,16 @@
 use Rattle.std.proofs.Common.{◌≡◌, sym, ap, ◌∙◌, subst, ℕ, ◌+◌, ◌<◌, ◌-◌, arith, List, [], ◌∷◌, length, length-append, take, append-nil, Some, slice_get}
 use Rattle.std.proofs.lemmas.List.{length-take-le}
 use Rattle.std.proofs.lemmas.Option.{slice_get_within, same_Some}
-use Rattle.jh_table.specs.Nodes.{nodes}
-use Rattle.jh_table.proofs.Listed.{slice_get-last}
-use Rattle.jh_closure.proofs.Growing.{begins-same}
-use Rattle.jh_backjumping.specs.Paths as paths
-use Rattle.jh_propagating.specs.declared.problem.Problem.{Problem}
-use Rattle.jh_propagating.specs.declared.branch.Branch.{Branch}
-use Rattle.jh_propagating.specs.declared.branch.Cause.{Cause}
-use Rattle.jh_propagating.specs.Problems.{instances_in}
-use Rattle.jh_propagating.specs.Branches.{IsBranch, IsLonger, parts_of}
-use Rattle.jh_propagating.specs.Closings.{IsCause}
+use Rattle.jh_arena.specs.table.Nodes.{nodes}
+use Rattle.jh_arena.proofs.table.Listed.{slice_get-last}
+use Rattle.jh_closure.proofs.congruence_closure.Growing.{begins-same}
+use Rattle.jh_models.specs.backjumping.Paths as paths
+use Rattle.jh_propagation.specs.declared.propagation.problem.Problem.{Problem}
+use Rattle.jh_propagation.specs.declared.propagation.branch.Branch.{Branch}
+use Rattle.jh_propagation.specs.declared.propagation.branch.Cause.{Cause}
+use Rattle.jh_propagation.specs.propagation.Problems.{instances_in}
+use Rattle.jh_propagation.specs.propagation.Branches.{IsBranch, IsLonger, parts_of}
+use Rattle.jh_propagation.specs.propagation.Closings.{IsCause}
 use Rattle.jh_search.specs.declared.turn.Turn.{Turn}
 use Rattle.jh_search.specs.declared.turn.Searching.{Searching}
 use Rattle.jh_search.specs.Levels.{AreLevels, IsTurnedFrom}

@@ -1,17 +1,17 @@
 -- A decision that is turned round, and the branch that is taken back to it.
 use Rattle.std.proofs.Common.{◌≡◌, refl, sym, ap, ◌∙◌, subst, ℕ, zero, suc, ◌-◌, ◌<◌, arith, List, [], ◌∷◌, ◌++◌, length, take, Some, slice_get, inl, inr}
 use Rattle.std.proofs.lemmas.List.{append_assoc, map-append, take-map}
-use Rattle.jh_table.proofs.Listed.{slice_get-append, slice_get-last}
-use Rattle.jh_closure.specs.Nodes.{Has}
-use Rattle.jh_closure.proofs.Having.{has-at}
-use Rattle.jh_cong.proofs.Meeting.{has-mapped}
-use Rattle.jh_trail.specs.declared.decided.Decided.{Decided}
-use Rattle.jh_trail.specs.Listing.{DecideOnce, IsUndecided, decided}
-use Rattle.jh_propagating.specs.declared.problem.Problem.{Problem}
-use Rattle.jh_propagating.specs.declared.branch.Branch.{Branch}
-use Rattle.jh_propagating.specs.declared.branch.Reason.{Reason}
-use Rattle.jh_propagating.specs.Branches.{IsBranch, parts_of}
-use Rattle.jh_propagating.specs.Levels.{IsLevel}
+use Rattle.jh_arena.proofs.table.Listed.{slice_get-append, slice_get-last}
+use Rattle.jh_closure.specs.congruence_closure.Nodes.{Has}
+use Rattle.jh_closure.proofs.congruence_closure.Having.{has-at}
+use Rattle.jh_cong.proofs.classes.Meeting.{has-mapped}
+use Rattle.jh_propagation.specs.declared.trail.decided.Decided.{Decided}
+use Rattle.jh_propagation.specs.trail.Listing.{DecideOnce, IsUndecided, decided}
+use Rattle.jh_propagation.specs.declared.propagation.problem.Problem.{Problem}
+use Rattle.jh_propagation.specs.declared.propagation.branch.Branch.{Branch}
+use Rattle.jh_propagation.specs.declared.propagation.branch.Reason.{Reason}
+use Rattle.jh_propagation.specs.propagation.Branches.{IsBranch, parts_of}
+use Rattle.jh_propagation.specs.propagation.Levels.{IsLevel}
 use Rattle.jh_search.specs.declared.turn.Turn.{Turn}
 use Rattle.jh_search.specs.declared.turn.Searching.{Searching}
 use Rattle.jh_search.specs.Levels.{IsTurnedFrom}

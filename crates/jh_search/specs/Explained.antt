@@ -1,13 +1,13 @@
 -- An explanation of the branch of a search.
 use Rattle.std.specs.Prelude.{List}
-use Rattle.jh_table.specs.Nodes.{nodes}
-use Rattle.jh_models.specs.Explanations.{IsExplanation}
-use Rattle.jh_trail.specs.Saying.{literals_at}
-use Rattle.jh_propagating.specs.declared.problem.Problem.{Problem}
-use Rattle.jh_propagating.specs.Problems.{instances_in}
-use Rattle.jh_explaining.specs.declared.step.Step.{Step}
-use Rattle.jh_explaining.specs.Steps.{trees_of}
-use Rattle.jh_explaining.specs.Keeping.{AreRight}
+use Rattle.jh_arena.specs.table.Nodes.{nodes}
+use Rattle.jh_models.specs.ground_models.Explanations.{IsExplanation}
+use Rattle.jh_propagation.specs.trail.Saying.{literals_at}
+use Rattle.jh_propagation.specs.declared.propagation.problem.Problem.{Problem}
+use Rattle.jh_propagation.specs.propagation.Problems.{instances_in}
+use Rattle.jh_explanations.specs.declared.step.Step.{Step}
+use Rattle.jh_explanations.specs.Steps.{trees_of}
+use Rattle.jh_explanations.specs.Keeping.{AreRight}
 use Rattle.jh_search.specs.declared.turn.Searching.{Searching}
 
 -- The steps explain the branch of the decisions, and say of each literal whether it was decided.

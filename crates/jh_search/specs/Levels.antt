@@ -1,8 +1,8 @@
 -- The decisions of a path as places of the trail, to which the branch can be taken back.
 use Rattle.std.specs.Prelude.{◌≡◌, ◌<◌, ℕ, List, [], ◌∷◌, ◌++◌, Some, slice_get, take}
-use Rattle.jh_propagating.specs.declared.problem.Problem.{Problem}
-use Rattle.jh_propagating.specs.Branches.{Parts}
-use Rattle.jh_propagating.specs.Levels.{IsLevel}
+use Rattle.jh_propagation.specs.declared.propagation.problem.Problem.{Problem}
+use Rattle.jh_propagation.specs.propagation.Branches.{Parts}
+use Rattle.jh_propagation.specs.propagation.Levels.{IsLevel}
 use Rattle.jh_search.specs.declared.turn.Turn.{Turn}
 
 -- Each decision stands in the trail at its place, further behind than the earlier ones; and the branch can be taken back to what it

@@ -1,12 +1,12 @@
 -- What a search comes to.
 use Rattle.std.specs.Prelude.{◌<◌, ℕ, List, length}
-use Rattle.jh_table.specs.Nodes.{nodes}
-use Rattle.jh_structure.specs.Literals.{LiteralTree}
-use Rattle.jh_models.specs.GroundModel.{IsGroundModel}
-use Rattle.jh_models.specs.Budget.{IsSpent}
-use Rattle.jh_trail.specs.Saying.{literals_at}
-use Rattle.jh_propagating.specs.declared.problem.Problem.{Problem}
-use Rattle.jh_propagating.specs.Problems.{instances_in}
+use Rattle.jh_arena.specs.table.Nodes.{nodes}
+use Rattle.jh_closure.specs.structures.Literals.{LiteralTree}
+use Rattle.jh_models.specs.ground_models.GroundModel.{IsGroundModel}
+use Rattle.jh_models.specs.ground_models.Budget.{IsSpent}
+use Rattle.jh_propagation.specs.trail.Saying.{literals_at}
+use Rattle.jh_propagation.specs.declared.propagation.problem.Problem.{Problem}
+use Rattle.jh_propagation.specs.propagation.Problems.{instances_in}
 use Rattle.jh_search.specs.declared.turn.Searching.{Searching}
 use Rattle.jh_search.specs.declared.turn.Retreat.{Retreat}
 use Rattle.jh_search.specs.declared.turn.Retreat.TheVariants as retreat

@@ -1,10 +1,10 @@
 -- The path of a search over nodes, and its closed branches, as what they are over formulas.
 use Rattle.std.specs.Prelude.{List, [], ◌∷◌, map}
-use Rattle.jh_tree.specs.Tree.{ValueTree}
-use Rattle.jh_models.specs.Branches.{ClosedTree}
-use Rattle.jh_backjumping.specs.Paths as paths
-use Rattle.jh_trail.specs.declared.decided.Decided.{Decided}
-use Rattle.jh_trail.specs.Saying.{literal_tree_at, literals_at}
+use Rattle.jh_form.specs.Tree.{ValueTree}
+use Rattle.jh_models.specs.ground_models.Branches.{ClosedTree}
+use Rattle.jh_models.specs.backjumping.Paths as paths
+use Rattle.jh_propagation.specs.declared.trail.decided.Decided.{Decided}
+use Rattle.jh_propagation.specs.trail.Saying.{literal_tree_at, literals_at}
 use Rattle.jh_search.specs.declared.turn.Turn.{Turn}
 use Rattle.jh_search.specs.declared.turn.ClosedBranch.{ClosedBranch}
 

@@ -1,22 +1,22 @@
 -- A search over nodes, between its steps.
 use Rattle.std.specs.Prelude.{◌≡◌, ◌<◌, ℕ, List, [], Option, Some, None, length}
-use Rattle.jh_tree.specs.Tree.{ValueTree}
-use Rattle.jh_table.specs.Nodes.{nodes}
-use Rattle.jh_table.specs.Growth.{AreDifferent}
-use Rattle.jh_closure.specs.Nodes.{Has}
-use Rattle.jh_structure.specs.Literals.{LiteralTree}
-use Rattle.jh_models.specs.GroundModel.{IsGroundModel}
-use Rattle.jh_models.specs.Budget.{IsSpent}
-use Rattle.jh_backjumping.specs.Paths.{IsSearch, IsClosing}
-use Rattle.jh_trail.specs.declared.decided.Decided.{Decided}
-use Rattle.jh_trail.specs.Listing.{DecideOnce}
-use Rattle.jh_trail.specs.Saying.{literals_at}
-use Rattle.jh_propagating.specs.declared.problem.Problem.{Problem}
-use Rattle.jh_propagating.specs.declared.branch.Branch.{Branch}
-use Rattle.jh_propagating.specs.declared.branch.Cause.{Cause}
-use Rattle.jh_propagating.specs.Problems.{IsPosed, IsProblem, instances_in}
-use Rattle.jh_propagating.specs.Branches.{IsBranch, parts_of}
-use Rattle.jh_propagating.specs.Closings.{IsCause}
+use Rattle.jh_form.specs.Tree.{ValueTree}
+use Rattle.jh_arena.specs.table.Nodes.{nodes}
+use Rattle.jh_arena.specs.table.Growth.{AreDifferent}
+use Rattle.jh_closure.specs.congruence_closure.Nodes.{Has}
+use Rattle.jh_closure.specs.structures.Literals.{LiteralTree}
+use Rattle.jh_models.specs.ground_models.GroundModel.{IsGroundModel}
+use Rattle.jh_models.specs.ground_models.Budget.{IsSpent}
+use Rattle.jh_models.specs.backjumping.Paths.{IsSearch, IsClosing}
+use Rattle.jh_propagation.specs.declared.trail.decided.Decided.{Decided}
+use Rattle.jh_propagation.specs.trail.Listing.{DecideOnce}
+use Rattle.jh_propagation.specs.trail.Saying.{literals_at}
+use Rattle.jh_propagation.specs.declared.propagation.problem.Problem.{Problem}
+use Rattle.jh_propagation.specs.declared.propagation.branch.Branch.{Branch}
+use Rattle.jh_propagation.specs.declared.propagation.branch.Cause.{Cause}
+use Rattle.jh_propagation.specs.propagation.Problems.{IsPosed, IsProblem, instances_in}
+use Rattle.jh_propagation.specs.propagation.Branches.{IsBranch, parts_of}
+use Rattle.jh_propagation.specs.propagation.Closings.{IsCause}
 use Rattle.jh_search.specs.declared.turn.Turn.{Turn}
 use Rattle.jh_search.specs.declared.turn.ClosedBranch.{ClosedBranch}
 use Rattle.jh_search.specs.declared.turn.Searching.{Searching}

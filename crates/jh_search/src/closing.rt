@@ -1,19 +1,19 @@
 ghost use Rattle.std.specs.Prelude.{◌≡◌, ◌⊎◌, ◌<◌, ◌+◌, IfOk, OnOk, Some, length, slice_get, true};
-ghost use Rattle.jh_closure.specs.Nodes.{Has};
-ghost use Rattle.jh_table.specs.Nodes.{nodes};
-ghost use Rattle.jh_trail.specs.declared.decided.Decided.{Decided};
-ghost use Rattle.jh_explaining.specs.Steps.{literals_of};
-ghost use Rattle.jh_explaining.specs.declared.step.Step.{Step};
+ghost use Rattle.jh_closure.specs.congruence_closure.Nodes.{Has};
+ghost use Rattle.jh_arena.specs.table.Nodes.{nodes};
+ghost use Rattle.jh_propagation.specs.declared.trail.decided.Decided.{Decided};
+ghost use Rattle.jh_explanations.specs.Steps.{literals_of};
+ghost use Rattle.jh_explanations.specs.declared.step.Step.{Step};
 ghost use Rattle.jh_search.specs.Explained.{IsExplainedBy};
 ghost use Rattle.jh_search.specs.Searches.{IsAtLeaf, IsGoingBack, IsKept};
 
 use crate::deciding::bump;
 use crate::turn::{ClosedBranch, Searching};
-use jh_backjumping::search_goes_on;
-use jh_explaining::{Step, explain, shortened};
+use jh_explanations::{Step, explain, shortened};
+use jh_models::backjumping::search_goes_on;
 use jh_name::NoMemory;
-use jh_propagating::{Cause, Problem};
-use jh_trail::{Decided, Trail};
+use jh_propagation::propagation::{Cause, Problem};
+use jh_propagation::trail::{Decided, Trail};
 use std::alloc::Global;
 
 /// Adds one to the weights of the atoms of an explanation.

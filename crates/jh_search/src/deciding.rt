@@ -1,11 +1,11 @@
 ghost use Rattle.std.specs.Prelude.{◌≡◌, [], ℕ, IfNone, IfOk, IfSome, Some, false, length, slice_get, ◌<◌};
-ghost use Rattle.jh_closure.specs.Nodes.{Has};
-ghost use Rattle.jh_trail.specs.Listing.{IsUndecided};
-ghost use Rattle.jh_propagating.specs.Branches.{IsBranch, IsSaid};
+ghost use Rattle.jh_closure.specs.congruence_closure.Nodes.{Has};
+ghost use Rattle.jh_propagation.specs.trail.Listing.{IsUndecided};
+ghost use Rattle.jh_propagation.specs.propagation.Branches.{IsBranch, IsSaid};
 
 use jh_name::NoMemory;
-use jh_propagating::{Branch, Problem};
-use jh_trail::{Decided, is_true};
+use jh_propagation::propagation::{Branch, Problem};
+use jh_propagation::trail::{Decided, is_true};
 
 /// The weight of an atom.
 fn weight_of(weights: &Vec<u64>, atom: usize) -> u64 {

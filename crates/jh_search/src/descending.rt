@@ -1,21 +1,21 @@
 ghost use Rattle.std.specs.Prelude.{◌≡◌, ◌<◌, [], ℕ, IfNone, IfOk, IfSome, OnOk, drop};
-ghost use Rattle.jh_closure.specs.Nodes.{Has};
-ghost use Rattle.jh_table.specs.Nodes.{nodes};
-ghost use Rattle.jh_models.specs.Fixpoints.{IsFixpoint};
-ghost use Rattle.jh_models.specs.GroundModel.{IsGroundModel};
-ghost use Rattle.jh_trail.specs.Listing.{IsUndecided};
-ghost use Rattle.jh_trail.specs.Saying.{literals_at};
-ghost use Rattle.jh_propagating.specs.Branches.{IsBranch, IsSaid, undecided_count};
-ghost use Rattle.jh_propagating.specs.Problems.{instances_in};
-ghost use Rattle.jh_propagating.specs.Resting.{IsAtRest};
+ghost use Rattle.jh_closure.specs.congruence_closure.Nodes.{Has};
+ghost use Rattle.jh_arena.specs.table.Nodes.{nodes};
+ghost use Rattle.jh_models.specs.ground_models.Fixpoints.{IsFixpoint};
+ghost use Rattle.jh_models.specs.ground_models.GroundModel.{IsGroundModel};
+ghost use Rattle.jh_propagation.specs.trail.Listing.{IsUndecided};
+ghost use Rattle.jh_propagation.specs.trail.Saying.{literals_at};
+ghost use Rattle.jh_propagation.specs.propagation.Branches.{IsBranch, IsSaid, undecided_count};
+ghost use Rattle.jh_propagation.specs.propagation.Problems.{instances_in};
+ghost use Rattle.jh_propagation.specs.propagation.Resting.{IsAtRest};
 ghost use Rattle.jh_search.specs.Searches.{IsAtLeaf, IsSearching};
 
 use crate::deciding::{choose, denied, first_undecided};
 use crate::turn::{Searching, Turn};
-use jh_backjumping::search_goes_on;
-use jh_models::{fixpoint_is_open, whole_fixpoint_is_model};
+use jh_models::backjumping::search_goes_on;
+use jh_models::ground_models::{fixpoint_is_open, whole_fixpoint_is_model};
 use jh_name::NoMemory;
-use jh_propagating::{Branch, Cause, Problem, decide, propagate_on};
+use jh_propagation::propagation::{Branch, Cause, Problem, decide, propagate_on};
 
 /// The atom to decide next, where one isn't decided. No atom before the index stands in an instance that isn't true yet, unless it is
 /// decided.

@@ -1,6 +1,9 @@
 //! The search for a ground model of instances.
 #![tactic(auto)]
 
+pub use jh_explanations;
+pub use jh_propagation;
+
 mod closing;
 mod deciding;
 mod descending;

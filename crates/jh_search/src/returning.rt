@@ -1,8 +1,8 @@
 ghost use Rattle.std.specs.Prelude.{◌≡◌, ◌⊎◌, ◌<◌, ◌≤◌, ◌++◌, [], ◌∷◌, List, IfNone, IfOk, IfSome, OnOk, Some, length, slice_get};
-ghost use Rattle.jh_tree.specs.Tree.{ValueTree};
-ghost use Rattle.jh_closure.specs.Nodes.{Has};
-ghost use Rattle.jh_trail.specs.declared.decided.Decided.{Decided};
-ghost use Rattle.jh_propagating.specs.declared.problem.Problem.{Problem};
+ghost use Rattle.jh_form.specs.Tree.{ValueTree};
+ghost use Rattle.jh_closure.specs.congruence_closure.Nodes.{Has};
+ghost use Rattle.jh_propagation.specs.declared.trail.decided.Decided.{Decided};
+ghost use Rattle.jh_propagation.specs.declared.propagation.problem.Problem.{Problem};
 ghost use Rattle.jh_search.specs.Joining.{AreJoined};
 ghost use Rattle.jh_search.specs.Searches.{IsGoingBack, IsRetreat, IsStepBack};
 ghost use Rattle.jh_search.specs.Levels.{IsTurnedFrom};
@@ -11,10 +11,10 @@ ghost use Rattle.jh_search.specs.declared.turn.Retreat.TheVariants as retreat;
 ghost use Rattle.jh_search.specs.declared.turn.Turn.{Turn};
 
 use crate::turn::{Retreat, Turn};
-use jh_backjumping::search_goes_back;
-use jh_explaining::{has, is_one};
+use jh_explanations::{has, is_one};
+use jh_models::backjumping::search_goes_back;
 use jh_name::NoMemory;
-use jh_trail::{Decided, opposite};
+use jh_propagation::trail::{Decided, opposite};
 use std::alloc::Global;
 
 /// Adds a literal of the first list unless it is the one that is left out.

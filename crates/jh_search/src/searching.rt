@@ -1,9 +1,9 @@
 ghost use Rattle.std.specs.Prelude.{◌≡◌, ◌<◌, ◌≤◌, ◌+◌, [], IfNone, IfOk, IfSome, OnOk, Some, length, slice_get};
-ghost use Rattle.jh_table.specs.Nodes.{nodes};
-ghost use Rattle.jh_propagating.specs.Problems.{IsProblem};
+ghost use Rattle.jh_arena.specs.table.Nodes.{nodes};
+ghost use Rattle.jh_propagation.specs.propagation.Problems.{IsProblem};
 ghost use Rattle.jh_search.specs.Outcomes.{IsFound, IsLeft};
 ghost use Rattle.jh_search.specs.Paths.{decisions_of};
-ghost use Rattle.jh_propagating.specs.Branches.{parts_of};
+ghost use Rattle.jh_propagation.specs.propagation.Branches.{parts_of};
 ghost use Rattle.jh_search.specs.Levels.{AreLevels};
 ghost use Rattle.jh_search.specs.Searches.{IsAtLeaf, IsBehind, IsGoingBack, IsSearching};
 
@@ -11,11 +11,11 @@ use crate::closing::close;
 use crate::descending::descend;
 use crate::returning::go_back;
 use crate::turn::{Found, Retreat, Searching, Turn};
-use jh_backjumping::search_goes_on;
-use jh_cong::Classes;
+use jh_cong::classes::Classes;
+use jh_models::backjumping::search_goes_on;
 use jh_name::NoMemory;
-use jh_propagating::{Cause, Problem, begin, cut, decide};
-use jh_trail::Decided;
+use jh_propagation::propagation::{Cause, Problem, begin, cut, decide};
+use jh_propagation::trail::Decided;
 use std::alloc::Global;
 
 /// The turn at a place.

@@ -1,5 +1,5 @@
-use jh_propagating::Branch;
-use jh_trail::Decided;
+use jh_propagation::propagation::Branch;
+use jh_propagation::trail::Decided;
 
 /// A branch that is closed: its decisions, and literals that explain why.
 #[derive(Drop)]

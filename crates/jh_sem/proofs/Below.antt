@@ -1,8 +1,8 @@
 -- Tests of the numbers below a bound, and lists to which an item is added.
 use Rattle.std.proofs.Common.{◌≡◌, refl, sym, ap, ◌∙◌, ◌⊎◌, inl, inr, ℕ, zero, suc, ◌+◌, ◌<◌, ◌≤◌, Bool, true, false, ◌&&◌, List, [], ◌∷◌, ◌++◌, length, slice_get, Some, arith}
 use Rattle.std.proofs.lemmas.Bool.{or_cases, or_left, or_right, cases_eq, true≢false}
-use Rattle.jh_tree.specs.Meaning.{any_below, all_below}
-use Rattle.jh_tree.proofs.ClosedLemmas.{both-left, both-right}
+use Rattle.jh_form.specs.Meaning.{any_below, all_below}
+use Rattle.jh_form.proofs.ClosedLemmas.{both-left, both-right}
 
 pub any-below : (n : ℕ) (p : ℕ → Bool) → any_below n p ≡ true → (x : ℕ) × (x < n) × (p x ≡ true)
 any-below zero p h = absurd (cc)

@@ -2,22 +2,22 @@
 use Rattle.std.proofs.Common.{◌≡◌, refl, sym, ap, subst, ◌∙◌, ℕ, suc, ◌<◌, Bool, true, false, not, ◌&&◌, ◌||◌, List, slice_get, ℤ, Result, Ok, Err, IfOk, IfErr, FitsSigned}
 use Rattle.std.specs.Int.{w128}
 use Rattle.std.proofs.lemmas.Bool.{true≢false}
-use Rattle.jh_tree.specs.Tree.{IntTree, FieldTree, of_number, of_truth, of_field}
-use Rattle.jh_tree.specs.Meaning.{Interp, int_value, all_below, any_below}
-use Rattle.jh_walk.specs.Parts.{Among, IsChild}
-use Rattle.jh_walk.specs.Parts as part
-use Rattle.jh_table.specs.Entries.{Listing, the_list, the_object, the_truth, fields_at}
-use Rattle.jh_table.specs.Nodes.{nodes}
-use Rattle.jh_table.specs.declared.shapes.Shape.TheVariants as s
-use Rattle.jh_value.specs.Standing.{Stands}
-use Rattle.jh_value.proofs.ValueSteps.{stands-Reach, stands-Tree}
+use Rattle.jh_form.specs.Tree.{IntTree, FieldTree, of_number, of_truth, of_field}
+use Rattle.jh_form.specs.Meaning.{Interp, int_value, all_below, any_below}
+use Rattle.jh_boxed.specs.Parts.{Among, IsChild}
+use Rattle.jh_boxed.specs.Parts as part
+use Rattle.jh_arena.specs.table.Entries.{Listing, the_list, the_object, the_truth, fields_at}
+use Rattle.jh_arena.specs.table.Nodes.{nodes}
+use Rattle.jh_arena.specs.declared.table.shapes.Shape.TheVariants as s
+use Rattle.jh_export.specs.Standing.{Stands}
+use Rattle.jh_export.proofs.ValueSteps.{stands-Reach, stands-Tree}
 use Rattle.jh_sem.specs.Wide.{AreInside, IsWide}
 use Rattle.jh_sem.specs.declared.answer.SemError.{SemError}
 use Rattle.jh_sem.specs.declared.answer.SemError.TheVariants.{Wide}
 use Rattle.jh_sem.proofs.Below.{all-below, below-any, not-so, is-false}
 use Rattle.jh_sem.proofs.Widening.{wide-here}
-use Rattle.jh_value.proofs.Places.{term-inside, int-inside, set-inside, field-inside, formula-inside}
-use Rattle.jh_value.proofs.ValueSteps.{sort-FreeObject-n, sort-FreeNumber-n, sort-FreeSet-n, sort-FreeField-n, sort-FreeTruth-n}
+use Rattle.jh_export.proofs.Places.{term-inside, int-inside, set-inside, field-inside, formula-inside}
+use Rattle.jh_export.proofs.ValueSteps.{sort-FreeObject-n, sort-FreeNumber-n, sort-FreeSet-n, sort-FreeField-n, sort-FreeTruth-n}
 use Rattle.jh_sem.proofs.EvalSteps.{value-Bound, value-FreeObject, value-Null, value-Const, value-FreeNumber, value-FreeSet, value-Empty, value-Univ, value-FreeField, value-True, value-False, value-FreeTruth}
 
 pub ruleset object_of_steps = (term-inside, value-Bound, value-FreeObject, value-Null, sort-FreeObject-n)

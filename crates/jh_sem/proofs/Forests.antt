@@ -3,9 +3,9 @@ use Rattle.std.proofs.Common.{◌≡◌, refl, sym, ap, subst, ◌∙◌, ◌⊎
 use Rattle.std.specs.List.{list_any, list_all}
 use Rattle.std.proofs.lemmas.Bool.{or_cases, or_left, or_right, eqb-true, eq-eqb, true≢false}
 use Rattle.std.proofs.lemmas.Option.{slice_get_within}
-use Rattle.jh_tree.specs.Meaning.{Fields, reaches, edge, no_sharing, no_cycle, is_forest, all_below, every}
-use Rattle.jh_tree.proofs.ClosedLemmas.{both-left, both-right}
-use Rattle.jh_spread.proofs.Places.{set-here, set-other, same-or-not, before-or-at}
+use Rattle.jh_form.specs.Meaning.{Fields, reaches, edge, no_sharing, no_cycle, is_forest, all_below, every}
+use Rattle.jh_form.proofs.ClosedLemmas.{both-left, both-right}
+use Rattle.jh_containers.proofs.transitive_closure.Places.{set-here, set-other, same-or-not, before-or-at}
 use Rattle.jh_sem.specs.Graphs.{is_free, IsBefore, IsNoted, IsShared}
 use Rattle.jh_sem.proofs.Below.{all-below, below-all, not-so, is-false}
 use Rattle.jh_sem.proofs.Walks.{set-kept, none-true}

@@ -1,7 +1,7 @@
 -- Fields that lead to the same objects within the universe reach the same, and are a forest where the others are.
 use Rattle.std.proofs.Common.{◌≡◌, refl, sym, ap, ◌∙◌, ℕ, zero, suc, ◌<◌, ◌==◌, Bool, true, false, not, ◌&&◌, ◌||◌, List, [], ◌∷◌, length, arith}
 use Rattle.std.specs.List.{list_any, list_all}
-use Rattle.jh_tree.specs.Meaning.{Fields, leads, reaches, edge, any_below, all_below, no_cycle, no_sharing, is_forest}
+use Rattle.jh_form.specs.Meaning.{Fields, leads, reaches, edge, any_below, all_below, no_cycle, no_sharing, is_forest}
 use Rattle.jh_sem.specs.Graphs.{listed_fields, AreRows, AreSame, is_free}
 use Rattle.jh_sem.proofs.Walks.{any-edge, edge-any, edge-inside, listed-length}
 use Rattle.jh_sem.proofs.Forests.{all-edges, edge-of-all}

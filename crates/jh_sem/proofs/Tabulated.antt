@@ -3,16 +3,16 @@ use Rattle.std.proofs.Common.{◌≡◌, refl, sym, ap, ◌∙◌, ◌⊎◌, in
 use Rattle.std.proofs.Math.ListN.{get_or-append}
 use Rattle.std.proofs.lemmas.List.{get_or_push}
 use Rattle.std.proofs.lemmas.Option.{slice_get_within, slice_get-get_or}
-use Rattle.jh_tree.specs.Tree.{ValueTree, FieldTree, FieldTrees, of_field}
-use Rattle.jh_tree.specs.Meaning.{Interp, Fields, edge, field_value, fields_value}
-use Rattle.jh_walk.specs.Parts.{Among, first, later, IsChild}
-use Rattle.jh_table.specs.Entries.{the_field, fields_at}
-use Rattle.jh_spread.proofs.Places.{before-or-at}
+use Rattle.jh_form.specs.Tree.{ValueTree, FieldTree, FieldTrees, of_field}
+use Rattle.jh_form.specs.Meaning.{Interp, Fields, edge, field_value, fields_value}
+use Rattle.jh_boxed.specs.Parts.{Among, first, later, IsChild}
+use Rattle.jh_arena.specs.table.Entries.{the_field, fields_at}
+use Rattle.jh_containers.proofs.transitive_closure.Places.{before-or-at}
 use Rattle.jh_sem.specs.Graphs.{listed_fields, IsRow, AreRows, HasObjects, AreSame}
 use Rattle.jh_sem.specs.Wide.{IsWide}
 use Rattle.jh_sem.proofs.Below.{pushed-is}
 use Rattle.jh_sem.proofs.Walks.{some-one, pushed-length}
-use Rattle.jh_value.proofs.FieldLists.{item-is-field}
+use Rattle.jh_export.proofs.FieldLists.{item-is-field}
 use Rattle.jh_sem.proofs.Widening.{wide-part}
 
 pub among-at : (ts : List ValueTree) (ns : List ℕ) (j n : ℕ) → slice_get ns j ≡ Some n → Among (the_field (slice_get ts n)) (fields_at ts ns)

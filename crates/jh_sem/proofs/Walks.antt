@@ -3,8 +3,8 @@ use Rattle.std.proofs.Common.{◌≡◌, refl, sym, ap, subst, ◌∙◌, ◌⊎
 use Rattle.std.specs.List.{list_any}
 use Rattle.std.proofs.lemmas.Bool.{or_cases, or_left, or_right, eqb-true, eq-eqb}
 use Rattle.std.proofs.lemmas.Option.{slice_get_within, slice_get-get_or}
-use Rattle.jh_tree.specs.Meaning.{Fields, leads, reaches, edge}
-use Rattle.jh_spread.proofs.Places.{set-here, set-other, same-or-not, before-or-at}
+use Rattle.jh_form.specs.Meaning.{Fields, leads, reaches, edge}
+use Rattle.jh_containers.proofs.transitive_closure.Places.{set-here, set-other, same-or-not, before-or-at}
 use Rattle.jh_sem.specs.Graphs.{listed_field, listed_fields, IsRow, AreRows, unmarked, IsWalk}
 use Rattle.jh_sem.proofs.Below.{any-below, below-any, not-so, is-false, pushed-old, pushed-new, pushed-is}
 

@@ -1,9 +1,9 @@
 -- What is wide in a part is wide in the whole; objects that are bound are of the universe.
 use Rattle.std.proofs.Common.{◌≡◌, refl, sym, subst, ◌⊎◌, inl, inr, ℕ, zero, suc, ◌<◌, List, ◌∷◌, slice_index, FitsSigned}
 use Rattle.std.specs.Int.{w128}
-use Rattle.jh_tree.specs.Tree.{IntTree, ValueTree, of_number}
-use Rattle.jh_tree.specs.Meaning.{Interp, int_value}
-use Rattle.jh_walk.specs.Parts.{IsChild, IsPart, child, within}
+use Rattle.jh_form.specs.Tree.{IntTree, ValueTree, of_number}
+use Rattle.jh_form.specs.Meaning.{Interp, int_value}
+use Rattle.jh_boxed.specs.Parts.{IsChild, IsPart, child, within}
 use Rattle.jh_sem.specs.Wide.{AreInside, IsWide}
 
 pub wide-part : (m : Interp) (w v : ValueTree) → IsChild w v → IsWide m w → IsWide m v

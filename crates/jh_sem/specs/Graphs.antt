@@ -1,7 +1,7 @@
 -- Fields that are listed: for each field the objects that it has at 0 to a greatest object.
 use Rattle.std.specs.Prelude.{◌≡◌, ◌⊎◌, ℕ, suc, ◌+◌, ◌<◌, Bool, true, false, not, List, [], ◌∷◌, map, length, pos, Some, slice_get, slice_index}
 use Rattle.std.specs.List.{list_all}
-use Rattle.jh_tree.specs.Meaning.{Fields, reaches, edge}
+use Rattle.jh_form.specs.Meaning.{Fields, reaches, edge}
 
 -- the field that has these objects, and nothing of another kind
 abbrev pub listed_field : List ℕ → Fields

@@ -1,9 +1,9 @@
 -- Why an evaluation may have no answer.
 use Rattle.std.specs.Prelude.{◌≡◌, ◌⊎◌, ℕ, suc, ◌<◌, List, slice_index, FitsSigned}
 use Rattle.std.specs.Int.{w128}
-use Rattle.jh_tree.specs.Tree.{IntTree, ValueTree, of_number}
-use Rattle.jh_tree.specs.Meaning.{Interp, int_value}
-use Rattle.jh_walk.specs.Parts.{IsPart}
+use Rattle.jh_form.specs.Tree.{IntTree, ValueTree, of_number}
+use Rattle.jh_form.specs.Meaning.{Interp, int_value}
+use Rattle.jh_boxed.specs.Parts.{IsPart}
 
 -- the objects of a list are of the universe of 0 to `last`
 abbrev pub AreInside : ℕ → List ℕ → Type 0

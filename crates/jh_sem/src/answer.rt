@@ -2,7 +2,7 @@ ghost use Rattle.std.specs.Ordering.{int_eq};
 ghost use Rattle.std.specs.Prelude.{◌≡◌, ◌||◌, not, ◌+ℤ◌, ◌-ℤ◌, ◌*ℤ◌, neg_ℤ, IfOk, IfErr, FitsSigned};
 ghost use Rattle.std.specs.Int.{w128};
 ghost use Rattle.jh_sem.specs.declared.answer.SemError.TheVariants.{Memory};
-ghost use Rattle.jh_tree.specs.Meaning.{agree, divides_number};
+ghost use Rattle.jh_form.specs.Meaning.{agree, divides_number};
 
 use jh_name::NoMemory;
 use std::alloc::AllocFailed;

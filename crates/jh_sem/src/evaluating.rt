@@ -1,11 +1,11 @@
 // A node is evaluated by its shape. Each shape has a function of its own, so that a level of a deep formula takes little of the stack.
 ghost use Rattle.std.specs.Prelude.{◌≡◌, ◌<◌, ◌&&◌, ◌∷◌, ℕ, suc, true, false, IfOk, IfErr, slice_get, length};
-ghost use Rattle.jh_tree.specs.Tree.{FieldTree, ValueTree, of_object, of_number, of_truth, of_set, of_field};
-ghost use Rattle.jh_tree.specs.Meaning.{term_value, int_value, set_value, field_value, truth, fields_value, count_below, every, some, agree};
-ghost use Rattle.jh_table.specs.declared.shapes.Shape.TheVariants as s;
-ghost use Rattle.jh_table.specs.Entries.{is_object, is_number, is_set, is_field, is_truth, the_object, the_number, the_set, the_field, the_truth, the_value, the_list, are_fields, fields_at};
-ghost use Rattle.jh_table.specs.Nodes.{nodes};
-ghost use Rattle.jh_value.specs.Standing.{Stands, AreBelow};
+ghost use Rattle.jh_form.specs.Tree.{FieldTree, ValueTree, of_object, of_number, of_truth, of_set, of_field};
+ghost use Rattle.jh_form.specs.Meaning.{term_value, int_value, set_value, field_value, truth, fields_value, count_below, every, some, agree};
+ghost use Rattle.jh_arena.specs.declared.table.shapes.Shape.TheVariants as s;
+ghost use Rattle.jh_arena.specs.table.Entries.{is_object, is_number, is_set, is_field, is_truth, the_object, the_number, the_set, the_field, the_truth, the_value, the_list, are_fields, fields_at};
+ghost use Rattle.jh_arena.specs.table.Nodes.{nodes};
+ghost use Rattle.jh_export.specs.Standing.{Stands, AreBelow};
 ghost use Rattle.jh_sem.specs.declared.answer.SemError.TheVariants.{Wide};
 ghost use Rattle.jh_sem.specs.Wide.{AreInside, IsWide};
 ghost use Rattle.jh_sem.specs.Bounds.{bound_list};
@@ -19,8 +19,8 @@ use crate::graph::leads_to;
 use crate::objects::{object_of, rows_of};
 use crate::standing::{fields_of, sort_of, standing};
 use crate::world::World;
+use jh_arena::table::Shape;
 use jh_name::Sort;
-use jh_table::Shape;
 
 /// The number of a node.
 #[cycle(evaluated)]

@@ -1,5 +1,5 @@
 ghost use Rattle.std.specs.Prelude.{◌≡◌, ◌<◌, suc, true, false, Some, length, slice_get, slice_set, IfOk};
-ghost use Rattle.jh_tree.specs.Meaning.{reaches, no_cycle, no_sharing, is_forest};
+ghost use Rattle.jh_form.specs.Meaning.{reaches, no_cycle, no_sharing, is_forest};
 ghost use Rattle.jh_sem.specs.Graphs.{listed_fields, AreRows, is_free, IsNoted, IsShared};
 
 use crate::graph::{is_marked, leads_to, target};

@@ -1,5 +1,5 @@
 ghost use Rattle.std.specs.Prelude.{◌≡◌, ◌+◌, ◌<◌, ◌≤◌, ℕ, suc, true, false, Some, List, length, slice_get, IfOk, OnOk};
-ghost use Rattle.jh_tree.specs.Meaning.{Fields, edge, reaches};
+ghost use Rattle.jh_form.specs.Meaning.{Fields, edge, reaches};
 ghost use Rattle.jh_sem.specs.Graphs.{listed_fields, AreRows, unmarked, IsWalk};
 
 use jh_name::{NoMemory, Row};

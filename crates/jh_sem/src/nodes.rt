@@ -1,10 +1,10 @@
-#![tactic(auto, using(jh_value::proofs::Places::inside_steps))]
+#![tactic(auto, using(jh_export::proofs::Places::inside_steps))]
 
 ghost use Rattle.std.specs.Prelude.{◌≡◌, ◌<◌, true, suc, reverse, slice_get, IfOk, IfErr};
-ghost use Rattle.jh_tree.specs.Tree.{of_object, of_number, of_truth, of_set};
-ghost use Rattle.jh_tree.specs.Meaning.{term_value, int_value, set_value, truth};
-ghost use Rattle.jh_table.specs.Entries.{is_object, is_number, is_set, is_truth, the_object, the_number, the_set, the_truth};
-ghost use Rattle.jh_table.specs.Nodes.{nodes};
+ghost use Rattle.jh_form.specs.Tree.{of_object, of_number, of_truth, of_set};
+ghost use Rattle.jh_form.specs.Meaning.{term_value, int_value, set_value, truth};
+ghost use Rattle.jh_arena.specs.table.Entries.{is_object, is_number, is_set, is_truth, the_object, the_number, the_set, the_truth};
+ghost use Rattle.jh_arena.specs.table.Nodes.{nodes};
 ghost use Rattle.jh_sem.specs.declared.answer.SemError.TheVariants.{Wide};
 ghost use Rattle.jh_sem.specs.Wide.{AreInside, IsWide};
 

@@ -1,14 +1,14 @@
-#![tactic(auto, using(jh_value::proofs::Places::pool_steps))]
+#![tactic(auto, using(jh_export::proofs::Places::pool_steps))]
 
 ghost use Rattle.std.specs.Prelude.{◌≡◌, ◌<◌, true, length, slice_get, is_some};
-ghost use Rattle.jh_tree.specs.Sorts.{tree_sort};
-ghost use Rattle.jh_table.specs.Entries.{the_list, the_value};
-ghost use Rattle.jh_table.specs.Nodes.{nodes};
-ghost use Rattle.jh_value.specs.Standing.{Stands};
+ghost use Rattle.jh_form.specs.Sorts.{tree_sort};
+ghost use Rattle.jh_arena.specs.table.Entries.{the_list, the_value};
+ghost use Rattle.jh_arena.specs.table.Nodes.{nodes};
+ghost use Rattle.jh_export.specs.Standing.{Stands};
 
 use crate::world::World;
+use jh_arena::table::Shape;
 use jh_name::Sort;
-use jh_table::Shape;
 
 /// The shape of a node, with what is known of it.
 #[inline(never)]

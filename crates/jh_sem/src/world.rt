@@ -1,8 +1,8 @@
 ghost use Rattle.std.specs.Prelude.{◌≡◌, ◌<◌, suc, true, slice_get, is_some};
-ghost use Rattle.jh_tree.specs.Meaning.{Interp};
-ghost use Rattle.jh_table.specs.Entries.{Listing, the_name};
+ghost use Rattle.jh_form.specs.Meaning.{Interp};
+ghost use Rattle.jh_arena.specs.table.Entries.{Listing, the_name};
 
-use jh_table::Table;
+use jh_arena::table::Table;
 
 /// An interpretation of the names of a table, which are given by their numbers in its pool of names.
 pub trait World {

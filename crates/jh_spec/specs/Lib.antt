@@ -1,9 +1,2 @@
-pub mod Answered
-pub mod Operators
-pub mod Formulas
-pub mod Parsed
-pub mod Parts
-pub mod PartReading
-pub mod PartReads
-pub mod Reading
-pub mod Reads
+pub mod nesting
+pub mod parser

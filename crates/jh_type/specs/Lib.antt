@@ -1,4 +1,3 @@
-pub mod Parts
-pub mod Defaults
-pub mod Wholes
-pub mod Refused
+pub mod checker
+pub mod formula_kinds
+pub mod method_bodies

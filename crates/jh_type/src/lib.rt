@@ -1,10 +1,7 @@
-//! Programs that break none of the type rules.
+//! The type checker.
 #![tactic(auto)]
 
-mod classes;
-mod defaults;
-mod faults;
-mod typed;
-mod words;
-
-pub use typed::{TypeError, TypeRefused, Typed, check};
+pub mod checker;
+pub mod formula_kinds;
+pub mod least_fault;
+pub mod method_bodies;

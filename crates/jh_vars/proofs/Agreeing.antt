@@ -2,9 +2,9 @@
 use Rattle.std.proofs.Common.{◌≡◌, refl, sym, ap, ◌∙◌, ℕ, ◌||◌, ◌&&◌, subst, Bool, true, false, if◌then◌else◌, nat_eq, List, [], ◌∷◌, ◌++◌, length, Option, Some, None, codes, arith}
 use Rattle.std.specs.Option.{option_map_or}
 use Rattle.std.proofs.lemmas.Bool.Decides.{nat_tests}
-use Rattle.jh_tree.specs.Tree.{ValueTree, SetTree, TermTree, of_object, of_number, of_truth, of_set}
-use Rattle.jh_tree.specs.Tree as t
-use Rattle.jh_walk.specs.Mapped.{mapped_value}
+use Rattle.jh_boxed.specs.jh_form.Tree.{ValueTree, SetTree, TermTree, of_object, of_number, of_truth, of_set}
+use Rattle.jh_boxed.specs.jh_form.Tree as t
+use Rattle.jh_boxed.specs.Mapped.{mapped_value}
 use Rattle.jh_ast.specs.declared.word.Word.{Word}
 use Rattle.jh_ast.specs.Forms.{FormTree, FormTrees}
 use Rattle.jh_ast.specs.Forms as f

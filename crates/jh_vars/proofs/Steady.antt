@@ -2,7 +2,7 @@
 -- often enough.
 use Rattle.std.proofs.Common.{◌≡◌, refl, sym, ap, subst, ◌∙◌, ℕ, zero, suc, ◌<◌, List, [], ◌∷◌, slice_get, Some, arith}
 use Rattle.std.specs.Option.{option_map_or}
-use Rattle.jh_tree.specs.Tree.{ValueTree, of_object, null}
+use Rattle.jh_boxed.specs.jh_form.Tree.{ValueTree, of_object, null}
 use Rattle.jh_ast.specs.Programs.{ProgramTree, DefPart}
 use Rattle.jh_rules.specs.Names.{declared_in, def_of}
 use Rattle.jh_vars.specs.States.{State, Variable, variable_of, class_text}

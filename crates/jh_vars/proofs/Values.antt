@@ -21,9 +21,9 @@ use Rattle.jh_rules.specs.Words.{halves}
 use Rattle.jh_rules.specs.Names.{first_named, class_from, def_in, states_from}
 use Rattle.jh_rules.specs.Scopes.{with_all_declared, declared, all_declared, labels_in, all_labels_in, declare_all}
 use Rattle.jh_rules.specs.Formulas.{equations}
-use Rattle.jh_tree.specs.Tree.{ValueTree, TermTree, IntTree, SetTree, FieldTree, FormulaTree, FieldTrees}
-use Rattle.jh_tree.specs.Tree as t
-use Rattle.jh_walk.specs.Mapped.{mapped_term, mapped_int, mapped_set, mapped_field, mapped_value, mapped_formula, mapped_fields}
+use Rattle.jh_boxed.specs.jh_form.Tree.{ValueTree, TermTree, IntTree, SetTree, FieldTree, FormulaTree, FieldTrees}
+use Rattle.jh_boxed.specs.jh_form.Tree as t
+use Rattle.jh_boxed.specs.Mapped.{mapped_term, mapped_int, mapped_set, mapped_field, mapped_value, mapped_formula, mapped_fields}
 use Rattle.jh_vars.specs.Resolved.{bound_as, plain_literal, literal, quantified, field_list, resolved, union_of}
 use Rattle.jh_vars.specs.Statements.{inner_statements, all_statements}
 use Rattle.jh_vars.specs.Opened.{meant, uses_this, one_uses_this, in_method, in_class, in_classes, found_in, opened}

@@ -4,8 +4,8 @@ use Rattle.std.specs.List.{flat_map, sum_by}
 use Rattle.std.specs.Option.{option_map_or}
 use Rattle.jh_name.specs.declared.place.Kind.{Kind}
 use Rattle.jh_name.specs.declared.place.Kind.TheVariants as k
-use Rattle.jh_tree.specs.Tree.{ValueTree, FormulaTree}
-use Rattle.jh_tree.specs.Tree as t
+use Rattle.jh_boxed.specs.jh_form.Tree.{ValueTree, FormulaTree}
+use Rattle.jh_boxed.specs.jh_form.Tree as t
 use Rattle.jh_ast.specs.declared.word.Word.{Word}
 use Rattle.jh_ast.specs.Forms.{FormTree, FormTrees, SpecPart, LabelledPart}
 use Rattle.jh_ast.specs.Forms as f

@@ -7,10 +7,10 @@ use Rattle.jh_name.specs.declared.place.Kind.{Kind}
 use Rattle.jh_name.specs.declared.place.Kind.TheVariants as k
 use Rattle.jh_name.specs.declared.place.Sort as place
 use Rattle.jh_name.specs.declared.place.Sort.TheVariants as Sort
-use Rattle.jh_tree.specs.Tree.{TermTree, IntTree, SetTree, FieldTree, ValueTree, FormulaTree, FieldTrees}
-use Rattle.jh_tree.specs.Tree as t
-use Rattle.jh_tree.specs.Sorts.{tree_sort, same_sort}
-use Rattle.jh_walk.specs.Mapped.{LeafMap, unchanged, mapped_value, mapped_term}
+use Rattle.jh_boxed.specs.jh_form.Tree.{TermTree, IntTree, SetTree, FieldTree, ValueTree, FormulaTree, FieldTrees}
+use Rattle.jh_boxed.specs.jh_form.Tree as t
+use Rattle.jh_boxed.specs.jh_form.Sorts.{tree_sort, same_sort}
+use Rattle.jh_boxed.specs.Mapped.{LeafMap, unchanged, mapped_value, mapped_term}
 use Rattle.jh_ast.specs.declared.word.Word.{Word}
 use Rattle.jh_ast.specs.declared.spec.SpecOp.{SpecOp}
 use Rattle.jh_ast.specs.declared.spec.SpecOp.TheVariants as op

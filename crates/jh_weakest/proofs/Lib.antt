@@ -1,3 +1,1 @@
-mod Renames
-mod Rests
-mod WpSteps
+pub use Rattle.jh_command_terms.proofs as of_jh_command_terms

@@ -1,1 +1,3 @@
-pub mod Names
+pub mod precondition
+pub mod sequent_count
+pub use Rattle.jh_command_terms.specs as jh_command_terms

@@ -1,11 +1,7 @@
-//! Weakest preconditions of commands over the nodes of a table.
+//! Weakest preconditions over nodes, and how many sequents they give.
 #![tactic(auto)]
 
-mod renaming;
-mod standing;
-mod substituting;
-mod weakest;
+pub mod precondition;
+pub mod sequent_count;
 
-pub use renaming::rename;
-pub use substituting::substitute;
-pub use weakest::{MOST_NESTED, wp_in};
+pub use jh_command_terms;

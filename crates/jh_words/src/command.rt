@@ -12,7 +12,7 @@ use jh_arguments::{
     rounds, steps, workers,
 };
 use jh_name::NoMemory;
-use jh_options::Options;
+use jh_name::options::Options;
 use std::alloc::Global;
 
 /// Whether a word may be a file.

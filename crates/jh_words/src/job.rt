@@ -1,4 +1,4 @@
-use jh_options::Options;
+use jh_name::options::Options;
 
 /// The report on a file.
 #[derive(Clone, Copy)]

@@ -1,10 +1,10 @@
 -- The weakest precondition is true exactly where all guarded runs end well.
 use Rattle.std.proofs.Common.{◌≡◌, refl, sym, ap, ◌∙◌, Bool, true, false, not, ◌&&◌, ◌||◌, if◌then◌else◌, List, [], ◌∷◌, ◌++◌}
 use Rattle.std.specs.List.{flat_map, list_all}
-use Rattle.jh_tree.specs.Tree.{FormulaTree}
-use Rattle.jh_tree.specs.Meaning.{Interp, truth}
-use Rattle.jh_tree.proofs.ClosedLemmas.{both-left, both-right}
-use Rattle.jh_subst.proofs.Substitutions.{truth-substituted}
+use Rattle.jh_form.specs.Tree.{FormulaTree}
+use Rattle.jh_form.specs.Meaning.{Interp, truth}
+use Rattle.jh_form.proofs.ClosedLemmas.{both-left, both-right}
+use Rattle.jh_boxed_operations.proofs.substitution.Substitutions.{truth-substituted}
 use Rattle.jh_wp.proofs.Renamings.{truth-renamed}
 use Rattle.jh_wp.specs.Command.{CommandTree, CommandTrees, assume, assert, assign, havoc, leave, stop, seq, choice, none, more, is_closed_command, are_closed_commands}
 use Rattle.jh_wp.specs.Runs.{End, normal, left, failed, follow, ends, ends_all}

@@ -1,10 +1,10 @@
 -- A renamed formula means what the formula means where the name has the other's value.
 use Rattle.std.proofs.Common.{◌≡◌, refl, ℕ, List, arith}
-use Rattle.jh_name.specs.declared.naming.Name.{Name}
-use Rattle.jh_tree.specs.Tree.{FormulaTree}
-use Rattle.jh_tree.specs.Meaning.{Interp, truth}
-use Rattle.jh_walk.specs.Kept.{Keeps}
-use Rattle.jh_walk.proofs.Meanings.{truth-mapped}
+use Rattle.jh_form.specs.jh_name.declared.naming.Name.{Name}
+use Rattle.jh_form.specs.Tree.{FormulaTree}
+use Rattle.jh_form.specs.Meaning.{Interp, truth}
+use Rattle.jh_boxed_operations.specs.jh_boxed.Kept.{Keeps}
+use Rattle.jh_boxed_operations.proofs.of_jh_boxed.Meanings.{truth-mapped}
 use Rattle.jh_wp.specs.Renamed.{renaming, renamed, copied}
 
 pub renaming-keeps : (x y : Name) (m : Interp) → Keeps (renaming x y) m (copied m x y) (λ d e. e)

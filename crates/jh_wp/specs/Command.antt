@@ -1,9 +1,9 @@
 -- Commands without memory: guarded commands, as a method is made one. `havoc x y` gives x the value of y, a fresh name that nothing
 -- assigns, so that each interpretation chooses it; `leave` is where the method returns, and `stop` ends a run without an end.
 use Rattle.std.specs.Prelude.{Bool, true, ◌&&◌}
-use Rattle.jh_name.specs.declared.naming.Name.{Name}
-use Rattle.jh_tree.specs.Tree.{ValueTree, FormulaTree}
-use Rattle.jh_tree.specs.Closed.{is_closed_value}
+use Rattle.jh_form.specs.jh_name.declared.naming.Name.{Name}
+use Rattle.jh_form.specs.Tree.{ValueTree, FormulaTree}
+use Rattle.jh_form.specs.Closed.{is_closed_value}
 
 mutual
   pub data CommandTree : Type 0 where

@@ -1,8 +1,8 @@
 -- What weakest preconditions are.
 use Rattle.std.specs.Prelude.{◌≡◌, true, []}
 use Rattle.std.specs.List.{list_all}
-use Rattle.jh_tree.specs.Tree.{FormulaTree}
-use Rattle.jh_tree.specs.Meaning.{Interp, truth}
+use Rattle.jh_form.specs.Tree.{FormulaTree}
+use Rattle.jh_form.specs.Meaning.{Interp, truth}
 use Rattle.jh_wp.specs.Command.{CommandTree, is_closed_command}
 use Rattle.jh_wp.specs.Runs.{ends}
 use Rattle.jh_wp.specs.Wp.{wp, ends_well}

@@ -2,8 +2,8 @@
 -- without an end, what is asserted and false fails it, and a choice goes both ways.
 use Rattle.std.specs.Prelude.{if◌then◌else◌, List, [], ◌∷◌, ◌++◌}
 use Rattle.std.specs.List.{flat_map}
-use Rattle.jh_tree.specs.Meaning.{Interp, truth, datum}
-use Rattle.jh_tree.specs.Assigned.{assigned}
+use Rattle.jh_form.specs.Meaning.{Interp, truth, datum}
+use Rattle.jh_form.specs.Assigned.{assigned}
 use Rattle.jh_wp.specs.Renamed.{copied}
 use Rattle.jh_wp.specs.Command.{CommandTree, CommandTrees, assume, assert, assign, havoc, leave, stop, seq, choice, none, more}
 

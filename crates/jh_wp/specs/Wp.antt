@@ -1,9 +1,9 @@
 -- Weakest preconditions (Dijkstra's transformer, as in Zee, Kuncak and Rinard, PLDI 2008).
 use Rattle.std.specs.Prelude.{Bool, false, []}
-use Rattle.jh_tree.specs.Tree.{FormulaTree}
-use Rattle.jh_tree.specs.Tree as t
-use Rattle.jh_tree.specs.Meaning.{truth}
-use Rattle.jh_subst.specs.Substituted.{substituted}
+use Rattle.jh_form.specs.Tree.{FormulaTree}
+use Rattle.jh_form.specs.Tree as t
+use Rattle.jh_form.specs.Meaning.{truth}
+use Rattle.jh_boxed_operations.specs.substitution.Substituted.{substituted}
 use Rattle.jh_wp.specs.Renamed.{renamed}
 use Rattle.jh_wp.specs.Command.{CommandTree, CommandTrees, assume, assert, assign, havoc, leave, stop, seq, choice, none, more}
 use Rattle.jh_wp.specs.Runs.{End, normal, left, failed}

@@ -1,7 +1,7 @@
 use Rattle.std.proofs.Common.{sym, subst}
 use Rattle.jh_ast.specs.declared.program.Program.{Program}
 use Rattle.jh_ast.specs.Bare.{program_tree}
-use Rattle.jh_sound.specs.Laws.{IsAccepted}
+use Rattle.jh_boxed_commands.specs.jh_logic.source.Laws.{IsAccepted}
 use Rattle.jh_vars.specs.Reading.{IsAcyclic}
 use Rattle.jahob_calls.proofs.sources.answers_of_method.Goals as goal
 

@@ -1,7 +1,7 @@
 use Rattle.std.proofs.Common.{ap, ◌∙◌}
 use Rattle.jh_ast.specs.Bare.{program_tree}
 use Rattle.jh_ast.specs.declared.program.Program.{Program}
-use Rattle.jh_methods.specs.Methods.{callee_at}
+use Rattle.jh_boxed_commands.specs.methods.Methods.{callee_at}
 use Rattle.jahob_calls.proofs.sources.makes_command.Goals as goal
 
 pub of_method-requires-clause-there : goal.of_method-requires-clause-there

@@ -1,8 +1,8 @@
 use Rattle.std.proofs.Common.{subst, sym, ap}
 use Rattle.jh_ast.specs.Bare.{program_tree}
 use Rattle.jh_ast.specs.Programs.{ProgramTree}
-use Rattle.jh_asserting.specs.Told.{AreFormulas}
-use Rattle.jh_sound.specs.Laws.{IsAccepted}
+use Rattle.jh_boxed_commands.specs.jh_command_statements.checks.Told.{AreFormulas}
+use Rattle.jh_boxed_commands.specs.jh_logic.source.Laws.{IsAccepted}
 use Rattle.jh_vars.specs.Reading.{IsAcyclic}
 use Rattle.jahob_calls.proofs.Standing.{formulas-there}
 use Rattle.jahob_calls.proofs.sources.makes_from.Goals as goal

@@ -1,11 +1,11 @@
 use Rattle.std.proofs.Common.{sym, subst, Ok, Option}
-use Rattle.jh_tree.specs.Bare.{list_tree}
-use Rattle.jh_compare.specs.Unmarked.{unmarked_fields}
-use Rattle.jh_table.specs.Nodes.{nodes}
-use Rattle.jh_steps.specs.declared.step.Base.{Base}
-use Rattle.jh_steps.specs.Steps.{bare_base, option_base}
-use Rattle.jh_steps.specs.Steps as s
-use Rattle.jh_premises.specs.declared.nodes.NodeStep.TheVariants as d
+use Rattle.jh_form.specs.Bare.{list_tree}
+use Rattle.jh_boxed_operations.specs.comparison.Unmarked.{unmarked_fields}
+use Rattle.jh_arena.specs.table.Nodes.{nodes}
+use Rattle.jh_derivation_rules.specs.declared.step.Base.{Base}
+use Rattle.jh_derivation_rules.specs.Steps.{bare_base, option_base}
+use Rattle.jh_derivation_rules.specs.Steps as s
+use Rattle.jh_derivation_steps.specs.declared.premises.nodes.NodeStep.TheVariants as d
 use Rattle.jh_deriv.specs.Replays.{Enters}
 use Rattle.jh_deriv.proofs.Operands.{entered-axiom}
 use Rattle.jh_deriv.proofs.entering.axiom.Goals as goal

@@ -1,4 +1,4 @@
-use Rattle.jh_table.proofs.Listed.{extends-refl, extends-trans}
+use Rattle.jh_arena.proofs.table.Listed.{extends-refl, extends-trans}
 use Rattle.jh_deriv.proofs.Bares.{bare-none, bare-step, bare-end}
 use Rattle.jh_deriv.proofs.entering.bare_fields.Goals as goal
 

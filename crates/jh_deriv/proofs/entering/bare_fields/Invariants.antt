@@ -1,5 +1,5 @@
 use Rattle.std.proofs.Common.{take}
-use Rattle.jh_table.specs.Growth.{Extends}
+use Rattle.jh_arena.specs.table.Growth.{Extends}
 use Rattle.jh_reach.specs.Standing.{AreFields}
 use Rattle.jh_deriv.specs.Replays.{bare_list}
 use Rattle.jh_deriv.proofs.entering.bare_fields.Given as goal

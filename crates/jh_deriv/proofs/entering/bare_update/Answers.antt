@@ -1,10 +1,10 @@
 use Rattle.std.proofs.Common.{ap, ◌∙◌, Some}
-use Rattle.jh_tree.specs.Tree.{of_object, of_field}
-use Rattle.jh_tree.specs.Bare.{term_tree, field_tree}
-use Rattle.jh_compare.specs.Unmarked.{unmarked_term, unmarked_field}
-use Rattle.jh_table.specs.Nodes.{nodes}
-use Rattle.jh_table.proofs.Listed.{node-stays}
-use Rattle.jh_table.proofs.NodeSteps.{fits-Update, tree-Update}
+use Rattle.jh_form.specs.Tree.{of_object, of_field}
+use Rattle.jh_form.specs.Bare.{term_tree, field_tree}
+use Rattle.jh_boxed_operations.specs.comparison.Unmarked.{unmarked_term, unmarked_field}
+use Rattle.jh_arena.specs.table.Nodes.{nodes}
+use Rattle.jh_arena.proofs.table.Listed.{node-stays}
+use Rattle.jh_arena.proofs.table.NodeSteps.{fits-Update, tree-Update}
 use Rattle.jh_deriv.proofs.Operands.{if-ok}
 use Rattle.jh_deriv.proofs.entering.bare_update.Goals as goal
 

@@ -1,5 +1,5 @@
-use Rattle.jh_tree.specs.Bare.{value_tree}
-use Rattle.jh_table.specs.Nodes.{nodes}
+use Rattle.jh_form.specs.Bare.{value_tree}
+use Rattle.jh_arena.specs.table.Nodes.{nodes}
 use Rattle.jh_deriv.proofs.Operands.{bare-value, if-ok}
 use Rattle.jh_deriv.proofs.entering.bare_value.Goals as goal
 

@@ -1,12 +1,12 @@
 use Rattle.std.proofs.Common.{sym, ap, subst, List}
-use Rattle.jh_tree.specs.declared.form.FieldTerm.{FieldTerm}
-use Rattle.jh_tree.specs.Bare.{list_tree}
-use Rattle.jh_compare.specs.Unmarked.{unmarked_fields}
-use Rattle.jh_table.specs.Nodes.{nodes}
-use Rattle.jh_steps.specs.declared.step.DerivStep.{DerivStep}
-use Rattle.jh_steps.specs.Steps.{bare_base, option_base, bare_step, step_tree}
-use Rattle.jh_steps.specs.Steps as s
-use Rattle.jh_premises.specs.Nodes.{step_at, AreOperands}
+use Rattle.jh_form.specs.declared.form.FieldTerm.{FieldTerm}
+use Rattle.jh_form.specs.Bare.{list_tree}
+use Rattle.jh_boxed_operations.specs.comparison.Unmarked.{unmarked_fields}
+use Rattle.jh_arena.specs.table.Nodes.{nodes}
+use Rattle.jh_derivation_rules.specs.declared.step.DerivStep.{DerivStep}
+use Rattle.jh_derivation_rules.specs.Steps.{bare_base, option_base, bare_step, step_tree}
+use Rattle.jh_derivation_rules.specs.Steps as s
+use Rattle.jh_derivation_steps.specs.premises.Nodes.{step_at, AreOperands}
 use Rattle.jh_deriv.specs.Replays.{Enters}
 use Rattle.jh_deriv.proofs.entering.entered.Goals as goal
 

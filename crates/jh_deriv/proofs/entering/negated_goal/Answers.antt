@@ -1,8 +1,8 @@
 use Rattle.std.proofs.Common.{ap}
-use Rattle.jh_tree.specs.Bare.{formula_tree}
-use Rattle.jh_compare.specs.Unmarked.{unmarked_formula}
-use Rattle.jh_table.specs.Entries.{is_truth}
-use Rattle.jh_table.specs.Nodes.{nodes}
+use Rattle.jh_form.specs.Bare.{formula_tree}
+use Rattle.jh_boxed_operations.specs.comparison.Unmarked.{unmarked_formula}
+use Rattle.jh_arena.specs.table.Entries.{is_truth}
+use Rattle.jh_arena.specs.table.Nodes.{nodes}
 use Rattle.jh_deriv.proofs.Operands.{negated-truth, if-ok}
 use Rattle.jh_deriv.proofs.entering.negated_goal.Goals as goal
 

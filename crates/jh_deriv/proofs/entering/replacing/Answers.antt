@@ -1,8 +1,8 @@
-use Rattle.jh_tree.specs.Tree.{of_truth}
-use Rattle.jh_tree.specs.Bare.{formula_tree, value_tree}
-use Rattle.jh_compare.specs.Unmarked.{unmarked_formula, unmarked_value}
-use Rattle.jh_table.specs.Nodes.{nodes}
-use Rattle.jh_table.proofs.Listed.{node-stays, extends-trans}
+use Rattle.jh_form.specs.Tree.{of_truth}
+use Rattle.jh_form.specs.Bare.{formula_tree, value_tree}
+use Rattle.jh_boxed_operations.specs.comparison.Unmarked.{unmarked_formula, unmarked_value}
+use Rattle.jh_arena.specs.table.Nodes.{nodes}
+use Rattle.jh_arena.proofs.table.Listed.{node-stays, extends-trans}
 use Rattle.jh_deriv.proofs.Operands.{entered-replacing}
 use Rattle.jh_deriv.proofs.entering.replacing.Goals as goal
 

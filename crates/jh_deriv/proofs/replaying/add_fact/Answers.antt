@@ -1,7 +1,7 @@
-use Rattle.jh_tree.specs.Bare.{formula_tree}
-use Rattle.jh_compare.specs.Unmarked.{unmarked_formula}
-use Rattle.jh_table.specs.Nodes.{nodes}
-use Rattle.jh_branches.specs.Placed.{noted}
+use Rattle.jh_form.specs.Bare.{formula_tree}
+use Rattle.jh_boxed_operations.specs.comparison.Unmarked.{unmarked_formula}
+use Rattle.jh_arena.specs.table.Nodes.{nodes}
+use Rattle.jh_open_branches.specs.Placed.{noted}
 use Rattle.jh_deriv.proofs.Following.{gains-one, on-ok-two}
 use Rattle.jh_deriv.proofs.replaying.add_fact.Goals as goal
 

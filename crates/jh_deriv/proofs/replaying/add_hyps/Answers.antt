@@ -1,7 +1,7 @@
 use Rattle.std.proofs.Common.{◌++◌}
-use Rattle.jh_table.specs.Nodes.{nodes}
-use Rattle.jh_table.proofs.Listed.{extends-trans}
-use Rattle.jh_branches.specs.Placed.{noted}
+use Rattle.jh_arena.specs.table.Nodes.{nodes}
+use Rattle.jh_arena.proofs.table.Listed.{extends-trans}
+use Rattle.jh_open_branches.specs.Placed.{noted}
 use Rattle.jh_deriv.specs.Replays.{bare_facts, facts_at}
 use Rattle.jh_deriv.proofs.Following.{hyp-added}
 use Rattle.jh_deriv.proofs.replaying.add_hyps.Goals as goal

@@ -1,7 +1,7 @@
 use Rattle.std.proofs.Common.{◌≡◌, ◌++◌, drop}
-use Rattle.jh_table.specs.Growth.{Extends}
-use Rattle.jh_table.specs.Nodes.{nodes}
-use Rattle.jh_branches.specs.Placed.{ArePlaced, noted}
+use Rattle.jh_arena.specs.table.Growth.{Extends}
+use Rattle.jh_arena.specs.table.Nodes.{nodes}
+use Rattle.jh_open_branches.specs.Placed.{ArePlaced, noted}
 use Rattle.jh_deriv.specs.Replays.{AllFormulas, bare_facts, facts_at}
 use Rattle.jh_deriv.proofs.replaying.add_hyps.Given as goal
 

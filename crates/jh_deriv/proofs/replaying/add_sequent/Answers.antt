@@ -1,11 +1,11 @@
 use Rattle.std.proofs.Common.{subst, [], ◌∷◌, List}
-use Rattle.jh_tree.specs.Tree.{FormulaTree}
-use Rattle.jh_tree.specs.Tree as t
-use Rattle.jh_tree.specs.Bare.{formula_tree}
-use Rattle.jh_compare.specs.Unmarked.{unmarked_formula}
-use Rattle.jh_table.specs.Nodes.{nodes}
-use Rattle.jh_sequent.specs.declared.sequent.Hyp.{Hyp}
-use Rattle.jh_branches.specs.Placed.{noted}
+use Rattle.jh_form.specs.Tree.{FormulaTree}
+use Rattle.jh_form.specs.Tree as t
+use Rattle.jh_form.specs.Bare.{formula_tree}
+use Rattle.jh_boxed_operations.specs.comparison.Unmarked.{unmarked_formula}
+use Rattle.jh_arena.specs.table.Nodes.{nodes}
+use Rattle.jh_seq.specs.declared.sequent.sequent.Hyp.{Hyp}
+use Rattle.jh_open_branches.specs.Placed.{noted}
 use Rattle.jh_deriv.specs.Replays.{Gains, bare_facts}
 use Rattle.jh_deriv.proofs.Following.{gains-two, facts-are, on-ok-one}
 use Rattle.jh_deriv.proofs.replaying.add_sequent.Goals as goal

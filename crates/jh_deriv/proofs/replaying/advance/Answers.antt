@@ -1,8 +1,8 @@
 use Rattle.std.proofs.Common.{sym, ◌∙◌, true, false}
 use Rattle.std.proofs.lemmas.Bool.{true≢false}
-use Rattle.jh_table.specs.Nodes.{nodes}
-use Rattle.jh_premises.specs.Nodes.{IsRule}
-use Rattle.jh_branches.specs.Placed.{noted}
+use Rattle.jh_arena.specs.table.Nodes.{nodes}
+use Rattle.jh_derivation_steps.specs.premises.Nodes.{IsRule}
+use Rattle.jh_open_branches.specs.Placed.{noted}
 use Rattle.jh_deriv.proofs.Turning.{has-stand, stand-has, spread-branches, spread-opens}
 use Rattle.jh_deriv.proofs.replaying.advance.Goals as goal
 

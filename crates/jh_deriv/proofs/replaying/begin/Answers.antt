@@ -1,7 +1,7 @@
-use Rattle.jh_table.specs.Nodes.{nodes}
-use Rattle.jh_sequent.specs.Sequents.{sequent_tree}
-use Rattle.jh_steps.specs.Closes.{facts_of}
-use Rattle.jh_branches.specs.Placed.{noted}
+use Rattle.jh_arena.specs.table.Nodes.{nodes}
+use Rattle.jh_seq.specs.sequent.Sequents.{sequent_tree}
+use Rattle.jh_derivation_rules.specs.Closes.{facts_of}
+use Rattle.jh_open_branches.specs.Placed.{noted}
 use Rattle.jh_deriv.proofs.Following.{begun-after, on-ok-one}
 use Rattle.jh_deriv.proofs.replaying.begin.Goals as goal
 

@@ -1,6 +1,6 @@
 use Rattle.std.proofs.Common.{ap, subst, Ok, refl, ◌∷◌, ◌+◌, drop, List, length, arith}
-use Rattle.jh_table.specs.Nodes.{nodes}
-use Rattle.jh_steps.specs.Steps.{StepTree, step_tree, bare_step}
+use Rattle.jh_arena.specs.table.Nodes.{nodes}
+use Rattle.jh_derivation_rules.specs.Steps.{StepTree, step_tree, bare_step}
 use Rattle.jh_deriv.specs.Replays.{bare_steps, open_at}
 use Rattle.jh_deriv.proofs.Following.{Led, led-begin, led-next, led-stuck, steps-at, comes-end}
 use Rattle.jh_deriv.proofs.replaying.first_failure.Goals as goal

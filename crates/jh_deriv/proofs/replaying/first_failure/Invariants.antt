@@ -1,6 +1,6 @@
 use Rattle.std.proofs.Common.{drop}
-use Rattle.jh_table.specs.Nodes.{nodes}
-use Rattle.jh_branches.specs.Placed.{noted}
+use Rattle.jh_arena.specs.table.Nodes.{nodes}
+use Rattle.jh_open_branches.specs.Placed.{noted}
 use Rattle.jh_deriv.specs.Replays.{AreBranches, bare_steps, open_at}
 use Rattle.jh_deriv.proofs.Following.{Led}
 use Rattle.jh_deriv.proofs.replaying.first_failure.Given as goal

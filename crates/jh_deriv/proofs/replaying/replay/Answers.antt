@@ -1,9 +1,9 @@
 use Rattle.std.proofs.Common.{[], ◌∷◌, List, ℕ, Option, Ok, subst}
 use Rattle.std.specs.Prelude.{map}
-use Rattle.jh_sequent.specs.Sequents.{sequent_tree}
-use Rattle.jh_steps.specs.declared.step.DerivStep.{DerivStep}
-use Rattle.jh_steps.specs.Steps.{bare_step, steps_of}
-use Rattle.jh_steps.specs.Closes.{Runs, facts_of}
+use Rattle.jh_seq.specs.sequent.Sequents.{sequent_tree}
+use Rattle.jh_derivation_rules.specs.declared.step.DerivStep.{DerivStep}
+use Rattle.jh_derivation_rules.specs.Steps.{bare_step, steps_of}
+use Rattle.jh_derivation_rules.specs.Closes.{Runs, facts_of}
 use Rattle.jh_deriv.specs.Replays.{Comes, bare_steps}
 use Rattle.jh_deriv.proofs.replaying.replay.Goals as goal
 

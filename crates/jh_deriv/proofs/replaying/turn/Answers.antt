@@ -1,8 +1,8 @@
 use Rattle.std.proofs.Common.{ap, subst, Ok, Option}
-use Rattle.jh_table.specs.Nodes.{nodes}
-use Rattle.jh_steps.specs.Steps.{step_tree, bare_step}
-use Rattle.jh_premises.specs.declared.nodes.NodeRule.{NodeRule}
-use Rattle.jh_branches.specs.Placed.{noted}
+use Rattle.jh_arena.specs.table.Nodes.{nodes}
+use Rattle.jh_derivation_rules.specs.Steps.{step_tree, bare_step}
+use Rattle.jh_derivation_steps.specs.declared.premises.nodes.NodeRule.{NodeRule}
+use Rattle.jh_open_branches.specs.Placed.{noted}
 use Rattle.jh_deriv.specs.Replays.{Finds, facts_at, open_at}
 use Rattle.jh_deriv.proofs.Turning.{next-goes, branches-stay, goes-stays, turns, stuck-some}
 use Rattle.jh_deriv.proofs.replaying.turn.Goals as goal

@@ -1,7 +1,7 @@
 use Rattle.std.proofs.Common.{sym, ◌∙◌}
 use Rattle.std.proofs.lemmas.Bool.{true≢false}
-use Rattle.jh_table.specs.Nodes.{nodes}
-use Rattle.jh_premises.specs.Nodes.{step_at}
+use Rattle.jh_arena.specs.table.Nodes.{nodes}
+use Rattle.jh_derivation_steps.specs.premises.Nodes.{step_at}
 use Rattle.jh_deriv.proofs.Turning.{gives-finds}
 use Rattle.jh_deriv.proofs.suiting.checked.Goals as goal
 

@@ -1,6 +1,6 @@
 use Rattle.std.proofs.Common.{sym, ◌∙◌, true, false}
 use Rattle.std.proofs.lemmas.Bool.{true≢false}
-use Rattle.jh_table.specs.Nodes.{nodes}
+use Rattle.jh_arena.specs.table.Nodes.{nodes}
 use Rattle.jh_deriv.proofs.Sights.{apart-one, apart-two}
 use Rattle.jh_deriv.proofs.suiting.differ.Goals as goal
 

@@ -1,9 +1,9 @@
 use Rattle.std.proofs.Common.{subst, ◌↔◌, IsTrue}
-use Rattle.jh_tree.specs.Tree.{ValueTree}
-use Rattle.jh_tree.specs.Bare.{formula_tree, value_tree}
-use Rattle.jh_table.specs.Nodes.{nodes}
-use Rattle.jh_compare.specs.Exchanged.{Exchanged}
-use Rattle.jh_premises.specs.Nodes.{value_at}
+use Rattle.jh_form.specs.Tree.{ValueTree}
+use Rattle.jh_form.specs.Bare.{formula_tree, value_tree}
+use Rattle.jh_arena.specs.table.Nodes.{nodes}
+use Rattle.jh_boxed_operations.specs.comparison.Exchanged.{Exchanged}
+use Rattle.jh_derivation_steps.specs.premises.Nodes.{value_at}
 use Rattle.jh_deriv.proofs.suiting.exchanged.Goals as goal
 
 pub returns : goal.returns

@@ -1,6 +1,6 @@
 use Rattle.std.proofs.Common.{sym, ap, ◌∙◌}
-use Rattle.jh_table.specs.Entries.{is_number, the_number}
-use Rattle.jh_table.specs.Nodes.{nodes, shape_tree}
+use Rattle.jh_arena.specs.table.Entries.{is_number, the_number}
+use Rattle.jh_arena.specs.table.Nodes.{nodes, shape_tree}
 use Rattle.jh_deriv.specs.Replays.{is_const}
 use Rattle.jh_deriv.proofs.Sights.{const-none}
 use Rattle.jh_deriv.proofs.suiting.is_constant.Goals as goal

@@ -1,5 +1,5 @@
 use Rattle.std.proofs.Common.{ap}
-use Rattle.jh_table.specs.Entries.{is_truth}
+use Rattle.jh_arena.specs.table.Entries.{is_truth}
 use Rattle.jh_deriv.proofs.suiting.is_exchanged.Goals as goal
 
 pub boxed_formula-requires : goal.boxed_formula-requires

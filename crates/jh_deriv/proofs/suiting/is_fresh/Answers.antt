@@ -2,7 +2,7 @@ use Rattle.std.proofs.Common.{sym, ◌∙◌, true, false, get_or}
 use Rattle.std.proofs.lemmas.Bool.{true≢false}
 use Rattle.std.proofs.lemmas.List.{drop_more}
 use Rattle.std.proofs.lemmas.Option.{slice_get-get_or}
-use Rattle.jh_table.specs.Nodes.{nodes}
+use Rattle.jh_arena.specs.table.Nodes.{nodes}
 use Rattle.jh_deriv.proofs.Following.{all-at, fresh-more, fresh-not}
 use Rattle.jh_deriv.proofs.suiting.is_fresh.Goals as goal
 

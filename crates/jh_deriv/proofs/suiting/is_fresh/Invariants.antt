@@ -1,4 +1,4 @@
-use Rattle.jh_table.specs.Nodes.{nodes}
+use Rattle.jh_arena.specs.table.Nodes.{nodes}
 use Rattle.jh_deriv.proofs.Following.{FreshFrom}
 use Rattle.jh_deriv.proofs.suiting.is_fresh.Given as goal
 

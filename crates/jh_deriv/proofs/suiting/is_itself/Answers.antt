@@ -1,8 +1,8 @@
 use Rattle.std.proofs.Common.{true, false, subst, sym, ap}
 use Rattle.std.proofs.lemmas.Bool.{true≢false}
-use Rattle.jh_tree.specs.Tree.{FormulaTree}
-use Rattle.jh_table.specs.Entries.{the_truth}
-use Rattle.jh_table.specs.Nodes.{nodes}
+use Rattle.jh_form.specs.Tree.{FormulaTree}
+use Rattle.jh_arena.specs.table.Entries.{the_truth}
+use Rattle.jh_arena.specs.table.Nodes.{nodes}
 use Rattle.jh_deriv.specs.Replays.{IsItself}
 use Rattle.jh_deriv.proofs.Sights.{itself-object, itself-number, itself-truth, itself-set, itself-none}
 use Rattle.jh_deriv.proofs.suiting.is_itself.Goals as goal

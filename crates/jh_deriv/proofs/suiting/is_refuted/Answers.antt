@@ -1,11 +1,11 @@
 use Rattle.std.proofs.Common.{true, false, subst, sym, ap, slice_get}
 use Rattle.std.proofs.lemmas.Bool.{true≢false}
-use Rattle.jh_tree.specs.Tree.{FormulaTree}
-use Rattle.jh_table.specs.Entries.{the_truth}
-use Rattle.jh_table.specs.Nodes.{nodes}
-use Rattle.jh_table.proofs.Children.{it-is-truth, it-is-number}
-use Rattle.jh_table.proofs.PartSteps.{part-Negation-a, part-EqNumber-a, part-EqNumber-b}
-use Rattle.jh_steps.specs.Rules.{IsRefuted}
+use Rattle.jh_form.specs.Tree.{FormulaTree}
+use Rattle.jh_arena.specs.table.Entries.{the_truth}
+use Rattle.jh_arena.specs.table.Nodes.{nodes}
+use Rattle.jh_arena.proofs.table.Children.{it-is-truth, it-is-number}
+use Rattle.jh_arena.proofs.table.PartSteps.{part-Negation-a, part-EqNumber-a, part-EqNumber-b}
+use Rattle.jh_derivation_rules.specs.Rules.{IsRefuted}
 use Rattle.jh_deriv.proofs.Sights.{refuted-negation, refuted-numbers, refuted-none}
 use Rattle.jh_deriv.proofs.suiting.is_refuted.Goals as goal
 

@@ -1,5 +1,5 @@
 use Rattle.std.proofs.Common.{refl}
-use Rattle.jh_table.specs.Nodes.{nodes}
+use Rattle.jh_arena.specs.table.Nodes.{nodes}
 use Rattle.jh_deriv.proofs.Turning.{alone-other}
 use Rattle.jh_deriv.proofs.suiting.suits.Goals as goal
 

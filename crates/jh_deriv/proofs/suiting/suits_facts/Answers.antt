@@ -1,6 +1,6 @@
 use Rattle.std.proofs.Common.{refl, sym, ap, subst, ◌↔◌, IsTrue}
-use Rattle.jh_table.specs.Nodes.{nodes}
-use Rattle.jh_steps.specs.Steps.{StepTree, step_tree, bare_step}
+use Rattle.jh_arena.specs.table.Nodes.{nodes}
+use Rattle.jh_derivation_rules.specs.Steps.{StepTree, step_tree, bare_step}
 use Rattle.jh_deriv.specs.Replays.{SuitsFacts, facts_at}
 use Rattle.jh_deriv.proofs.Operands.{if-ok}
 use Rattle.jh_deriv.proofs.Turning.{suits-other}

@@ -1,10 +1,10 @@
 use Rattle.std.proofs.Common.{[], ◌∷◌, map}
-use Rattle.jh_tree.specs.declared.mark.MarkKind.TheVariants as kind
-use Rattle.jh_table.proofs.Listed.{extends-refl}
+use Rattle.jh_form.specs.declared.mark.MarkKind.TheVariants as kind
+use Rattle.jh_arena.proofs.table.Listed.{extends-refl}
 use Rattle.jh_wp.specs.Command as w
-use Rattle.jh_guard.specs.Steps.{assert_claims}
-use Rattle.jh_lowered.specs.Statements.{claim_in}
-use Rattle.jh_changes.proofs.AddedSteps.{adds-two, on-ok}
+use Rattle.jh_command_statements.specs.jh_guard.Steps.{assert_claims}
+use Rattle.jh_semantics.specs.typed_code.Statements.{claim_in}
+use Rattle.jh_state_facts.proofs.changes.AddedSteps.{adds-two, on-ok}
 use Rattle.jh_havoc.proofs.claims.push_kept.Goals as goal
 
 pub returns-clause-commands : goal.returns-clause-commands

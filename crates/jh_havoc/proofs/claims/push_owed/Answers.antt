@@ -1,8 +1,8 @@
 use Rattle.std.proofs.Common.{List, subst}
-use Rattle.jh_runs.specs.Code.{Claim}
-use Rattle.jh_guard.specs.Steps.{assume_claims}
-use Rattle.jh_changes.specs.Added.{AddsCommands}
-use Rattle.jh_changes.proofs.AddedSteps.{on-ok}
+use Rattle.jh_semantics.specs.Code.{Claim}
+use Rattle.jh_command_statements.specs.jh_guard.Steps.{assume_claims}
+use Rattle.jh_state_facts.specs.changes.Added.{AddsCommands}
+use Rattle.jh_state_facts.proofs.changes.AddedSteps.{on-ok}
 use Rattle.jh_havoc.proofs.StopSteps.{owed-are}
 use Rattle.jh_havoc.proofs.claims.push_owed.Goals as goal
 

@@ -1,6 +1,6 @@
-use Rattle.jh_tree.specs.Tree.{of_truth}
-use Rattle.jh_table.proofs.Listed.{extends-trans}
-use Rattle.jh_changes.proofs.AddedSteps.{adds-two}
+use Rattle.jh_form.specs.Tree.{of_truth}
+use Rattle.jh_arena.proofs.table.Listed.{extends-trans}
+use Rattle.jh_state_facts.proofs.changes.AddedSteps.{adds-two}
 use Rattle.jh_havoc.proofs.StopSteps.{truth-stays}
 use Rattle.jh_havoc.proofs.states.push_state.Goals as goal
 

@@ -1,9 +1,9 @@
 use Rattle.std.proofs.Common.{◌≡◌, sym, ap, subst, true, List, Err}
 use Rattle.std.specs.List.{list_all}
-use Rattle.jh_instances.specs.Count.{count}
-use Rattle.jh_instances.specs.Entries.{Entry}
-use Rattle.jh_instances.specs.Instances.{instances_of, normal_facts}
-use Rattle.jh_plain.specs.Plain.{are_literals}
+use Rattle.jh_inst.specs.instances.Count.{count}
+use Rattle.jh_inst.specs.instances.Entries.{Entry}
+use Rattle.jh_inst.specs.instances.Instances.{instances_of, normal_facts}
+use Rattle.jh_inst.specs.plain_formulas.Plain.{are_literals}
 use Rattle.jh_local.specs.Answers.{IsSearchedFor}
 use Rattle.jh_local.proofs.Facts.{facts-stand}
 use Rattle.jh_local.proofs.Locals.{facts-plain}

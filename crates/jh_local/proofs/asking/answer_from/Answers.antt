@@ -1,9 +1,9 @@
 use Rattle.std.proofs.Common.{subst, List, IfOk}
-use Rattle.jh_instances.specs.Entries.{Entry}
-use Rattle.jh_instances.specs.Instances.{instances_of}
-use Rattle.jh_instances.specs.Rounds.{all_puts, of_one, ended}
-use Rattle.jh_plain.specs.Plain.{are_literals}
-use Rattle.jh_entries.specs.Standing.{IsMade}
+use Rattle.jh_inst.specs.instances.Entries.{Entry}
+use Rattle.jh_inst.specs.instances.Instances.{instances_of}
+use Rattle.jh_inst.specs.instances.Rounds.{all_puts, of_one, ended}
+use Rattle.jh_inst.specs.plain_formulas.Plain.{are_literals}
+use Rattle.jh_ground_input.specs.jh_instantiation.instances.Standing.{IsMade}
 use Rattle.jh_local.specs.Answers.{HasNoModel}
 use Rattle.jh_local.proofs.Among.{first-all, first-among}
 use Rattle.jh_local.proofs.Restricted.{no-model}

@@ -1,8 +1,8 @@
 use Rattle.std.proofs.Common.{◌≤◌, ℕ, List}
 use Rattle.std.proofs.lemmas.Result.{IfOk-weaker}
-use Rattle.jh_tree.specs.Tree.{FormulaTree}
-use Rattle.jh_table.specs.Nodes.{nodes}
-use Rattle.jh_propagating.specs.Problems.{instances_in}
+use Rattle.jh_form.specs.Tree.{FormulaTree}
+use Rattle.jh_arena.specs.table.Nodes.{nodes}
+use Rattle.jh_propagation.specs.propagation.Problems.{instances_in}
 use Rattle.jh_local.specs.Answers.{IsOutcome, IsSearchedFor}
 use Rattle.jh_local.proofs.asking.answer_posed.Goals as goal
 

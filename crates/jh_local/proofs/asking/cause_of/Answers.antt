@@ -1,9 +1,9 @@
 use Rattle.std.proofs.Common.{sym, subst, List}
-use Rattle.jh_table.specs.Nodes.{nodes}
-use Rattle.jh_propagating.specs.Problems.{instances_in}
-use Rattle.jh_search.specs.Outcomes.{IsFound}
-use Rattle.jh_search.specs.declared.turn.ClosedBranch.{ClosedBranch}
-use Rattle.jh_search.specs.declared.turn.Found.{Found}
+use Rattle.jh_arena.specs.table.Nodes.{nodes}
+use Rattle.jh_propagation.specs.propagation.Problems.{instances_in}
+use Rattle.jh_instance_proofs.specs.jh_search.Outcomes.{IsFound}
+use Rattle.jh_instance_proofs.specs.jh_search.declared.turn.ClosedBranch.{ClosedBranch}
+use Rattle.jh_instance_proofs.specs.jh_search.declared.turn.Found.{Found}
 use Rattle.jh_local.specs.Standing.{EachFormulas}
 use Rattle.jh_local.proofs.Found.{model-formulas, spent-formulas}
 use Rattle.jh_local.proofs.asking.cause_of.Goals as goal

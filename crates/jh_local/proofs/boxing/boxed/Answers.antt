@@ -1,6 +1,6 @@
 use Rattle.std.proofs.Common.{ap}
-use Rattle.jh_structure.specs.Literals.{literal_tree}
-use Rattle.jh_models.specs.Atoms.{literal}
+use Rattle.jh_closure.specs.structures.Literals.{literal_tree}
+use Rattle.jh_models.specs.ground_models.Atoms.{literal}
 use Rattle.jh_local.proofs.boxing.boxed.Goals as goal
 
 pub returns : goal.returns

@@ -1,5 +1,5 @@
-use Rattle.jh_table.specs.Nodes.{nodes}
-use Rattle.jh_search.specs.Paths.{closed_at}
+use Rattle.jh_arena.specs.table.Nodes.{nodes}
+use Rattle.jh_instance_proofs.specs.jh_search.Paths.{closed_at}
 use Rattle.jh_local.specs.Answers.{closed_tree}
 use Rattle.jh_local.proofs.Boxed.{mapped-next}
 use Rattle.jh_local.proofs.boxing.boxed_branches.Goals as goal

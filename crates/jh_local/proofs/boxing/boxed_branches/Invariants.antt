@@ -1,6 +1,6 @@
 use Rattle.std.proofs.Common.{◌≡◌, take}
-use Rattle.jh_table.specs.Nodes.{nodes}
-use Rattle.jh_search.specs.Paths.{all_closed}
+use Rattle.jh_arena.specs.table.Nodes.{nodes}
+use Rattle.jh_instance_proofs.specs.jh_search.Paths.{all_closed}
 use Rattle.jh_local.specs.Answers.{closed_trees}
 use Rattle.jh_local.proofs.boxing.boxed_branches.Given as goal
 

@@ -1,6 +1,6 @@
-use Rattle.jh_structure.specs.Literals.{literal_tree}
-use Rattle.jh_table.specs.Nodes.{nodes}
-use Rattle.jh_trail.specs.Saying.{literal_tree_at}
+use Rattle.jh_closure.specs.structures.Literals.{literal_tree}
+use Rattle.jh_arena.specs.table.Nodes.{nodes}
+use Rattle.jh_propagation.specs.trail.Saying.{literal_tree_at}
 use Rattle.jh_local.proofs.Boxed.{mapped-next}
 use Rattle.jh_local.proofs.boxing.boxed_trail.Goals as goal
 

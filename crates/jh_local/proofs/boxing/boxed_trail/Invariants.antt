@@ -1,6 +1,6 @@
 use Rattle.std.proofs.Common.{◌≡◌, take}
-use Rattle.jh_table.specs.Nodes.{nodes}
-use Rattle.jh_trail.specs.Saying.{literals_at}
+use Rattle.jh_arena.specs.table.Nodes.{nodes}
+use Rattle.jh_propagation.specs.trail.Saying.{literals_at}
 use Rattle.jh_local.specs.Answers.{literal_trees}
 use Rattle.jh_local.proofs.boxing.boxed_trail.Given as goal
 

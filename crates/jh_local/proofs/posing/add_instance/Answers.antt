@@ -1,6 +1,6 @@
 use Rattle.std.proofs.Common.{◌∙◌, sym}
-use Rattle.jh_table.specs.Nodes.{nodes}
-use Rattle.jh_instances.specs.Instances.{is_ground}
+use Rattle.jh_arena.specs.table.Nodes.{nodes}
+use Rattle.jh_inst.specs.instances.Instances.{is_ground}
 use Rattle.jh_local.proofs.Made.{instance-more, truths-more}
 use Rattle.jh_local.proofs.posing.add_instance.Goals as goal
 

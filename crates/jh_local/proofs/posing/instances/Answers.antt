@@ -1,8 +1,8 @@
 use Rattle.std.proofs.Common.{◌≡◌, ◌≤◌, ◌∙◌, sym, ap, ℕ, List, [], ◌∷◌, ◌++◌, if◌then◌else◌, take, length, add-one, arith}
 use Rattle.std.proofs.lemmas.List.{take_all}
-use Rattle.jh_tree.specs.Tree.{FormulaTree}
-use Rattle.jh_instances.specs.Entries.{Entry}
-use Rattle.jh_instances.specs.Instances.{is_ground, instances_of}
+use Rattle.jh_form.specs.Tree.{FormulaTree}
+use Rattle.jh_inst.specs.instances.Entries.{Entry}
+use Rattle.jh_inst.specs.instances.Instances.{is_ground, instances_of}
 use Rattle.jh_local.proofs.Made.{entries-length, entry-at, instances-next, truth-there}
 use Rattle.jh_local.proofs.posing.instances.Goals as goal
 

@@ -1,9 +1,9 @@
 use Rattle.std.proofs.Common.{◌≡◌, List, take}
-use Rattle.jh_table.specs.Nodes.{nodes}
-use Rattle.jh_trail.specs.Saying.{AreTruths, truths_at}
-use Rattle.jh_instances.specs.Entries.{Entry}
-use Rattle.jh_instances.specs.Instances.{instances_of}
-use Rattle.jh_entries.specs.Standing.{IsMade}
+use Rattle.jh_arena.specs.table.Nodes.{nodes}
+use Rattle.jh_propagation.specs.trail.Saying.{AreTruths, truths_at}
+use Rattle.jh_inst.specs.instances.Entries.{Entry}
+use Rattle.jh_inst.specs.instances.Instances.{instances_of}
+use Rattle.jh_ground_input.specs.jh_instantiation.instances.Standing.{IsMade}
 use Rattle.jh_local.proofs.posing.instances.Given as goal
 
 -- the instances among the first entries

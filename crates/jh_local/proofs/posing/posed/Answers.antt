@@ -1,9 +1,9 @@
 use Rattle.std.proofs.Common.{◌∙◌, ap, List}
 use Rattle.std.specs.List.{list_all}
-use Rattle.jh_tree.specs.Tree.{FormulaTree}
-use Rattle.jh_table.specs.Nodes.{nodes}
-use Rattle.jh_trail.specs.Saying.{truths_at}
-use Rattle.jh_plain.specs.Plain.{are_literals}
+use Rattle.jh_form.specs.Tree.{FormulaTree}
+use Rattle.jh_arena.specs.table.Nodes.{nodes}
+use Rattle.jh_propagation.specs.trail.Saying.{truths_at}
+use Rattle.jh_inst.specs.plain_formulas.Plain.{are_literals}
 use Rattle.jh_local.proofs.Labels.{unlabelled}
 use Rattle.jh_local.proofs.Made.{both-made}
 use Rattle.jh_local.proofs.posing.posed.Goals as goal

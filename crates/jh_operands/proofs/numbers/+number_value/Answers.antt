@@ -2,8 +2,8 @@ use Rattle.std.proofs.Common.{rules, ◌≡◌, sym, ap, subst, ◌∙◌, ◌+�
 use Rattle.std.proofs.lemmas.Result.{IfOk-weaker, IfErr-weaker}
 use Rattle.std.specs.Int.{w64}
 use Rattle.jh_name.specs.declared.naming.Name.{Name}
-use Rattle.jh_runs.specs.Values.{value, number_of}
-use Rattle.jh_memory.specs.Held.{state_of}
+use Rattle.jh_semantics.specs.Values.{value, number_of}
+use Rattle.jh_store.specs.memory.Held.{state_of}
 use Rattle.jh_operands.specs.declared.fault.Fault.TheVariants as f
 use Rattle.jh_operands.specs.declared.exprs.NumberExpr.{NumberExpr}
 use Rattle.jh_operands.specs.Exprs.{number_in, NumberFits}

@@ -1,6 +1,6 @@
 use Rattle.std.proofs.Common.{rules, ◌≡◌}
-use Rattle.jh_runs.specs.Values.{value, number_of}
-use Rattle.jh_memory.specs.Held.{state_of}
+use Rattle.jh_semantics.specs.Values.{value, number_of}
+use Rattle.jh_store.specs.memory.Held.{state_of}
 use Rattle.jh_operands.specs.Exprs.{number_in}
 use Rattle.jh_operands.specs.Faults.{TwoFault}
 use Rattle.jh_operands.proofs.NumberSteps.{two_left, two_right}

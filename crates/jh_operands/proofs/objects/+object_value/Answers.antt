@@ -1,6 +1,6 @@
 use Rattle.std.proofs.Common.{rules, ◌≡◌, subst}
-use Rattle.jh_runs.specs.Values.{value, dereferenced, object_of}
-use Rattle.jh_memory.specs.Held.{state_of}
+use Rattle.jh_semantics.specs.Values.{value, dereferenced, object_of}
+use Rattle.jh_store.specs.memory.Held.{state_of}
 use Rattle.jh_operands.specs.declared.exprs.ObjectExpr.{ObjectExpr}
 use Rattle.jh_operands.specs.Exprs.{object_in, ObjectFits}
 use Rattle.jh_operands.specs.Faults.{IsFault, Never, ObjectFault}

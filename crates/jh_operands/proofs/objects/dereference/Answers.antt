@@ -1,6 +1,6 @@
 use Rattle.std.proofs.Common.{◌≡◌, ◌∙◌}
 use Rattle.std.proofs.lemmas.Result.{IfOk-weaker, IfErr-weaker}
-use Rattle.jh_runs.specs.Values.{value, dereferenced}
+use Rattle.jh_semantics.specs.Values.{value, dereferenced}
 use Rattle.jh_operands.specs.Exprs.{object_in}
 use Rattle.jh_operands.specs.Faults.{IsFault, Never, unless_null}
 use Rattle.jh_operands.proofs.ObjectSteps.{null_is, named_is, read_is, this_is, same_fault}

@@ -1,7 +1,7 @@
 use Rattle.std.proofs.Common.{rules, ◌≡◌}
 use Rattle.std.proofs.lemmas.Result.{IfOk-weaker, IfErr-weaker}
-use Rattle.jh_runs.specs.Values.{value, dereferenced, object_of}
-use Rattle.jh_memory.specs.Held.{state_of}
+use Rattle.jh_semantics.specs.Values.{value, dereferenced, object_of}
+use Rattle.jh_store.specs.memory.Held.{state_of}
 use Rattle.jh_operands.specs.Exprs.{object_in}
 use Rattle.jh_operands.specs.Faults.{IsFault, Never, receiver_of, ReceiverFault}
 use Rattle.jh_operands.proofs.ObjectSteps.{receiver-is, receiver-faults, null-faults}

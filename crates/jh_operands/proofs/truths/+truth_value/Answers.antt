@@ -1,8 +1,8 @@
 use Rattle.std.proofs.Common.{rules, ◌≡◌, sym, ap, subst, ◌∙◌, true, false, not, ◌==◌, int_lt, int_le, IfOk, IfErr}
 use Rattle.std.proofs.lemmas.Result.{IfOk-weaker, IfErr-weaker}
 use Rattle.std.specs.Ordering.{int_eq}
-use Rattle.jh_runs.specs.Values.{value, truth_of}
-use Rattle.jh_memory.specs.Held.{state_of}
+use Rattle.jh_semantics.specs.Values.{value, truth_of}
+use Rattle.jh_store.specs.memory.Held.{state_of}
 use Rattle.jh_operands.specs.declared.exprs.TruthExpr.{TruthExpr}
 use Rattle.jh_operands.specs.Exprs.{truth_in, TruthFits}
 use Rattle.jh_operands.specs.Faults.{TruthFault}

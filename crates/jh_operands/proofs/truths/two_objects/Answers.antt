@@ -1,6 +1,6 @@
 use Rattle.std.proofs.Common.{rules, ◌≡◌}
-use Rattle.jh_runs.specs.Values.{value, object_of}
-use Rattle.jh_memory.specs.Held.{state_of}
+use Rattle.jh_semantics.specs.Values.{value, object_of}
+use Rattle.jh_store.specs.memory.Held.{state_of}
 use Rattle.jh_operands.specs.Exprs.{object_in}
 use Rattle.jh_operands.specs.Faults.{TwoObjectFault}
 use Rattle.jh_operands.proofs.TruthSteps.{pair_left, pair_right}

@@ -1,6 +1,6 @@
 use Rattle.std.proofs.Common.{rules, ◌≡◌}
-use Rattle.jh_runs.specs.Values.{value, value_of}
-use Rattle.jh_memory.specs.Held.{state_of}
+use Rattle.jh_semantics.specs.Values.{value, value_of}
+use Rattle.jh_store.specs.memory.Held.{state_of}
 use Rattle.jh_operands.specs.Exprs.{any_in}
 use Rattle.jh_operands.specs.Faults.{AnyFault}
 use Rattle.jh_operands.specs.declared.values.Scalar.TheVariants as v

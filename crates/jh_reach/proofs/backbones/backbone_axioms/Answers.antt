@@ -1,8 +1,8 @@
 use Rattle.std.proofs.Common.{ap, ◌∙◌, subst}
 use Rattle.std.specs.Prelude.{Option}
 use Rattle.jh_reach.specs.declared.backbones.Base.{Base}
-use Rattle.jh_table.specs.Entries.{are_fields}
-use Rattle.jh_table.proofs.Listed.{extends-trans}
+use Rattle.jh_arena.specs.table.Entries.{are_fields}
+use Rattle.jh_arena.proofs.table.Listed.{extends-trans}
 use Rattle.jh_reach.specs.Axioms.{axioms_of_list}
 use Rattle.jh_reach.specs.Based.{IsBaseAt}
 use Rattle.jh_reach.proofs.Standings.{fields-grow, formulas-grow, along-grows}

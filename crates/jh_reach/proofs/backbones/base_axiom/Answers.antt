@@ -1,10 +1,10 @@
 use Rattle.std.proofs.Common.{◌≡◌, sym, ap, ◌∙◌, subst, ℕ, List, Some}
 use Rattle.std.specs.Prelude.{slice_set}
-use Rattle.jh_table.specs.Entries.{are_fields}
-use Rattle.jh_table.specs.Nodes.{nodes}
+use Rattle.jh_arena.specs.table.Entries.{are_fields}
+use Rattle.jh_arena.specs.table.Nodes.{nodes}
 use Rattle.jh_reach.specs.Axioms.{listed, before}
 use Rattle.jh_reach.specs.Standing.{AreFields, fields_in}
-use Rattle.jh_ways.proofs.NodeSteps.{list-there, list-grows}
+use Rattle.jh_path_formulas.proofs.NodeSteps.{list-there, list-grows}
 use Rattle.jh_reach.proofs.Standings.{fields-grow, along-list, along-fields, along-grows}
 use Rattle.jh_reach.proofs.Basing.{set-fields, set-are, sorted-grows, there-grows}
 use Rattle.jh_reach.proofs.backbones.base_axiom.Goals as goal

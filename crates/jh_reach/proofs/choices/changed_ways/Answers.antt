@@ -1,10 +1,10 @@
 use Rattle.std.proofs.Common.{ap, sym, ◌∙◌}
-use Rattle.jh_tree.specs.Tree.{of_truth}
-use Rattle.jh_table.specs.Nodes.{nodes}
+use Rattle.jh_form.specs.Tree.{of_truth}
+use Rattle.jh_arena.specs.table.Nodes.{nodes}
 use Rattle.jh_reach.specs.Axioms.{listed, changed_one, changed_several, changed_ways}
 use Rattle.jh_reach.specs.Standing.{fields_in}
-use Rattle.jh_ways.proofs.NodeSteps.{list-there}
-use Rattle.jh_enter.proofs.Fields.{made-as}
+use Rattle.jh_path_formulas.proofs.NodeSteps.{list-there}
+use Rattle.jh_import.proofs.entering.Fields.{made-as}
 use Rattle.jh_reach.proofs.Standings.{fields-length, along-list, along-fields, changed-one, changed-several}
 use Rattle.jh_reach.proofs.choices.changed_ways.Goals as goal
 

@@ -1,15 +1,15 @@
 -- Written by tools/reach.py.
 use Rattle.std.proofs.Common.{ap, ◌∙◌, Some, slice_get}
-use Rattle.jh_tree.specs.Tree.{of_object, of_truth}
-use Rattle.jh_tree.specs.Tree as t
-use Rattle.jh_table.specs.Entries.{the_field}
-use Rattle.jh_table.specs.Nodes.{nodes, tree_in}
-use Rattle.jh_table.specs.declared.shapes.Shape.TheVariants as s
-use Rattle.jh_table.proofs.NodeSteps.{fits-Bound, tree-Bound}
-use Rattle.jh_table.proofs.Listed.{extends-trans}
-use Rattle.jh_enter.proofs.Fields.{fits-listed-Reach, tree-listed-Reach, made-as}
-use Rattle.jh_ways.proofs.NodeSteps.{list-of, list-grows, unlisted, holds-field}
-use Rattle.jh_ways.specs.Ways.{listed, child, list_at}
+use Rattle.jh_form.specs.Tree.{of_object, of_truth}
+use Rattle.jh_form.specs.Tree as t
+use Rattle.jh_arena.specs.table.Entries.{the_field}
+use Rattle.jh_arena.specs.table.Nodes.{nodes, tree_in}
+use Rattle.jh_arena.specs.declared.table.shapes.Shape.TheVariants as s
+use Rattle.jh_arena.proofs.table.NodeSteps.{fits-Bound, tree-Bound}
+use Rattle.jh_arena.proofs.table.Listed.{extends-trans}
+use Rattle.jh_import.proofs.entering.Fields.{fits-listed-Reach, tree-listed-Reach, made-as}
+use Rattle.jh_path_formulas.proofs.NodeSteps.{list-of, list-grows, unlisted, holds-field}
+use Rattle.jh_path_formulas.specs.Ways.{listed, child, list_at}
 use Rattle.jh_reach.proofs.fields.child_reaches.Goals as goal
 
 pub child_of-requires : goal.child_of-requires

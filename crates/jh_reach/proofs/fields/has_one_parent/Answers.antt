@@ -1,15 +1,15 @@
 -- Written by tools/reach.py.
 use Rattle.std.proofs.Common.{slice_get}
-use Rattle.jh_tree.specs.Tree.{of_truth}
-use Rattle.jh_tree.specs.Tree as t
-use Rattle.jh_table.specs.Entries.{the_field}
-use Rattle.jh_table.specs.Nodes.{nodes, tree_in}
-use Rattle.jh_table.specs.declared.shapes.Shape.TheVariants as s
-use Rattle.jh_table.proofs.NodeSteps.{fits-Implies, tree-Implies}
-use Rattle.jh_table.proofs.Listed.{extends-trans}
-use Rattle.jh_enter.proofs.Fields.{made-as}
-use Rattle.jh_ways.proofs.NodeSteps.{holds-field}
-use Rattle.jh_ways.specs.Ways.{child, differ}
+use Rattle.jh_form.specs.Tree.{of_truth}
+use Rattle.jh_form.specs.Tree as t
+use Rattle.jh_arena.specs.table.Entries.{the_field}
+use Rattle.jh_arena.specs.table.Nodes.{nodes, tree_in}
+use Rattle.jh_arena.specs.declared.table.shapes.Shape.TheVariants as s
+use Rattle.jh_arena.proofs.table.NodeSteps.{fits-Implies, tree-Implies}
+use Rattle.jh_arena.proofs.table.Listed.{extends-trans}
+use Rattle.jh_import.proofs.entering.Fields.{made-as}
+use Rattle.jh_path_formulas.proofs.NodeSteps.{holds-field}
+use Rattle.jh_path_formulas.specs.Ways.{child, differ}
 use Rattle.jh_reach.proofs.fields.has_one_parent.Goals as goal
 
 pub one_child-requires : goal.one_child-requires

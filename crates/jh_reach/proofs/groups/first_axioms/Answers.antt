@@ -1,9 +1,9 @@
 -- Written by tools/reach.py.
-use Rattle.jh_tree.specs.Tree.{of_truth}
-use Rattle.jh_table.specs.Nodes.{nodes}
-use Rattle.jh_table.proofs.Listed.{extends-trans}
-use Rattle.jh_ways.proofs.NodeSteps.{list-there, list-grows}
-use Rattle.jh_ways.specs.Ways.{listed}
+use Rattle.jh_form.specs.Tree.{of_truth}
+use Rattle.jh_arena.specs.table.Nodes.{nodes}
+use Rattle.jh_arena.proofs.table.Listed.{extends-trans}
+use Rattle.jh_path_formulas.proofs.NodeSteps.{list-there, list-grows}
+use Rattle.jh_path_formulas.specs.Ways.{listed}
 use Rattle.jh_reach.specs.Axioms.{reach_itself, reach_children, first_step, last_step, ways_join}
 use Rattle.jh_reach.specs.Standing.{AreFormulas, fields_in}
 use Rattle.jh_reach.proofs.Standings.{fields-grow, along-list, along-fields, along-grows}

@@ -1,7 +1,7 @@
 -- Written by tools/reach.py.
-use Rattle.jh_tree.specs.Tree.{of_truth}
-use Rattle.jh_table.specs.Nodes.{nodes}
-use Rattle.jh_table.proofs.Listed.{extends-trans}
+use Rattle.jh_form.specs.Tree.{of_truth}
+use Rattle.jh_arena.specs.table.Nodes.{nodes}
+use Rattle.jh_arena.proofs.table.Listed.{extends-trans}
 use Rattle.jh_reach.specs.Axioms.{ways_compare, null_reaches_null, no_way_back, one_parent}
 use Rattle.jh_reach.specs.Standing.{AreFormulas}
 use Rattle.jh_reach.proofs.Standings.{fields-grow, along-grows}

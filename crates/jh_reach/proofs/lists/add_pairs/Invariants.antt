@@ -1,6 +1,6 @@
 use Rattle.std.proofs.Common.{◌≡◌, List, ◌++◌, drop}
-use Rattle.jh_tree.specs.Tree.{FieldTree, FormulaTree}
-use Rattle.jh_table.specs.Growth.{Extends}
+use Rattle.jh_form.specs.Tree.{FieldTree, FormulaTree}
+use Rattle.jh_arena.specs.table.Growth.{Extends}
 use Rattle.jh_reach.specs.Axioms.{pairs_share_no_child}
 use Rattle.jh_reach.specs.Standing.{AreFields, AreFormulas}
 use Rattle.jh_reach.proofs.lists.add_pairs.Given as goal

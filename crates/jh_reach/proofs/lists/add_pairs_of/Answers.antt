@@ -1,7 +1,7 @@
 use Rattle.std.proofs.Common.{get_or}
 use Rattle.std.proofs.lemmas.Option.{slice_get-get_or}
-use Rattle.jh_tree.specs.Tree.{of_field}
-use Rattle.jh_table.proofs.Listed.{extends-trans}
+use Rattle.jh_form.specs.Tree.{of_field}
+use Rattle.jh_arena.proofs.table.Listed.{extends-trans}
 use Rattle.jh_reach.specs.Axioms.{share_no_child}
 use Rattle.jh_reach.proofs.Standings.{field-of, item-holds, parts-step, parts-end}
 use Rattle.jh_reach.proofs.lists.add_pairs_of.Goals as goal

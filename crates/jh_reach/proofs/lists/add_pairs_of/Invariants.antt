@@ -1,7 +1,7 @@
 use Rattle.std.proofs.Common.{◌≡◌, List, ◌++◌, map, take, Some, slice_get}
-use Rattle.jh_tree.specs.Tree.{FieldTree, FormulaTree, of_field}
-use Rattle.jh_table.specs.Growth.{Extends}
-use Rattle.jh_table.specs.Nodes.{nodes}
+use Rattle.jh_form.specs.Tree.{FieldTree, FormulaTree, of_field}
+use Rattle.jh_arena.specs.table.Growth.{Extends}
+use Rattle.jh_arena.specs.table.Nodes.{nodes}
 use Rattle.jh_reach.specs.Axioms.{share_no_child}
 use Rattle.jh_reach.specs.Standing.{AreFields, AreFormulas}
 use Rattle.jh_reach.proofs.lists.add_pairs_of.Given as goal

@@ -1,14 +1,14 @@
 use Rattle.std.proofs.Common.{◌≡◌, sym, ap, ◌∙◌, suc, ◌-◌, ◌<◌, Some, drop, get_or, length, slice_get, arith}
 use Rattle.std.proofs.lemmas.Bool.{eqb-true}
 use Rattle.std.proofs.lemmas.Option.{slice_get-get_or}
-use Rattle.jh_tree.specs.Tree.{of_truth}
-use Rattle.jh_tree.specs.Tree as t
-use Rattle.jh_table.specs.Nodes.{nodes}
-use Rattle.jh_table.proofs.Listed.{extends-refl, extends-trans}
-use Rattle.jh_make.specs.Joined.{truths_at}
+use Rattle.jh_form.specs.Tree.{of_truth}
+use Rattle.jh_form.specs.Tree as t
+use Rattle.jh_arena.specs.table.Nodes.{nodes}
+use Rattle.jh_arena.proofs.table.Listed.{extends-refl, extends-trans}
+use Rattle.jh_arena.specs.makers.Joined.{truths_at}
 use Rattle.jh_reach.specs.Axioms.{disjoined}
-use Rattle.jh_ways.proofs.NodeSteps.{truth-there, the-truth}
-use Rattle.jh_enter.proofs.Fields.{made-as}
+use Rattle.jh_path_formulas.proofs.NodeSteps.{truth-there, the-truth}
+use Rattle.jh_import.proofs.entering.Fields.{made-as}
 use Rattle.jh_reach.proofs.Standings.{formulas-there, formula-of, formulas-length, no-formulas, disjoined-last, disjoined-step}
 use Rattle.jh_reach.proofs.lists.disjunction_of.Goals as goal
 

@@ -1,7 +1,7 @@
 use Rattle.std.proofs.Common.{◌≡◌, ◌<◌, List, Some, drop, length, slice_get}
-use Rattle.jh_tree.specs.Tree.{FormulaTree, of_truth}
-use Rattle.jh_table.specs.Growth.{Extends}
-use Rattle.jh_table.specs.Nodes.{nodes}
+use Rattle.jh_form.specs.Tree.{FormulaTree, of_truth}
+use Rattle.jh_arena.specs.table.Growth.{Extends}
+use Rattle.jh_arena.specs.table.Nodes.{nodes}
 use Rattle.jh_reach.specs.Axioms.{disjoined}
 use Rattle.jh_reach.specs.Standing.{AreFormulas}
 use Rattle.jh_reach.proofs.lists.disjunction_of.Given as goal

@@ -1,10 +1,10 @@
 use Rattle.std.proofs.Common.{ap, ◌∙◌, map}
-use Rattle.jh_tree.specs.Tree.{of_truth}
-use Rattle.jh_table.specs.Nodes.{nodes}
-use Rattle.jh_make.specs.Joined.{joined, are_truths, truths_at}
+use Rattle.jh_form.specs.Tree.{of_truth}
+use Rattle.jh_arena.specs.table.Nodes.{nodes}
+use Rattle.jh_arena.specs.makers.Joined.{joined, are_truths, truths_at}
 use Rattle.jh_reach.specs.Parts.{part_tree}
 use Rattle.jh_reach.specs.Standing.{fields_in}
-use Rattle.jh_enter.proofs.Fields.{made-as}
+use Rattle.jh_import.proofs.entering.Fields.{made-as}
 use Rattle.jh_reach.proofs.Standings.{formulas-are, formulas-at, along-fields}
 use Rattle.jh_reach.proofs.lists.each.Goals as goal
 

@@ -1,12 +1,12 @@
 use Rattle.std.proofs.Common.{ap, ◌∙◌, map, ◌++◌}
-use Rattle.jh_tree.specs.Tree.{of_truth}
-use Rattle.jh_table.specs.Nodes.{nodes}
-use Rattle.jh_make.specs.Joined.{joined, are_truths, truths_at}
+use Rattle.jh_form.specs.Tree.{of_truth}
+use Rattle.jh_arena.specs.table.Nodes.{nodes}
+use Rattle.jh_arena.specs.makers.Joined.{joined, are_truths, truths_at}
 use Rattle.jh_reach.specs.declared.parts.Part.TheVariants as p
 use Rattle.jh_reach.specs.Axioms.{has_one_parent, pairs_share_no_child}
 use Rattle.jh_reach.specs.Parts.{part_tree}
 use Rattle.jh_reach.specs.Standing.{fields_in}
-use Rattle.jh_enter.proofs.Fields.{made-as}
+use Rattle.jh_import.proofs.entering.Fields.{made-as}
 use Rattle.jh_reach.proofs.Standings.{fields-grow, formulas-are, formulas-at, along-fields, along-grows}
 use Rattle.jh_reach.proofs.lists.parents.Goals as goal
 

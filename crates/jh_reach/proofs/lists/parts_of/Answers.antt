@@ -1,12 +1,12 @@
 use Rattle.std.proofs.Common.{[], get_or}
 use Rattle.std.proofs.lemmas.Option.{slice_get-get_or}
-use Rattle.jh_tree.specs.Tree.{of_field}
-use Rattle.jh_table.specs.Nodes.{nodes}
-use Rattle.jh_table.proofs.Listed.{extends-refl, extends-trans}
+use Rattle.jh_form.specs.Tree.{of_field}
+use Rattle.jh_arena.specs.table.Nodes.{nodes}
+use Rattle.jh_arena.proofs.table.Listed.{extends-refl, extends-trans}
 use Rattle.jh_reach.specs.Axioms.{listed}
 use Rattle.jh_reach.specs.Parts.{part_tree}
 use Rattle.jh_reach.specs.Standing.{fields_in}
-use Rattle.jh_ways.proofs.NodeSteps.{list-there, list-grows}
+use Rattle.jh_path_formulas.proofs.NodeSteps.{list-there, list-grows}
 use Rattle.jh_reach.proofs.Standings.{field-of, formulas-none, item-holds, parts-step, parts-end, along-list, along-fields, along-grows}
 use Rattle.jh_reach.proofs.lists.parts_of.Goals as goal
 

@@ -1,6 +1,6 @@
 use Rattle.std.proofs.Common.{List, map, take}
-use Rattle.jh_tree.specs.Tree.{FieldTree}
-use Rattle.jh_table.specs.Growth.{Extends}
+use Rattle.jh_form.specs.Tree.{FieldTree}
+use Rattle.jh_arena.specs.table.Growth.{Extends}
 use Rattle.jh_reach.specs.Parts.{part_tree}
 use Rattle.jh_reach.specs.Standing.{AreFields, AreFormulas}
 use Rattle.jh_reach.proofs.lists.parts_of.Given as goal

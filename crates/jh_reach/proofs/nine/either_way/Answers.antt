@@ -1,13 +1,13 @@
 -- Written by tools/reach.py.
-use Rattle.jh_tree.specs.Tree.{of_truth}
-use Rattle.jh_tree.specs.Tree as t
-use Rattle.jh_table.specs.Nodes.{nodes, tree_in}
-use Rattle.jh_table.specs.declared.shapes.Shape.TheVariants as s
-use Rattle.jh_table.proofs.NodeSteps.{fits-Or, tree-Or}
-use Rattle.jh_table.proofs.Listed.{extends-trans}
-use Rattle.jh_enter.proofs.Fields.{made-as}
-use Rattle.jh_ways.proofs.NodeSteps.{list-there, list-of, list-grows, unlisted}
-use Rattle.jh_ways.specs.Ways.{listed, way, list_at}
+use Rattle.jh_form.specs.Tree.{of_truth}
+use Rattle.jh_form.specs.Tree as t
+use Rattle.jh_arena.specs.table.Nodes.{nodes, tree_in}
+use Rattle.jh_arena.specs.declared.table.shapes.Shape.TheVariants as s
+use Rattle.jh_arena.proofs.table.NodeSteps.{fits-Or, tree-Or}
+use Rattle.jh_arena.proofs.table.Listed.{extends-trans}
+use Rattle.jh_import.proofs.entering.Fields.{made-as}
+use Rattle.jh_path_formulas.proofs.NodeSteps.{list-there, list-of, list-grows, unlisted}
+use Rattle.jh_path_formulas.specs.Ways.{listed, way, list_at}
 use Rattle.jh_reach.proofs.nine.either_way.Goals as goal
 
 pub way-requires : goal.way-requires

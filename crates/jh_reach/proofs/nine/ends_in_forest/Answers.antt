@@ -1,11 +1,11 @@
 -- Written by tools/reach.py.
 use Rattle.std.proofs.Common.{slice_get, map}
-use Rattle.jh_table.specs.Nodes.{nodes}
-use Rattle.jh_table.proofs.Listed.{extends-trans}
-use Rattle.jh_ways.proofs.NodeSteps.{list-there, list-grows, holds-formula}
+use Rattle.jh_arena.specs.table.Nodes.{nodes}
+use Rattle.jh_arena.proofs.table.Listed.{extends-trans}
+use Rattle.jh_path_formulas.proofs.NodeSteps.{list-there, list-grows, holds-formula}
 use Rattle.jh_reach.specs.declared.parts.Part.TheVariants as p
-use Rattle.jh_make.specs.Joined.{joined}
-use Rattle.jh_ways.specs.Ways.{listed}
+use Rattle.jh_arena.specs.makers.Joined.{joined}
+use Rattle.jh_path_formulas.specs.Ways.{listed}
 use Rattle.jh_reach.specs.Parts.{part_tree}
 use Rattle.jh_reach.specs.Standing.{fields_in}
 use Rattle.jh_reach.proofs.Standings.{along-list, along-fields}

@@ -1,14 +1,14 @@
 -- Written by tools/reach.py.
 use Rattle.std.proofs.Common.{ap, ◌∙◌, Some, map}
-use Rattle.jh_tree.specs.Tree.{of_truth}
-use Rattle.jh_tree.specs.Tree as t
-use Rattle.jh_table.specs.Nodes.{nodes, tree_in}
-use Rattle.jh_table.specs.declared.shapes.Shape.TheVariants as s
-use Rattle.jh_table.proofs.NodeSteps.{fits-Implies, tree-Implies}
-use Rattle.jh_table.proofs.Listed.{extends-trans}
-use Rattle.jh_enter.proofs.Fields.{fits-listed-Tree, tree-listed-Tree, made-as}
-use Rattle.jh_make.specs.Joined.{joined}
-use Rattle.jh_ways.specs.Ways.{listed, differ}
+use Rattle.jh_form.specs.Tree.{of_truth}
+use Rattle.jh_form.specs.Tree as t
+use Rattle.jh_arena.specs.table.Nodes.{nodes, tree_in}
+use Rattle.jh_arena.specs.declared.table.shapes.Shape.TheVariants as s
+use Rattle.jh_arena.proofs.table.NodeSteps.{fits-Implies, tree-Implies}
+use Rattle.jh_arena.proofs.table.Listed.{extends-trans}
+use Rattle.jh_import.proofs.entering.Fields.{fits-listed-Tree, tree-listed-Tree, made-as}
+use Rattle.jh_arena.specs.makers.Joined.{joined}
+use Rattle.jh_path_formulas.specs.Ways.{listed, differ}
 use Rattle.jh_reach.specs.Axioms.{leads_not_back}
 use Rattle.jh_reach.specs.Standing.{fields_in}
 use Rattle.jh_reach.proofs.Standings.{fields-grow, along-list, along-fields, along-grows}

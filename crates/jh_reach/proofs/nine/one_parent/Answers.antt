@@ -1,15 +1,15 @@
 -- Written by tools/reach.py.
 use Rattle.std.proofs.Common.{ap, ◌∙◌, Some, slice_get, map, ◌++◌}
-use Rattle.jh_tree.specs.Tree.{of_truth}
-use Rattle.jh_tree.specs.Tree as t
-use Rattle.jh_table.specs.Nodes.{nodes, tree_in}
-use Rattle.jh_table.specs.declared.shapes.Shape.TheVariants as s
-use Rattle.jh_table.proofs.NodeSteps.{fits-Implies, tree-Implies}
-use Rattle.jh_table.proofs.Listed.{extends-trans}
-use Rattle.jh_enter.proofs.Fields.{fits-listed-Tree, tree-listed-Tree, made-as}
-use Rattle.jh_ways.proofs.NodeSteps.{holds-formula}
-use Rattle.jh_make.specs.Joined.{joined}
-use Rattle.jh_ways.specs.Ways.{listed}
+use Rattle.jh_form.specs.Tree.{of_truth}
+use Rattle.jh_form.specs.Tree as t
+use Rattle.jh_arena.specs.table.Nodes.{nodes, tree_in}
+use Rattle.jh_arena.specs.declared.table.shapes.Shape.TheVariants as s
+use Rattle.jh_arena.proofs.table.NodeSteps.{fits-Implies, tree-Implies}
+use Rattle.jh_arena.proofs.table.Listed.{extends-trans}
+use Rattle.jh_import.proofs.entering.Fields.{fits-listed-Tree, tree-listed-Tree, made-as}
+use Rattle.jh_path_formulas.proofs.NodeSteps.{holds-formula}
+use Rattle.jh_arena.specs.makers.Joined.{joined}
+use Rattle.jh_path_formulas.specs.Ways.{listed}
 use Rattle.jh_reach.specs.Axioms.{has_one_parent, pairs_share_no_child}
 use Rattle.jh_reach.specs.Standing.{fields_in}
 use Rattle.jh_reach.proofs.Standings.{fields-grow, along-list, along-fields, along-grows}

@@ -1,14 +1,14 @@
 -- Written by tools/reach.py.
 use Rattle.std.proofs.Common.{ap, ◌∙◌, Some}
-use Rattle.jh_tree.specs.Tree.{of_object, of_truth}
-use Rattle.jh_tree.specs.Tree as t
-use Rattle.jh_table.specs.Nodes.{nodes, tree_in}
-use Rattle.jh_table.specs.declared.shapes.Shape.TheVariants as s
-use Rattle.jh_table.proofs.NodeSteps.{fits-Bound, tree-Bound, fits-Null, tree-Null, fits-EqObject, tree-EqObject, fits-Implies, tree-Implies, fits-All, tree-All}
-use Rattle.jh_table.proofs.Listed.{extends-trans}
-use Rattle.jh_enter.proofs.Fields.{fits-listed-Reach, tree-listed-Reach, made-as}
-use Rattle.jh_ways.proofs.NodeSteps.{list-of, list-grows, unlisted}
-use Rattle.jh_ways.specs.Ways.{listed, list_at}
+use Rattle.jh_form.specs.Tree.{of_object, of_truth}
+use Rattle.jh_form.specs.Tree as t
+use Rattle.jh_arena.specs.table.Nodes.{nodes, tree_in}
+use Rattle.jh_arena.specs.declared.table.shapes.Shape.TheVariants as s
+use Rattle.jh_arena.proofs.table.NodeSteps.{fits-Bound, tree-Bound, fits-Null, tree-Null, fits-EqObject, tree-EqObject, fits-Implies, tree-Implies, fits-All, tree-All}
+use Rattle.jh_arena.proofs.table.Listed.{extends-trans}
+use Rattle.jh_import.proofs.entering.Fields.{fits-listed-Reach, tree-listed-Reach, made-as}
+use Rattle.jh_path_formulas.proofs.NodeSteps.{list-of, list-grows, unlisted}
+use Rattle.jh_path_formulas.specs.Ways.{listed, list_at}
 use Rattle.jh_reach.proofs.nine.only_null.Goals as goal
 
 pub make-requires : goal.make-requires

@@ -1,16 +1,16 @@
 -- Written by tools/reach.py.
 use Rattle.std.proofs.Common.{ap, ◌∙◌, Some, slice_get, map}
-use Rattle.jh_tree.specs.Tree.{of_truth}
-use Rattle.jh_tree.specs.Tree as t
-use Rattle.jh_table.specs.Nodes.{nodes, tree_in}
-use Rattle.jh_table.specs.declared.shapes.Shape.TheVariants as s
-use Rattle.jh_table.proofs.NodeSteps.{fits-Bound, tree-Bound, fits-Implies, tree-Implies, fits-All, tree-All}
-use Rattle.jh_table.proofs.Listed.{extends-trans}
-use Rattle.jh_enter.proofs.Fields.{made-as}
-use Rattle.jh_ways.proofs.NodeSteps.{holds-object}
+use Rattle.jh_form.specs.Tree.{of_truth}
+use Rattle.jh_form.specs.Tree as t
+use Rattle.jh_arena.specs.table.Nodes.{nodes, tree_in}
+use Rattle.jh_arena.specs.declared.table.shapes.Shape.TheVariants as s
+use Rattle.jh_arena.proofs.table.NodeSteps.{fits-Bound, tree-Bound, fits-Implies, tree-Implies, fits-All, tree-All}
+use Rattle.jh_arena.proofs.table.Listed.{extends-trans}
+use Rattle.jh_import.proofs.entering.Fields.{made-as}
+use Rattle.jh_path_formulas.proofs.NodeSteps.{holds-object}
 use Rattle.jh_reach.specs.declared.parts.Part.TheVariants as p
-use Rattle.jh_make.specs.Joined.{joined}
-use Rattle.jh_ways.specs.Ways.{differ}
+use Rattle.jh_arena.specs.makers.Joined.{joined}
+use Rattle.jh_path_formulas.specs.Ways.{differ}
 use Rattle.jh_reach.specs.Parts.{part_tree}
 use Rattle.jh_reach.specs.Standing.{fields_in}
 use Rattle.jh_reach.proofs.Standings.{fields-grow, along-fields, along-grows}

@@ -1,12 +1,12 @@
 -- Written by tools/reach.py.
 use Rattle.std.proofs.Common.{ap, ◌∙◌, Some, slice_get}
-use Rattle.jh_tree.specs.Tree.{of_truth}
-use Rattle.jh_tree.specs.Tree as t
-use Rattle.jh_table.specs.Nodes.{nodes}
-use Rattle.jh_table.proofs.NodeSteps.{fits-And, tree-And}
-use Rattle.jh_table.proofs.Listed.{extends-trans}
-use Rattle.jh_ways.proofs.NodeSteps.{list-there, list-of, list-grows, unlisted, holds-formula}
-use Rattle.jh_ways.specs.Ways.{listed, way, list_at}
+use Rattle.jh_form.specs.Tree.{of_truth}
+use Rattle.jh_form.specs.Tree as t
+use Rattle.jh_arena.specs.table.Nodes.{nodes}
+use Rattle.jh_arena.proofs.table.NodeSteps.{fits-And, tree-And}
+use Rattle.jh_arena.proofs.table.Listed.{extends-trans}
+use Rattle.jh_path_formulas.proofs.NodeSteps.{list-there, list-of, list-grows, unlisted, holds-formula}
+use Rattle.jh_path_formulas.specs.Ways.{listed, way, list_at}
 use Rattle.jh_reach.proofs.nine.ways_join.Goals as goal
 
 pub way-requires : goal.way-requires

@@ -1,5 +1,5 @@
 use Rattle.std.proofs.Common.{ap, ◌∙◌, ◌++◌}
-use Rattle.jh_table.proofs.Listed.{extends-refl, extends-trans}
+use Rattle.jh_arena.proofs.table.Listed.{extends-refl, extends-trans}
 use Rattle.jh_reach.proofs.Standings.{formulas-none}
 use Rattle.jh_reach.proofs.Entering.{backbones-step, backbones-end}
 use Rattle.jh_reach.proofs.reaching.all_nodes.Goals as goal

@@ -1,6 +1,6 @@
 use Rattle.std.proofs.Common.{take}
 use Rattle.std.specs.List.{flat_map}
-use Rattle.jh_table.specs.Growth.{Extends}
+use Rattle.jh_arena.specs.table.Growth.{Extends}
 use Rattle.jh_reach.specs.Axioms.{axioms_of}
 use Rattle.jh_reach.specs.Named.{backbone_tree}
 use Rattle.jh_reach.specs.Standing.{AreFormulas}

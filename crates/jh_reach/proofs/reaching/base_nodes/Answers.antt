@@ -1,6 +1,6 @@
 use Rattle.std.proofs.Common.{refl}
-use Rattle.jh_tree.specs.Tree.{of_object, of_field, free_field}
-use Rattle.jh_tree.specs.Bare.{term_tree}
+use Rattle.jh_form.specs.Tree.{of_object, of_field, free_field}
+use Rattle.jh_form.specs.Bare.{term_tree}
 use Rattle.jh_reach.proofs.Entering.{none-based, none-sorted, some-based, some-sorted}
 use Rattle.jh_reach.proofs.reaching.base_nodes.Goals as goal
 

@@ -1,6 +1,6 @@
 use Rattle.std.proofs.Common.{ap, map}
-use Rattle.jh_tree.specs.Bare.{formula_tree}
-use Rattle.jh_table.specs.Nodes.{nodes}
+use Rattle.jh_form.specs.Bare.{formula_tree}
+use Rattle.jh_arena.specs.table.Nodes.{nodes}
 use Rattle.jh_reach.proofs.Entering.{truth-at, boxed-step, boxed-end}
 use Rattle.jh_reach.proofs.reaching.boxed.Goals as goal
 

@@ -1,7 +1,7 @@
 use Rattle.std.proofs.Common.{◌≡◌, map, take}
-use Rattle.jh_tree.specs.Bare.{formula_tree}
-use Rattle.jh_table.specs.Nodes.{nodes}
-use Rattle.jh_make.specs.Joined.{truths_at}
+use Rattle.jh_form.specs.Bare.{formula_tree}
+use Rattle.jh_arena.specs.table.Nodes.{nodes}
+use Rattle.jh_arena.specs.makers.Joined.{truths_at}
 use Rattle.jh_reach.proofs.reaching.boxed.Given as goal
 
 abbrev pub invariant-loop-item : goal.invariant-loop-item

@@ -1,9 +1,9 @@
 use Rattle.std.proofs.Common.{◌≡◌, ap, ◌∙◌, map}
 use Rattle.std.specs.List.{flat_map}
 use Rattle.std.proofs.lemmas.Result.{IfOk-weaker}
-use Rattle.jh_tree.specs.Bare.{formula_tree}
-use Rattle.jh_table.specs.Nodes.{nodes}
-use Rattle.jh_make.specs.Joined.{are_truths, truths_at}
+use Rattle.jh_form.specs.Bare.{formula_tree}
+use Rattle.jh_arena.specs.table.Nodes.{nodes}
+use Rattle.jh_arena.specs.makers.Joined.{are_truths, truths_at}
 use Rattle.jh_reach.specs.Axioms.{axioms_of}
 use Rattle.jh_reach.specs.Named.{backbone_tree}
 use Rattle.jh_reach.proofs.Standings.{formulas-are, formulas-at}

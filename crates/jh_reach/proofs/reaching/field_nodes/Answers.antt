@@ -1,4 +1,4 @@
-use Rattle.jh_table.proofs.Listed.{extends-refl, extends-trans}
+use Rattle.jh_arena.proofs.table.Listed.{extends-refl, extends-trans}
 use Rattle.jh_reach.proofs.Entering.{fields-none, names-step, names-end}
 use Rattle.jh_reach.proofs.reaching.field_nodes.Goals as goal
 

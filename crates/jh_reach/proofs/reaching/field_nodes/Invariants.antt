@@ -1,5 +1,5 @@
 use Rattle.std.proofs.Common.{take}
-use Rattle.jh_table.specs.Growth.{Extends}
+use Rattle.jh_arena.specs.table.Growth.{Extends}
 use Rattle.jh_reach.specs.Named.{named_fields}
 use Rattle.jh_reach.specs.Standing.{AreFields}
 use Rattle.jh_reach.proofs.reaching.field_nodes.Given as goal

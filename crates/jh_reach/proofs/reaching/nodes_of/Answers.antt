@@ -1,6 +1,6 @@
 use Rattle.std.proofs.Common.{sym, ap, ◌∙◌}
-use Rattle.jh_table.specs.Entries.{are_fields}
-use Rattle.jh_table.specs.Nodes.{nodes}
+use Rattle.jh_arena.specs.table.Entries.{are_fields}
+use Rattle.jh_arena.specs.table.Nodes.{nodes}
 use Rattle.jh_reach.specs.Named.{named_fields, backbone_tree}
 use Rattle.jh_reach.proofs.Standings.{fields-grow, fields-are}
 use Rattle.jh_reach.proofs.Entering.{fields-as}

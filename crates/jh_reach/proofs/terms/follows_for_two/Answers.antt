@@ -1,11 +1,11 @@
 -- Written by tools/reach.py.
 use Rattle.std.proofs.Common.{ap, ◌∙◌, Some, slice_get}
-use Rattle.jh_tree.specs.Tree as t
-use Rattle.jh_table.specs.Entries.{the_truth}
-use Rattle.jh_table.specs.Nodes.{nodes}
-use Rattle.jh_table.proofs.NodeSteps.{fits-Implies, tree-Implies}
-use Rattle.jh_table.proofs.Listed.{extends-trans}
-use Rattle.jh_ways.proofs.NodeSteps.{holds-formula}
+use Rattle.jh_form.specs.Tree as t
+use Rattle.jh_arena.specs.table.Entries.{the_truth}
+use Rattle.jh_arena.specs.table.Nodes.{nodes}
+use Rattle.jh_arena.proofs.table.NodeSteps.{fits-Implies, tree-Implies}
+use Rattle.jh_arena.proofs.table.Listed.{extends-trans}
+use Rattle.jh_path_formulas.proofs.NodeSteps.{holds-formula}
 use Rattle.jh_reach.proofs.terms.follows_for_two.Goals as goal
 
 pub make-requires : goal.make-requires

@@ -1,15 +1,15 @@
 -- Written by tools/reach.py.
 use Rattle.std.proofs.Common.{ap, ◌∙◌, Some, slice_get, map}
-use Rattle.jh_tree.specs.Tree.{of_object, of_truth}
-use Rattle.jh_tree.specs.Tree as t
-use Rattle.jh_table.specs.Entries.{the_object}
-use Rattle.jh_table.specs.Nodes.{nodes}
-use Rattle.jh_table.proofs.NodeSteps.{fits-And, tree-And}
-use Rattle.jh_table.proofs.Listed.{extends-trans}
-use Rattle.jh_ways.proofs.NodeSteps.{list-there, list-grows, holds-object, holds-formula}
+use Rattle.jh_form.specs.Tree.{of_object, of_truth}
+use Rattle.jh_form.specs.Tree as t
+use Rattle.jh_arena.specs.table.Entries.{the_object}
+use Rattle.jh_arena.specs.table.Nodes.{nodes}
+use Rattle.jh_arena.proofs.table.NodeSteps.{fits-And, tree-And}
+use Rattle.jh_arena.proofs.table.Listed.{extends-trans}
+use Rattle.jh_path_formulas.proofs.NodeSteps.{list-there, list-grows, holds-object, holds-formula}
 use Rattle.jh_reach.specs.declared.parts.Part.TheVariants as p
-use Rattle.jh_make.specs.Joined.{joined}
-use Rattle.jh_ways.specs.Ways.{listed, differ}
+use Rattle.jh_arena.specs.makers.Joined.{joined}
+use Rattle.jh_path_formulas.specs.Ways.{listed, differ}
 use Rattle.jh_reach.specs.Parts.{part_tree}
 use Rattle.jh_reach.specs.Standing.{fields_in}
 use Rattle.jh_reach.proofs.Standings.{along-list, along-fields}

@@ -1,14 +1,14 @@
 -- Written by tools/reach.py.
 use Rattle.std.proofs.Common.{ap, ◌∙◌, Some, slice_get}
-use Rattle.jh_tree.specs.Tree.{of_object, of_field, of_truth}
-use Rattle.jh_tree.specs.Tree as t
-use Rattle.jh_table.specs.Entries.{the_field, the_object}
-use Rattle.jh_table.specs.Nodes.{nodes}
-use Rattle.jh_table.proofs.NodeSteps.{fits-Bound, tree-Bound, fits-Iff, tree-Iff}
-use Rattle.jh_table.proofs.Listed.{extends-trans}
-use Rattle.jh_enter.proofs.Fields.{fits-listed-Reach, tree-listed-Reach}
-use Rattle.jh_ways.proofs.NodeSteps.{list-there, list-of, list-grows, unlisted, holds-field, holds-object, holds-formula}
-use Rattle.jh_ways.specs.Ways.{listed, differ, way, leaves_out, list_at}
+use Rattle.jh_form.specs.Tree.{of_object, of_field, of_truth}
+use Rattle.jh_form.specs.Tree as t
+use Rattle.jh_arena.specs.table.Entries.{the_field, the_object}
+use Rattle.jh_arena.specs.table.Nodes.{nodes}
+use Rattle.jh_arena.proofs.table.NodeSteps.{fits-Bound, tree-Bound, fits-Iff, tree-Iff}
+use Rattle.jh_arena.proofs.table.Listed.{extends-trans}
+use Rattle.jh_import.proofs.entering.Fields.{fits-listed-Reach, tree-listed-Reach}
+use Rattle.jh_path_formulas.proofs.NodeSteps.{list-there, list-of, list-grows, unlisted, holds-field, holds-object, holds-formula}
+use Rattle.jh_path_formulas.specs.Ways.{listed, differ, way, leaves_out, list_at}
 use Rattle.jh_reach.proofs.updates.told_by_several.Goals as goal
 
 pub make-requires : goal.make-requires

@@ -1,15 +1,15 @@
 -- Written by tools/reach.py.
 use Rattle.std.proofs.Common.{slice_get}
-use Rattle.jh_tree.specs.Tree.{of_object, of_field, of_truth}
-use Rattle.jh_tree.specs.Tree as t
-use Rattle.jh_table.specs.Entries.{the_field, the_object}
-use Rattle.jh_table.specs.Nodes.{nodes, tree_in}
-use Rattle.jh_table.specs.declared.shapes.Shape.TheVariants as s
-use Rattle.jh_table.proofs.NodeSteps.{fits-Or, tree-Or}
-use Rattle.jh_table.proofs.Listed.{extends-trans}
-use Rattle.jh_enter.proofs.Fields.{made-as}
-use Rattle.jh_ways.proofs.NodeSteps.{list-there, list-of, list-grows, unlisted, holds-field, holds-object}
-use Rattle.jh_ways.specs.Ways.{listed, differ, way, leaves_out, list_at}
+use Rattle.jh_form.specs.Tree.{of_object, of_field, of_truth}
+use Rattle.jh_form.specs.Tree as t
+use Rattle.jh_arena.specs.table.Entries.{the_field, the_object}
+use Rattle.jh_arena.specs.table.Nodes.{nodes, tree_in}
+use Rattle.jh_arena.specs.declared.table.shapes.Shape.TheVariants as s
+use Rattle.jh_arena.proofs.table.NodeSteps.{fits-Or, tree-Or}
+use Rattle.jh_arena.proofs.table.Listed.{extends-trans}
+use Rattle.jh_import.proofs.entering.Fields.{made-as}
+use Rattle.jh_path_formulas.proofs.NodeSteps.{list-there, list-of, list-grows, unlisted, holds-field, holds-object}
+use Rattle.jh_path_formulas.specs.Ways.{listed, differ, way, leaves_out, list_at}
 use Rattle.jh_reach.proofs.updates.ways_around.Goals as goal
 
 pub leaves_out-requires : goal.leaves_out-requires

@@ -1,15 +1,15 @@
 -- Written by tools/reach.py.
 use Rattle.std.proofs.Common.{ap, ◌∙◌, Some, slice_get}
-use Rattle.jh_tree.specs.Tree.{of_object, of_truth}
-use Rattle.jh_tree.specs.Tree as t
-use Rattle.jh_table.specs.Entries.{the_object}
-use Rattle.jh_table.specs.Nodes.{nodes, tree_in}
-use Rattle.jh_table.specs.declared.shapes.Shape.TheVariants as s
-use Rattle.jh_table.proofs.NodeSteps.{fits-And, tree-And, fits-Or, tree-Or}
-use Rattle.jh_table.proofs.Listed.{extends-trans}
-use Rattle.jh_enter.proofs.Fields.{fits-listed-Reach, tree-listed-Reach, made-as}
-use Rattle.jh_ways.proofs.NodeSteps.{list-there, list-of, list-grows, unlisted, holds-object}
-use Rattle.jh_ways.specs.Ways.{listed, stops_at, list_at}
+use Rattle.jh_form.specs.Tree.{of_object, of_truth}
+use Rattle.jh_form.specs.Tree as t
+use Rattle.jh_arena.specs.table.Entries.{the_object}
+use Rattle.jh_arena.specs.table.Nodes.{nodes, tree_in}
+use Rattle.jh_arena.specs.declared.table.shapes.Shape.TheVariants as s
+use Rattle.jh_arena.proofs.table.NodeSteps.{fits-And, tree-And, fits-Or, tree-Or}
+use Rattle.jh_arena.proofs.table.Listed.{extends-trans}
+use Rattle.jh_import.proofs.entering.Fields.{fits-listed-Reach, tree-listed-Reach, made-as}
+use Rattle.jh_path_formulas.proofs.NodeSteps.{list-there, list-of, list-grows, unlisted, holds-object}
+use Rattle.jh_path_formulas.specs.Ways.{listed, stops_at, list_at}
 use Rattle.jh_reach.proofs.updates.ways_before.Goals as goal
 
 pub stops_at-requires : goal.stops_at-requires

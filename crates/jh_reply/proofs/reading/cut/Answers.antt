@@ -1,4 +1,4 @@
-use Rattle.jh_lex.specs.declared.error.LexError.TheVariants as lex
+use Rattle.jh_lex.specs.declared.lexer.error.LexError.TheVariants as lex
 use Rattle.jh_reply.specs.Refusals.{not_utf8, bad_char, open_comment, open_quote, too_wide}
 use Rattle.jh_reply.proofs.Verifying.{fault-is}
 use Rattle.jh_reply.proofs.reading.cut.Goals as goal

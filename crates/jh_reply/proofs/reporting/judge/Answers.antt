@@ -1,9 +1,9 @@
 use Rattle.std.proofs.Common.{refl, sym, ap, subst, ◌∙◌, List, length}
 use Rattle.std.proofs.lemmas.Result.{on_ok_weaker}
-use Rattle.jh_prove.specs.declared.answer.Answer.{Answer}
-use Rattle.jh_prove.specs.Right.{AllRight}
-use Rattle.jh_sequents.specs.Standing.{IsSequent}
-use Rattle.jh_prove.proofs.Rights.{right-length}
+use Rattle.jh_report.specs.jh_prove.declared.prover.answer.Answer.{Answer}
+use Rattle.jh_report.specs.jh_prove.prover.Right.{AllRight}
+use Rattle.jh_report.specs.jh_splitting.Standing.{IsSequent}
+use Rattle.jh_report.proofs.of_jh_prove.prover.Rights.{right-length}
 use Rattle.jh_reply.proofs.Judging.{paired-length, stand-stays}
 use Rattle.jh_reply.proofs.reporting.judge.Goals as goal
 

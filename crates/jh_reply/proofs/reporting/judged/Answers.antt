@@ -1,8 +1,8 @@
 use Rattle.std.proofs.Common.{◌≡◌, Some, slice_get, arith, [], ◌∷◌, ◌++◌}
 use Rattle.jh_ast.specs.Bare.{program_tree}
-use Rattle.jh_numbers.proofs.Puttings.{item-is}
-use Rattle.jh_table.proofs.Listed.{extends-trans}
-use Rattle.jh_obligations.specs.Owed.{Stand}
+use Rattle.jh_run.proofs.of_jh_symbols.member_numbers.Puttings.{item-is}
+use Rattle.jh_arena.proofs.table.Listed.{extends-trans}
+use Rattle.jh_gen_laws.specs.jh_obligations.program_sequents.Owed.{Stand}
 use Rattle.jh_reply.proofs.Judging.{leads-end, leads-next, paired-length, stand-at, stand-stays}
 use Rattle.jh_reply.proofs.reporting.judged.Goals as goal
 

@@ -1,9 +1,9 @@
 use Rattle.std.proofs.Common.{List}
 use Rattle.jh_ast.specs.Bare.{program_tree}
-use Rattle.jh_table.specs.Growth.{Extends}
-use Rattle.jh_obligations.specs.Owed.{AllStand, Debt}
-use Rattle.jh_report.specs.Gathered.{Gathers}
-use Rattle.jh_report.specs.Report.{Reported}
+use Rattle.jh_arena.specs.table.Growth.{Extends}
+use Rattle.jh_gen_laws.specs.jh_obligations.program_sequents.Owed.{AllStand, Debt}
+use Rattle.jh_report.specs.report.Gathered.{Gathers}
+use Rattle.jh_report.specs.report.Report.{Reported}
 use Rattle.jh_reply.proofs.Judging.{Leads}
 use Rattle.jh_reply.proofs.reporting.judged.Given as goal
 

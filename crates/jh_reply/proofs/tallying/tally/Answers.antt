@@ -2,11 +2,11 @@ use Rattle.std.proofs.Common.{subst, sym, ap}
 use Rattle.std.specs.Prelude.{IfErr, IfOk}
 use Rattle.jh_ast.specs.Bare.{program_tree}
 use Rattle.jh_ast.specs.Programs.{ProgramTree}
-use Rattle.jh_asserting.specs.Told.{AreFormulas}
+use Rattle.jh_run.specs.jh_command_statements.checks.Told.{AreFormulas}
 use Rattle.jh_vars.specs.Reading.{IsAcyclic}
 use Rattle.jh_reply.specs.Causes.{IsUnreported}
 use Rattle.jh_reply.specs.Made.{IsTallied}
-use Rattle.jh_asserting.proofs.ToldSteps.{formulas-of}
+use Rattle.jh_run.proofs.of_jh_command_statements.checks.ToldSteps.{formulas-of}
 use Rattle.jh_reply.proofs.tallying.tally.Goals as goal
 
 -- src/tallying.rt

@@ -1,7 +1,7 @@
 use Rattle.std.proofs.Common.{refl, sym, subst, List}
 use Rattle.std.proofs.lemmas.Result.{on_ok_weaker}
-use Rattle.jh_prove.specs.declared.answer.Answer.{Answer}
-use Rattle.jh_prove.specs.Right.{AllRight}
+use Rattle.jh_report.specs.jh_prove.declared.prover.answer.Answer.{Answer}
+use Rattle.jh_report.specs.jh_prove.prover.Right.{AllRight}
 use Rattle.jh_vars.specs.States.{class_text}
 use Rattle.jh_reply.specs.Refusals.{method_text}
 use Rattle.jh_reply.proofs.tallying.tally_method.Goals as goal

@@ -1,9 +1,9 @@
 use Rattle.std.proofs.Common.{◌≡◌, sym, ap, ◌∙◌, subst, List, [], ◌∷◌, ◌++◌}
-use Rattle.jh_closure.specs.Nodes.{Has}
-use Rattle.jh_table.specs.Nodes.{nodes}
-use Rattle.jh_table.specs.Growth.{AreDifferent}
-use Rattle.jh_explaining.specs.declared.step.Step.{Step}
-use Rattle.jh_explaining.specs.Steps.{literals_of}
+use Rattle.jh_closure.specs.congruence_closure.Nodes.{Has}
+use Rattle.jh_arena.specs.table.Nodes.{nodes}
+use Rattle.jh_arena.specs.table.Growth.{AreDifferent}
+use Rattle.jh_explanations.specs.declared.step.Step.{Step}
+use Rattle.jh_explanations.specs.Steps.{literals_of}
 use Rattle.jh_search.specs.declared.turn.ClosedBranch.{ClosedBranch}
 use Rattle.jh_search.specs.Searches.{IsGoingBack}
 use Rattle.jh_search.proofs.Leaves.{goes-back}

@@ -1,5 +1,5 @@
 use Rattle.std.proofs.Common.{◌≡◌, ap, ◌∙◌, List, [], length}
-use Rattle.jh_trail.specs.declared.decided.Decided.{Decided}
+use Rattle.jh_propagation.specs.declared.trail.decided.Decided.{Decided}
 use Rattle.jh_search.proofs.Leaves.{leaf-quiet}
 use Rattle.jh_search.proofs.closing.explained.Goals as goal
 

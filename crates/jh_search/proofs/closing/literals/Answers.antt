@@ -1,9 +1,9 @@
 use Rattle.std.proofs.Common.{sym, ap, ◌∙◌, List, [], ◌∷◌, ◌++◌, take}
 use Rattle.std.proofs.lemmas.List.{map-append}
-use Rattle.jh_cong.proofs.Looking.{take-next}
-use Rattle.jh_trail.specs.declared.decided.Decided.{Decided}
-use Rattle.jh_explaining.specs.Steps.{literals_of}
-use Rattle.jh_explaining.specs.declared.step.Step.{Step}
+use Rattle.jh_cong.proofs.classes.Looking.{take-next}
+use Rattle.jh_propagation.specs.declared.trail.decided.Decided.{Decided}
+use Rattle.jh_explanations.specs.Steps.{literals_of}
+use Rattle.jh_explanations.specs.declared.step.Step.{Step}
 use Rattle.jh_search.proofs.closing.literals.Goals as goal
 
 pub loop-place-preserved : goal.loop-place-preserved

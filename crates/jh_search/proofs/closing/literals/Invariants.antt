@@ -1,5 +1,5 @@
 use Rattle.std.proofs.Common.{◌≡◌, take}
-use Rattle.jh_explaining.specs.Steps.{literals_of}
+use Rattle.jh_explanations.specs.Steps.{literals_of}
 use Rattle.jh_search.proofs.closing.literals.Given as goal
 
 abbrev pub invariant-loop-place : goal.invariant-loop-place

@@ -1,7 +1,7 @@
 use Rattle.std.proofs.Common.{◌≡◌, sym, subst, inl, inr, true}
-use Rattle.jh_closure.specs.Nodes.{Has}
-use Rattle.jh_closure.proofs.Having.{has-at}
-use Rattle.jh_explaining.specs.declared.step.Step.{Step}
+use Rattle.jh_closure.specs.congruence_closure.Nodes.{Has}
+use Rattle.jh_closure.proofs.congruence_closure.Having.{has-at}
+use Rattle.jh_explanations.specs.declared.step.Step.{Step}
 use Rattle.jh_search.proofs.Lists.{take-has}
 use Rattle.jh_search.proofs.closing.needs_of.Goals as goal
 

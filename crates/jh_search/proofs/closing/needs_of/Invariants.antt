@@ -1,7 +1,7 @@
 use Rattle.std.proofs.Common.{◌≡◌, true, take}
-use Rattle.jh_closure.specs.Nodes.{Has}
-use Rattle.jh_trail.specs.declared.decided.Decided.{Decided}
-use Rattle.jh_explaining.specs.declared.step.Step.{Step}
+use Rattle.jh_closure.specs.congruence_closure.Nodes.{Has}
+use Rattle.jh_propagation.specs.declared.trail.decided.Decided.{Decided}
+use Rattle.jh_explanations.specs.declared.step.Step.{Step}
 use Rattle.jh_search.proofs.closing.needs_of.Given as goal
 
 abbrev pub invariant-loop-place : goal.invariant-loop-place

@@ -1,7 +1,7 @@
 use Rattle.std.proofs.Common.{sym, ◌∙◌, subst, List, ℕ, inl, inr}
-use Rattle.jh_closure.specs.Nodes.{Has}
-use Rattle.jh_closure.proofs.Having.{has-at}
-use Rattle.jh_propagating.specs.Branches.{IsSaid}
+use Rattle.jh_closure.specs.congruence_closure.Nodes.{Has}
+use Rattle.jh_closure.proofs.congruence_closure.Having.{has-at}
+use Rattle.jh_propagation.specs.propagation.Branches.{IsSaid}
 use Rattle.jh_search.proofs.Lists.{take-has, none-some}
 use Rattle.jh_search.proofs.deciding.first_undecided.Goals as goal
 

@@ -1,6 +1,6 @@
 use Rattle.std.proofs.Common.{ℕ, take}
-use Rattle.jh_closure.specs.Nodes.{Has}
-use Rattle.jh_propagating.specs.Branches.{IsSaid}
+use Rattle.jh_closure.specs.congruence_closure.Nodes.{Has}
+use Rattle.jh_propagation.specs.propagation.Branches.{IsSaid}
 use Rattle.jh_search.proofs.deciding.first_undecided.Given as goal
 
 abbrev pub invariant-loop-index : goal.invariant-loop-index

@@ -1,6 +1,6 @@
 use Rattle.std.specs.Prelude.{IfSome}
-use Rattle.jh_closure.specs.Nodes.{Has}
-use Rattle.jh_trail.specs.Listing.{IsUndecided}
+use Rattle.jh_closure.specs.congruence_closure.Nodes.{Has}
+use Rattle.jh_propagation.specs.trail.Listing.{IsUndecided}
 use Rattle.jh_search.proofs.deciding.heaviest.Given as goal
 
 abbrev pub invariant-loop-index : goal.invariant-loop-index

@@ -1,5 +1,5 @@
 use Rattle.std.proofs.Common.{◌≡◌, subst, List, ℕ, Some, slice_get}
-use Rattle.jh_closure.proofs.Having.{has-at}
+use Rattle.jh_closure.proofs.congruence_closure.Having.{has-at}
 use Rattle.jh_search.proofs.deciding.is_open.Goals as goal
 
 pub is_true-requires : goal.is_true-requires

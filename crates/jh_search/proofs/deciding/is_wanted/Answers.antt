@@ -1,6 +1,6 @@
 use Rattle.std.proofs.Common.{subst, List, ℕ}
-use Rattle.jh_closure.specs.Nodes.{Has}
-use Rattle.jh_closure.proofs.Having.{has-at}
+use Rattle.jh_closure.specs.congruence_closure.Nodes.{Has}
+use Rattle.jh_closure.proofs.congruence_closure.Having.{has-at}
 use Rattle.jh_search.proofs.deciding.is_wanted.Goals as goal
 
 pub is_open-requires-clause-inside : goal.is_open-requires-clause-inside

@@ -1,6 +1,6 @@
 use Rattle.std.proofs.Common.{◌≡◌, true}
-use Rattle.jh_propagating.specs.Branches.{undecided_count}
-use Rattle.jh_propagating.specs.Resting.{IsAtRest}
+use Rattle.jh_propagation.specs.propagation.Branches.{undecided_count}
+use Rattle.jh_propagation.specs.propagation.Resting.{IsAtRest}
 use Rattle.jh_search.specs.Searches.{IsSearching}
 use Rattle.jh_search.proofs.descending.descend.Given as goal
 

@@ -1,10 +1,10 @@
 use Rattle.std.proofs.Common.{refl, sym, ap, subst, false, [], ◌∷◌}
-use Rattle.jh_closure.specs.Nodes.{Has}
-use Rattle.jh_table.specs.Nodes.{nodes}
-use Rattle.jh_table.specs.Growth.{AreDifferent}
-use Rattle.jh_cong.specs.Saying.{Asserted}
-use Rattle.jh_trail.specs.Listing.{IsUndecided}
-use Rattle.jh_propagating.proofs.Resting.{resting-more}
+use Rattle.jh_closure.specs.congruence_closure.Nodes.{Has}
+use Rattle.jh_arena.specs.table.Nodes.{nodes}
+use Rattle.jh_arena.specs.table.Growth.{AreDifferent}
+use Rattle.jh_cong.specs.classes.Saying.{Asserted}
+use Rattle.jh_propagation.specs.trail.Listing.{IsUndecided}
+use Rattle.jh_propagation.proofs.propagation.Resting.{resting-more}
 use Rattle.jh_search.specs.declared.turn.Turn.{Turn}
 use Rattle.jh_search.proofs.Descents.{goes-on}
 use Rattle.jh_search.proofs.descending.take.Goals as goal

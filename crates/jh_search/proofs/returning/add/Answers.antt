@@ -1,8 +1,8 @@
 use Rattle.std.proofs.Common.{sym, ◌∙◌, subst, List, [], ◌∷◌, inl, inr}
 use Rattle.std.proofs.lemmas.Bool.{true≢false}
-use Rattle.jh_closure.specs.Nodes.{Has}
-use Rattle.jh_closure.proofs.Having.{has-left, has-last, has-pushed}
-use Rattle.jh_trail.specs.declared.decided.Decided.{Decided}
+use Rattle.jh_closure.specs.congruence_closure.Nodes.{Has}
+use Rattle.jh_closure.proofs.congruence_closure.Having.{has-left, has-last, has-pushed}
+use Rattle.jh_propagation.specs.declared.trail.decided.Decided.{Decided}
 use Rattle.jh_search.proofs.returning.add.Goals as goal
 
 pub returns-in_ok-push-clause-only : goal.returns-in_ok-push-clause-only

@@ -1,7 +1,7 @@
 use Rattle.std.proofs.Common.{◌≡◌, sym, ◌∙◌, ap, subst, List, [], ◌∷◌, ◌++◌, Some}
 use Rattle.std.proofs.lemmas.List.{append_assoc}
-use Rattle.jh_trail.specs.Saying.{literals_at}
-use Rattle.jh_propagating.specs.Problems.{instances_in}
+use Rattle.jh_propagation.specs.trail.Saying.{literals_at}
+use Rattle.jh_propagation.specs.propagation.Problems.{instances_in}
 use Rattle.jh_search.specs.declared.turn.Turn.{Turn}
 use Rattle.jh_search.specs.Paths.{all_closed}
 use Rattle.jh_search.specs.Searches.{IsGoingBack, IsStepBack}

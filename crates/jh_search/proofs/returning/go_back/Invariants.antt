@@ -1,7 +1,7 @@
 use Rattle.std.proofs.Common.{◌≡◌, List, length}
-use Rattle.jh_tree.specs.Tree.{ValueTree}
-use Rattle.jh_closure.specs.Cores.{Begins}
-use Rattle.jh_propagating.specs.declared.problem.Problem.{Problem}
+use Rattle.jh_form.specs.Tree.{ValueTree}
+use Rattle.jh_closure.specs.congruence_closure.Cores.{Begins}
+use Rattle.jh_propagation.specs.declared.propagation.problem.Problem.{Problem}
 use Rattle.jh_search.specs.declared.turn.ClosedBranch.{ClosedBranch}
 use Rattle.jh_search.specs.Searches.{IsGoingBack}
 use Rattle.jh_search.proofs.returning.go_back.Given as goal

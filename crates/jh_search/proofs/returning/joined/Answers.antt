@@ -1,7 +1,7 @@
 use Rattle.std.proofs.Common.{subst, ◌≡◌, ◌⊎◌, inl, inr}
-use Rattle.jh_closure.specs.Nodes.{Has}
-use Rattle.jh_closure.proofs.Having.{has-at}
-use Rattle.jh_trail.specs.declared.decided.Decided.{Decided}
+use Rattle.jh_closure.specs.congruence_closure.Nodes.{Has}
+use Rattle.jh_closure.proofs.congruence_closure.Having.{has-at}
+use Rattle.jh_propagation.specs.declared.trail.decided.Decided.{Decided}
 use Rattle.jh_search.proofs.Lists.{take-has}
 use Rattle.jh_search.proofs.returning.joined.Goals as goal
 

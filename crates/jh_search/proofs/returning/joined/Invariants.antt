@@ -1,6 +1,6 @@
 use Rattle.std.proofs.Common.{◌≡◌, ◌⊎◌, take}
-use Rattle.jh_closure.specs.Nodes.{Has}
-use Rattle.jh_trail.specs.declared.decided.Decided.{Decided}
+use Rattle.jh_closure.specs.congruence_closure.Nodes.{Has}
+use Rattle.jh_propagation.specs.declared.trail.decided.Decided.{Decided}
 use Rattle.jh_search.proofs.returning.joined.Given as goal
 
 abbrev pub invariant-loop-place : goal.invariant-loop-place

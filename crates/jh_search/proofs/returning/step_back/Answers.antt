@@ -1,7 +1,7 @@
 use Rattle.std.proofs.Common.{◌≡◌, ◌<◌, refl, sym, ap, ◌∙◌, subst, arith, List, [], length, true}
 use Rattle.std.proofs.lemmas.Bool.{true≢false}
-use Rattle.jh_closure.specs.Nodes.{Has}
-use Rattle.jh_trail.specs.declared.decided.Decided.{Decided}
+use Rattle.jh_closure.specs.congruence_closure.Nodes.{Has}
+use Rattle.jh_propagation.specs.declared.trail.decided.Decided.{Decided}
 use Rattle.jh_search.specs.declared.turn.Turn.{Turn}
 use Rattle.jh_search.specs.Joining.{AreJoined}
 use Rattle.jh_search.specs.Searches.{IsTurned}

@@ -1,5 +1,5 @@
 use Rattle.std.proofs.Common.{sym, ap, subst, ◌<◌, List, length}
-use Rattle.jh_table.specs.Nodes.{nodes}
+use Rattle.jh_arena.specs.table.Nodes.{nodes}
 use Rattle.jh_search.specs.declared.turn.ClosedBranch.{ClosedBranch}
 use Rattle.jh_search.specs.Searches.{IsRetreat}
 use Rattle.jh_search.proofs.searching.leave.Goals as goal

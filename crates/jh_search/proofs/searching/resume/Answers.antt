@@ -1,11 +1,11 @@
 use Rattle.std.proofs.Common.{sym, ap, ◌∙◌, subst, ◌-◌, List, [], ◌∷◌, ◌++◌, length, take}
-use Rattle.jh_cong.specs.Saying.{Asserted}
-use Rattle.jh_trail.specs.declared.decided.Decided.{Decided}
-use Rattle.jh_trail.specs.Listing.{IsUndecided}
-use Rattle.jh_propagating.specs.declared.branch.Reason.{Reason}
-use Rattle.jh_propagating.specs.declared.branch.Reason.TheVariants as reason
-use Rattle.jh_propagating.specs.Branches.{parts_of}
-use Rattle.jh_propagating.specs.Levels.{IsLevel}
+use Rattle.jh_cong.specs.classes.Saying.{Asserted}
+use Rattle.jh_propagation.specs.declared.trail.decided.Decided.{Decided}
+use Rattle.jh_propagation.specs.trail.Listing.{IsUndecided}
+use Rattle.jh_propagation.specs.declared.propagation.branch.Reason.{Reason}
+use Rattle.jh_propagation.specs.declared.propagation.branch.Reason.TheVariants as reason
+use Rattle.jh_propagation.specs.propagation.Branches.{parts_of}
+use Rattle.jh_propagation.specs.propagation.Levels.{IsLevel}
 use Rattle.jh_search.specs.declared.turn.Turn.{Turn}
 use Rattle.jh_search.proofs.Lists.{four-ok}
 use Rattle.jh_search.proofs.Turning.{level-behind, newest-at, over-atoms, resumed, undecided-there}

@@ -1,5 +1,5 @@
 use Rattle.std.proofs.Common.{sym, subst}
-use Rattle.jh_propagating.specs.Branches.{parts_of}
+use Rattle.jh_propagation.specs.propagation.Branches.{parts_of}
 use Rattle.jh_search.specs.Levels.{AreLevels}
 use Rattle.jh_search.proofs.Moves.{levels-kept}
 use Rattle.jh_search.proofs.searching.turn_back.Goals as goal

@@ -1,17 +1,17 @@
 use Rattle.std.proofs.Common.{rules, ◌≡◌, ◌+◌, ◌<◌, ◌≤◌, ◌∷◌, ℕ, suc, Bool, true, false, not, ◌&&◌, ◌||◌, ◌+ℤ◌, ◌-ℤ◌, ◌*ℤ◌, neg_ℤ, sym, ap, ◌∙◌, slice_get, SFits, to_z, of_z, inl, inr, arith}
-use Rattle.jh_tree.specs.Meaning.{truth, set_value, int_value, every, some, agree}
+use Rattle.jh_form.specs.Meaning.{truth, set_value, int_value, every, some, agree}
 use Rattle.std.specs.Int.{w64, w128}
 use Rattle.std.proofs.lemmas.Int.{to_z-of_z}
-use Rattle.jh_spread.proofs.Places.{before-or-at}
+use Rattle.jh_containers.proofs.transitive_closure.Places.{before-or-at}
 use Rattle.jh_sem.specs.Bounds.{bound_list}
 use Rattle.jh_sem.proofs.Below.{below-all}
 use Rattle.jh_sem.proofs.Evaluated.{if-ok, stop-and, go-and, stop-or, go-or, one-fails, one-passes, wide-out}
 use Rattle.jh_sem.proofs.EvalSteps.{value-And, value-Or, value-Implies, value-Union, value-Inter, value-Diff, value-All, value-Ex, value-EqNumber, value-EqSet, value-Subset, value-Add, value-Sub, value-Neg, value-Scale}
 use Rattle.jh_name.specs.declared.place.Sort.TheVariants as Sort
-use Rattle.jh_tree.specs.Sorts.{tree_sort}
-use Rattle.jh_table.specs.Entries.{is_number, is_truth, is_set, the_value, the_truth, the_set, the_number}
-use Rattle.jh_table.specs.Nodes.{nodes}
-use Rattle.jh_value.proofs.ValueSteps.{int-else, set-else, field-else, formula-else, below-Update-c}
+use Rattle.jh_form.specs.Sorts.{tree_sort}
+use Rattle.jh_arena.specs.table.Entries.{is_number, is_truth, is_set, the_value, the_truth, the_set, the_number}
+use Rattle.jh_arena.specs.table.Nodes.{nodes}
+use Rattle.jh_export.proofs.ValueSteps.{int-else, set-else, field-else, formula-else, below-Update-c}
 use Rattle.jh_sem.proofs.Updates.{sorted-number, sorted-truth, sorted-member}
 use Rattle.jh_sem.proofs.evaluating.+evaluated.Goals as goal
 

@@ -1,10 +1,10 @@
 use Rattle.std.proofs.Common.{rules, ◌≡◌, ◌<◌, ℕ, suc, List, sym, ap, subst, ◌∙◌, slice_get, arith}
 use Rattle.std.proofs.lemmas.Result.{err_from_is_err_and}
-use Rattle.jh_tree.specs.Tree.{FieldTree, of_truth}
-use Rattle.jh_tree.specs.Meaning.{Fields, reaches, is_forest, fields_value}
-use Rattle.jh_walk.specs.Parts.{Among}
-use Rattle.jh_table.specs.Entries.{the_truth, the_list, fields_at}
-use Rattle.jh_table.specs.Nodes.{nodes}
+use Rattle.jh_form.specs.Tree.{FieldTree, of_truth}
+use Rattle.jh_form.specs.Meaning.{Fields, reaches, is_forest, fields_value}
+use Rattle.jh_boxed.specs.Parts.{Among}
+use Rattle.jh_arena.specs.table.Entries.{the_truth, the_list, fields_at}
+use Rattle.jh_arena.specs.table.Nodes.{nodes}
 use Rattle.jh_sem.specs.Bounds.{bound_list}
 use Rattle.jh_sem.specs.Graphs.{AreRows, listed_fields}
 use Rattle.jh_sem.proofs.Sames.{reaches-same, forest-same}

@@ -1,5 +1,5 @@
 use Rattle.std.proofs.Common.{◌≡◌, true}
-use Rattle.jh_tree.specs.Meaning.{all_below}
+use Rattle.jh_form.specs.Meaning.{all_below}
 use Rattle.jh_sem.specs.Graphs.{listed_fields}
 use Rattle.jh_sem.proofs.Forests.{is_off}
 use Rattle.jh_sem.proofs.forest.has_no_cycle.Given as goal

@@ -1,6 +1,6 @@
 use Rattle.std.proofs.Common.{rules, ◌≡◌, ◌<◌, ℕ, true, false, sym, ap, ◌∙◌, length, inl, inr, arith}
-use Rattle.jh_tree.specs.Meaning.{edge, reaches}
-use Rattle.jh_spread.proofs.Places.{before-or-at}
+use Rattle.jh_form.specs.Meaning.{edge, reaches}
+use Rattle.jh_containers.proofs.transitive_closure.Places.{before-or-at}
 use Rattle.jh_sem.specs.Graphs.{listed_fields}
 use Rattle.jh_sem.proofs.Walks.{listed-length}
 use Rattle.jh_sem.proofs.Forests.{free-true, free-false}

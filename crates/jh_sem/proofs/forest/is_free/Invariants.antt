@@ -1,5 +1,5 @@
 use Rattle.std.proofs.Common.{◌≡◌, ◌<◌, ℕ, false}
-use Rattle.jh_tree.specs.Meaning.{edge, reaches}
+use Rattle.jh_form.specs.Meaning.{edge, reaches}
 use Rattle.jh_sem.specs.Graphs.{listed_fields}
 use Rattle.jh_sem.proofs.forest.is_free.Given as goal
 

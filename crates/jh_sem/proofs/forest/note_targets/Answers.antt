@@ -1,5 +1,5 @@
 use Rattle.std.proofs.Common.{rules, ◌≡◌, ◌+◌, ◌<◌, ℕ, true, false, Bool, List, sym, ap, subst, ◌∙◌, length, inl, inr, arith}
-use Rattle.jh_spread.proofs.Places.{same-or-not}
+use Rattle.jh_containers.proofs.transitive_closure.Places.{same-or-not}
 use Rattle.jh_sem.specs.Graphs.{listed_fields, IsNoted}
 use Rattle.jh_sem.proofs.Walks.{listed-length}
 use Rattle.jh_sem.proofs.Forests.{noted-null, noted-new, noted-shared, noted-object}

@@ -1,6 +1,6 @@
 use Rattle.std.proofs.Common.{rules, ◌≡◌, ◌<◌, ℕ, true, false, Some, sym, ap, ◌∙◌, subst, length, slice_get, arith, add-one}
 use Rattle.std.proofs.lemmas.Bool.{true≢false}
-use Rattle.jh_tree.specs.Meaning.{edge, reaches}
+use Rattle.jh_form.specs.Meaning.{edge, reaches}
 use Rattle.jh_sem.specs.Graphs.{listed_fields, IsWalk}
 use Rattle.jh_sem.proofs.Walks.{walk-none, reaches-start, marked-reached, not-reached, done-more, some-one}
 use Rattle.jh_sem.proofs.graph.leads_to.Goals as goal

@@ -1,6 +1,6 @@
 use Rattle.std.proofs.Common.{◌≡◌, ◌<◌, ℕ, true, Some, sym, ap, ◌∙◌, subst, length, slice_get, slice_set, inl, inr, ◌⊎◌, arith}
-use Rattle.jh_tree.specs.Meaning.{edge, reaches}
-use Rattle.jh_spread.proofs.Places.{before-or-at}
+use Rattle.jh_form.specs.Meaning.{edge, reaches}
+use Rattle.jh_containers.proofs.transitive_closure.Places.{before-or-at}
 use Rattle.jh_sem.specs.Graphs.{listed_fields, IsWalk}
 use Rattle.jh_sem.proofs.Walks.{listed-length, target-found}
 use Rattle.jh_sem.proofs.graph.visit_targets.Goals as goal

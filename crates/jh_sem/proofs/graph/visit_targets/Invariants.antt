@@ -1,5 +1,5 @@
 use Rattle.std.proofs.Common.{◌≡◌, ◌<◌, ℕ, suc, true, Some, length, slice_get}
-use Rattle.jh_tree.specs.Meaning.{edge}
+use Rattle.jh_form.specs.Meaning.{edge}
 use Rattle.jh_sem.specs.Graphs.{listed_fields, IsWalk}
 use Rattle.jh_sem.proofs.graph.visit_targets.Given as goal
 

@@ -1,9 +1,9 @@
 use Rattle.std.proofs.Common.{rules, ◌≡◌, ◌<◌, true, sym, ◌∙◌, slice_get, arith}
 use Rattle.jh_name.specs.declared.place.Sort.TheVariants as Sort
-use Rattle.jh_tree.specs.Sorts.{tree_sort}
-use Rattle.jh_table.specs.Entries.{is_object, the_value}
-use Rattle.jh_table.specs.Nodes.{nodes}
-use Rattle.jh_value.proofs.ValueSteps.{term-else, field-else, below-Update-c}
+use Rattle.jh_form.specs.Sorts.{tree_sort}
+use Rattle.jh_arena.specs.table.Entries.{is_object, the_value}
+use Rattle.jh_arena.specs.table.Nodes.{nodes}
+use Rattle.jh_export.proofs.ValueSteps.{term-else, field-else, below-Update-c}
 use Rattle.jh_sem.proofs.Updates.{sorted-object}
 use Rattle.jh_sem.proofs.objects.+placed.Goals as goal
 

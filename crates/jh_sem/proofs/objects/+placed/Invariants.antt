@@ -1,7 +1,7 @@
 use Rattle.std.proofs.Common.{◌≡◌, ◌+◌, ◌*◌, ◌<◌, not, ◌||◌, ◌∷◌, ℕ, suc, true, false, length, slice_get, slice_index, Some}
-use Rattle.jh_tree.specs.Meaning.{all_below, any_below, count_below, agree, truth, set_value, field_value}
-use Rattle.jh_table.specs.Entries.{the_truth, the_set, the_field}
-use Rattle.jh_table.specs.Nodes.{nodes}
+use Rattle.jh_form.specs.Meaning.{all_below, any_below, count_below, agree, truth, set_value, field_value}
+use Rattle.jh_arena.specs.table.Entries.{the_truth, the_set, the_field}
+use Rattle.jh_arena.specs.table.Nodes.{nodes}
 use Rattle.jh_sem.specs.Bounds.{bound_list}
 use Rattle.jh_sem.specs.Graphs.{AreRows}
 use Rattle.jh_sem.proofs.Tabulated.{ListObjects}

@@ -1,7 +1,7 @@
 use Rattle.std.proofs.Common.{rules, ◌≡◌, ◌+◌, ◌<◌, ◌++◌, ◌∷◌, [], ℕ, suc, List, Some, length, slice_get, slice_index, sym, ap, subst, ◌∙◌, arith, add-one}
-use Rattle.jh_tree.specs.Meaning.{field_value}
-use Rattle.jh_table.specs.Entries.{the_field}
-use Rattle.jh_table.specs.Nodes.{nodes}
+use Rattle.jh_form.specs.Meaning.{field_value}
+use Rattle.jh_arena.specs.table.Entries.{the_field}
+use Rattle.jh_arena.specs.table.Nodes.{nodes}
 use Rattle.jh_sem.specs.Bounds.{bound_list}
 use Rattle.jh_sem.proofs.Tabulated.{length-pushed, inside-pushed, objects-pushed}
 use Rattle.jh_sem.proofs.objects.row_of.Goals as goal

@@ -1,6 +1,6 @@
 use Rattle.std.proofs.Common.{rules, ◌≡◌, ◌+◌, ◌<◌, ◌++◌, ◌∷◌, [], ℕ, suc, List, Some, length, slice_get, slice_index, sym, ap, subst, ◌∙◌, arith, add-one}
 use Rattle.std.proofs.lemmas.Result.{err_from_is_err_and}
-use Rattle.jh_table.specs.Nodes.{nodes}
+use Rattle.jh_arena.specs.table.Nodes.{nodes}
 use Rattle.jh_sem.specs.Bounds.{bound_list}
 use Rattle.jh_sem.specs.Graphs.{AreRows}
 use Rattle.jh_sem.proofs.Tabulated.{length-pushed, wide-item, rows-more, objects-more, same-rows, ListObjects}

@@ -1,3 +1,0 @@
-mod Leasts
-mod More
-mod Sequents

@@ -1,5 +1,0 @@
-use Rattle.jh_approx.proofs.Rooms.{queries-well-formed}
-use Rattle.jh_approx.proofs.laws.queries_are_well_formed.Goals as goal
-
-pub returns : goal.returns
-returns c = queries-well-formed

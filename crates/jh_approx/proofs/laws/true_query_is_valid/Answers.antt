@@ -1,5 +1,0 @@
-use Rattle.jh_approx.proofs.Validity.{true-query-valid}
-use Rattle.jh_approx.proofs.laws.true_query_is_valid.Goals as goal
-
-pub returns : goal.returns
-returns c = true-query-valid

@@ -1,0 +1,22 @@
+use Rattle.std.proofs.Common.{ap, sym, ◌∙◌, Some, slice_get}
+use Rattle.std.specs.HashMap.{keys, values}
+use Rattle.jh_arena.proofs.table.Listed.{grows-refl}
+use Rattle.jh_arena.proofs.table.Tables.{grows-insert, pooled-table, pooled-nodes, pooled-extends}
+use Rattle.jh_form.specs.contracts.mark.MarkPartialEq.TheImpl as mark
+use Rattle.jh_arena.proofs.table.Keys.{mark_eq-true, mark_eq-same, position-found}
+use Rattle.jh_arena.proofs.table.listing.Arena.mark.Goals as goal
+
+pub invariant_of-self-in-None : goal.invariant_of-self-in-None
+invariant_of-self-in-None c = pooled-table (record { names = c.self.inside.names.keys; marks = c.self.inside.marks.keys; lists = c.self.inside.lists.keys }) (record { names = c.self.inside.names.keys; marks = c.insert_full.new.self.keys; lists = c.self.inside.lists.keys }) (keys c.self.inside.nodes) (values c.self.inside.nodes) c.args.self.now c.self.view_is c.self.invariant (record { names = grows-refl c.self.inside.names.keys; marks = grows-insert mark.ghosts.eq c.self.inside.marks.keys c.insert_full.new.self.keys c.in_ok-copied-in-None.copied c.in_ok-number-in-None.ensures.keys; lists = grows-refl c.self.inside.lists.keys })
+
+pub returns-in-Some-clause-number : goal.returns-in-Some-clause-number
+returns-in-Some-clause-number c = ap (λ t. slice_get t.pools.marks c.in-Some.number) (sym c.self.view_is) ∙ position-found mark.ghosts.eq mark_eq-true mark_eq-same c.self.inside.marks.keys c.in-Some.number c.args.mark.now c.in-Some.ensures.index
+
+pub returns-in_ok-number-in-None-clause-number : goal.returns-in_ok-number-in-None-clause-number
+returns-in_ok-number-in-None-clause-number c = let s = c.in_ok-number-in-None.ensures.stored in s.1 ∙ ap (λ k. Some k) (sym (mark_eq-true c.in_ok-copied-in-None.copied s.0 s.2) ∙ c.in_ok-copied-in-None.ensures)
+
+pub returns-in_ok-number-in-None-clause-grows : goal.returns-in_ok-number-in-None-clause-grows
+returns-in_ok-number-in-None-clause-grows c = pooled-extends (record { names = c.self.inside.names.keys; marks = c.self.inside.marks.keys; lists = c.self.inside.lists.keys }) (record { names = c.self.inside.names.keys; marks = c.insert_full.new.self.keys; lists = c.self.inside.lists.keys }) (keys c.self.inside.nodes) (values c.self.inside.nodes) c.args.self.now c.self.view_is c.self.invariant (record { names = grows-refl c.self.inside.names.keys; marks = grows-insert mark.ghosts.eq c.self.inside.marks.keys c.insert_full.new.self.keys c.in_ok-copied-in-None.copied c.in_ok-number-in-None.ensures.keys; lists = grows-refl c.self.inside.lists.keys })
+
+pub returns-in_ok-number-in-None-clause-nodes : goal.returns-in_ok-number-in-None-clause-nodes
+returns-in_ok-number-in-None-clause-nodes c = pooled-nodes (record { names = c.self.inside.names.keys; marks = c.self.inside.marks.keys; lists = c.self.inside.lists.keys }) (record { names = c.self.inside.names.keys; marks = c.insert_full.new.self.keys; lists = c.self.inside.lists.keys }) (keys c.self.inside.nodes) (values c.self.inside.nodes) c.args.self.now c.self.view_is c.self.invariant (record { names = grows-refl c.self.inside.names.keys; marks = grows-insert mark.ghosts.eq c.self.inside.marks.keys c.insert_full.new.self.keys c.in_ok-copied-in-None.copied c.in_ok-number-in-None.ensures.keys; lists = grows-refl c.self.inside.lists.keys })

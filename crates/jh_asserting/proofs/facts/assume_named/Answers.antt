@@ -1,9 +1,0 @@
-use Rattle.jh_guard.specs.Steps.{named_fact}
-use Rattle.jh_asserting.proofs.StepSteps.{on-ok}
-use Rattle.jh_asserting.proofs.facts.assume_named.Goals as goal
-
-pub returns-clause-commands : goal.returns-clause-commands
-returns-clause-commands c =
-    on-ok c.assume_fact.result
-    (λ told f h. told (named_fact c.args.text.now c.args.place f) (c.in_ok-fact.ensures.node f h))
-    c.assume_fact.ensures

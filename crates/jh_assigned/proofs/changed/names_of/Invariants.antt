@@ -1,8 +1,0 @@
-use Rattle.std.proofs.Common.{◌≡◌, [], map, drop}
-use Rattle.jh_facts.specs.States.{local_of}
-use Rattle.jh_assigned.specs.Gathering.{with_all}
-use Rattle.jh_assigned.specs.Noted.{names_in}
-use Rattle.jh_assigned.proofs.changed.names_of.Given as goal
-
-abbrev pub invariant-loop-place : goal.invariant-loop-place
-invariant-loop-place l = with_all (names_in l.names) (map local_of (drop l.place l.scope)) ≡ with_all [] (map local_of l.scope)

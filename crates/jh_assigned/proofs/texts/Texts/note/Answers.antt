@@ -1,6 +1,0 @@
-use Rattle.std.proofs.Common.{sym, ◌∙◌}
-use Rattle.jh_assigned.proofs.Notings.{note-kept}
-use Rattle.jh_assigned.proofs.texts.Texts.note.Goals as goal
-
-pub returns-then-holds : goal.returns-then-holds
-returns-then-holds c = note-kept c.args.self.now c.args.text.now (sym c.holds.ensures ∙ c.if-holds.true)

@@ -1,6 +1,0 @@
-//! The path of a search with its decisions, and how it goes on and back: definitions, and their laws.
-#![tactic(auto)]
-
-mod laws;
-
-pub use laws::{search_goes_back, search_goes_on};

@@ -1,8 +1,0 @@
-use Rattle.std.proofs.Common.{◌≡◌, ◌||◌, drop}
-use Rattle.jh_query.specs.Bare.{cond_tree}
-use Rattle.jh_bapa.specs.Cases.{conds_of}
-use Rattle.jh_bapa.specs.Searching.{is_among}
-use Rattle.jh_bapa.proofs.casing.is_among.Given as goal
-
-abbrev pub invariant-loop-atom : goal.invariant-loop-atom
-invariant-loop-atom l = is_among (conds_of l.atoms) (cond_tree l.cond) ≡ (l.any || is_among (conds_of (drop l.atom-index l.atoms)) (cond_tree l.cond))

@@ -1,7 +1,0 @@
-use Rattle.std.proofs.Common.{◌<◌, ℕ}
-use Rattle.jh_query.specs.Bare.{query_tree}
-use Rattle.jh_bapa.specs.Choices.{IsVain}
-use Rattle.jh_bapa.proofs.flagging.are_flags_vain.Given as goal
-
-abbrev pub invariant-loop-block : goal.invariant-loop-block
-invariant-loop-block l = (b : ℕ) → b < l.block → IsVain b l.spots l.atoms (query_tree l.query)

@@ -1,5 +1,0 @@
-use Rattle.jh_bapa.proofs.Choosing.{both-yes, both-no}
-use Rattle.jh_bapa.proofs.flagging.both.Goals as goal
-
-pub returns : goal.returns
-returns c = λ i p q f g. (both-yes c.args.left c.args.right i p q f g, both-no c.args.left c.args.right i p q f g)

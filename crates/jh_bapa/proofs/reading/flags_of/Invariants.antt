@@ -1,7 +1,0 @@
-use Rattle.std.proofs.Common.{◌≡◌}
-use Rattle.jh_bapa.specs.Lists.{listed}
-use Rattle.jh_bapa.specs.Cases.{flag_chosen}
-use Rattle.jh_bapa.proofs.reading.flags_of.Given as goal
-
-abbrev pub invariant-loop-flag : goal.invariant-loop-flag
-invariant-loop-flag l = l.row.items ≡ listed l.flag (flag_chosen l.atoms)

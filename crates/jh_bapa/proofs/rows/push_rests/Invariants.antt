@@ -1,8 +1,0 @@
-use Rattle.std.proofs.Common.{◌≡◌, ◌++◌, false, get_or}
-use Rattle.jh_query.specs.Sides.{side_tree}
-use Rattle.jh_bapa.specs.Lists.{listed}
-use Rattle.jh_bapa.specs.Systems.{rest_entry}
-use Rattle.jh_bapa.proofs.rows.push_rests.Given as goal
-
-abbrev pub invariant-loop-region : goal.invariant-loop-region
-invariant-loop-region l = l.entries.items ≡ l.initial.entries.items ++ listed l.region (rest_entry (λ r. get_or l.empty r false) (side_tree l.side))

@@ -1,0 +1,12 @@
+pub mod Lists
+pub mod Cases
+pub mod Systems
+pub mod Counted
+pub mod Lining
+pub mod Within
+pub mod Searching
+pub mod Standing
+pub mod Made
+pub mod Spoiled
+pub mod Choices
+pub mod Answers

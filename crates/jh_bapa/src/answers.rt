@@ -1,0 +1,5 @@
+//! What regions say of a sequent, by its query.
+
+mod answer;
+
+pub use answer::{BapaCause, Regional, answer_of};

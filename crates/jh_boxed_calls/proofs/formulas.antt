@@ -1,0 +1,1 @@
+pub use Rattle.jh_boxed_operations.proofs.substitution.Substitutions

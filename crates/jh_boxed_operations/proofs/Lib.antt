@@ -1,0 +1,1 @@
+pub use Rattle.jh_boxed.proofs as of_jh_boxed

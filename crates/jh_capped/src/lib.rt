@@ -1,8 +1,0 @@
-//! Counts that stay at the greatest of 128 bits.
-#![tactic(auto)]
-
-mod capped;
-mod columns;
-
-pub use capped::{plus, times};
-pub use columns::column_count;

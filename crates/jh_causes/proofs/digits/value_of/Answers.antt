@@ -1,7 +1,0 @@
-use Rattle.jh_causes.proofs.Spelling.{kept-none, none-great, read-least}
-use Rattle.jh_causes.proofs.digits.value_of.Goals as goal
-
-pub returns-in-None : goal.returns-in-None
-returns-in-None c =
-    none-great _ _ _ (kept-none _ _ _ c.with_digit.ensures c.in-None.is)
-    (read-least c.args.digits.now c.digits.at _ c.digits.value c.digits-test.true c.digits.invariant.within c.digits.invariant.value)

@@ -1,6 +1,0 @@
-use Rattle.std.proofs.Common.{◌∙◌}
-use Rattle.jh_causes.proofs.Spelling.{zeros-spell}
-use Rattle.jh_causes.proofs.refuted.is_zero.Goals as goal
-
-pub returns : goal.returns
-returns c = c.are_zeros.ensures ∙ zeros-spell c.args.digits.now

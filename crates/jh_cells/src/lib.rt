@@ -1,6 +1,0 @@
-//! Heaps as lists.
-#![tactic(auto)]
-
-mod cells;
-
-pub use cells::{Args, Cell, Heap};

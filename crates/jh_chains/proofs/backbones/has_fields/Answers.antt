@@ -1,7 +1,0 @@
-use Rattle.jh_chains.proofs.Known.{same-fields}
-use Rattle.jh_chains.proofs.backbones.has_fields.Goals as goal
-use Rattle.std.proofs.Common.{◌∙◌}
-
-pub returns : goal.returns
-returns c = λ b fs is are.
-    c.eq.ensures ∙ same-fields c.args.table.now c.nodes_differ.ensures.different c.args.backbone b c.list_at.result.now c.args.fields.now fs is c.list_at.ensures are

@@ -1,8 +1,0 @@
-use Rattle.std.proofs.Common.{◌≡◌, drop}
-use Rattle.jh_table.specs.Nodes.{nodes}
-use Rattle.jh_chains.specs.Testing.{all_apart}
-use Rattle.jh_chains.proofs.testing.all_differ.Given as goal
-
--- the fields so far are names, and none is another one
-abbrev pub invariant-loop-place : goal.invariant-loop-place
-invariant-loop-place l = all_apart (nodes l.table) (drop l.place l.fields) ≡ all_apart (nodes l.table) l.fields

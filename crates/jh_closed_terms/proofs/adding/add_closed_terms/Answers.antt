@@ -1,6 +1,0 @@
-use Rattle.jh_table.specs.Nodes.{nodes}
-use Rattle.jh_witnesses.proofs.Shapes.{truth-inside}
-use Rattle.jh_closed_terms.proofs.adding.add_closed_terms.Goals as goal
-
-pub is_shallow-requires : goal.is_shallow-requires
-is_shallow-requires c = truth-inside (nodes c.args.table.now) c.args.node c.requires.there

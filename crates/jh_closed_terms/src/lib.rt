@@ -1,8 +1,0 @@
-//! The closed terms for objects of formulas that are nodes of a table, each once, in the order in which they first stand.
-#![tactic(auto)]
-
-mod adding;
-mod terms;
-
-pub use adding::add_closed_terms;
-pub use terms::Terms;

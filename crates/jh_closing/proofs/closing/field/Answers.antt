@@ -1,8 +1,0 @@
-use Rattle.std.proofs.Common.{ap, ◌∙◌}
-use Rattle.jh_tree.specs.Closed.{is_closed_value}
-use Rattle.jh_table.specs.Entries.{the_value}
-use Rattle.jh_closing.proofs.closing.field.Goals as goal
-
-pub returns : goal.returns
-unfolding is_closed_value the_value
-returns c = c.is_closed.ensures ∙ ap (λ o. is_closed_value (the_value o) 0) c.requires

@@ -1,0 +1,7 @@
+pub mod Nodes
+pub mod Tables
+pub mod Uses
+pub mod Closing
+pub mod Cores
+pub mod Levels
+pub mod Explaining

@@ -1,9 +1,0 @@
-//! The parser of expressions, of calls and of what is assigned to.
-#![tactic(auto)]
-
-mod calls;
-mod expressions;
-mod operators;
-
-pub use calls::{call, call_after, rhs, target_of};
-pub use expressions::{expression, reads};

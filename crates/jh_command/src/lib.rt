@@ -1,6 +1,0 @@
-//! Guarded commands over the nodes of a table.
-#![tactic(auto)]
-
-mod command;
-
-pub use command::Command;

@@ -1,0 +1,1 @@
+pub use Rattle.jh_command_terms.proofs as of_jh_command_terms

@@ -1,6 +1,0 @@
-use Rattle.std.proofs.Common.{refl}
-use Rattle.jh_commands.proofs.MethodSteps.{known-pushed}
-use Rattle.jh_commands.proofs.methods.push_param.Goals as goal
-
-pub returns : goal.returns
-returns c = known-pushed c.args.scope.now.items c.push.new.self.items _ c.args.param.now c.in_ok-push.ensures.items c.text.ensures refl

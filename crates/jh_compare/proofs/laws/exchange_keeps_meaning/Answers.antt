@@ -1,5 +1,0 @@
-use Rattle.jh_compare.proofs.ExchangeMeanings.{exchange-keeps}
-use Rattle.jh_compare.proofs.laws.exchange_keeps_meaning.Goals as goal
-
-pub returns : goal.returns
-returns c = exchange-keeps

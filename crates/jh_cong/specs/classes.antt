@@ -1,0 +1,4 @@
+pub mod Saying
+pub mod Equatable
+pub mod Constants
+pub mod States

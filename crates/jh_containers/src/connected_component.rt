@@ -1,0 +1,5 @@
+//! What is reached from some numbers along rows that share one.
+
+mod reaching;
+
+pub use reaching::{Known, reach, shares};

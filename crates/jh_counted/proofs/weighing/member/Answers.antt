@@ -1,6 +1,0 @@
-use Rattle.jh_instances.specs.Terms.{terms_in, set_terms}
-use Rattle.jh_counted.proofs.Weights.{two-weigh}
-use Rattle.jh_counted.proofs.weighing.member.Goals as goal
-
-pub returns : goal.returns
-returns c = λ p q e f. two-weigh c.args.scope.terms c.args.scope.powers.now c.plus.result c.chain-first.result.all c.set-second.result (terms_in p) (set_terms q) c.plus.ensures (c.chain-first.ensures.all p e) (c.set-second.ensures q f)

@@ -1,6 +1,0 @@
-use Rattle.jh_instances.specs.Terms.{number_terms}
-use Rattle.jh_counted.proofs.Weights.{two-weigh}
-use Rattle.jh_counted.proofs.weighing.two_numbers.Goals as goal
-
-pub returns : goal.returns
-returns c = λ p q e f. two-weigh c.args.scope.terms c.args.scope.powers.now c.plus.result c.number-first.result c.number-second.result (number_terms p) (number_terms q) c.plus.ensures (c.number-first.ensures p e) (c.number-second.ensures q f)

@@ -1,9 +1,0 @@
-use Rattle.jh_table.specs.Nodes.{nodes}
-use Rattle.jh_counting.proofs.Insides.{truth-inside}
-use Rattle.jh_counting.proofs.goals.add_formula.Goals as goal
-
-pub size-requires : goal.size-requires
-size-requires c = truth-inside (nodes c.args.table.now) c.args.node c.requires.there
-
-pub is_shallow-requires : goal.is_shallow-requires
-is_shallow-requires c = truth-inside (nodes c.args.table.now) c.args.node c.requires.there

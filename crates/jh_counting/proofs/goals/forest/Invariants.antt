@@ -1,6 +1,0 @@
-use Rattle.std.proofs.Common.{◌≡◌}
-use Rattle.jh_count.specs.Goals.{capped, forest_count}
-use Rattle.jh_counting.proofs.goals.forest.Given as goal
-
-abbrev pub invariant-loop-index : goal.invariant-loop-index
-invariant-loop-index l = record { sum : l.sum ≡ capped (forest_count l.index) }

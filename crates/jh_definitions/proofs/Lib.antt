@@ -1,0 +1,1 @@
+pub use Rattle.jh_resolution.proofs as of_jh_resolution

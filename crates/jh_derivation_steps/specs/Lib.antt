@@ -1,0 +1,2 @@
+pub mod closedness
+pub mod premises

@@ -1,6 +1,0 @@
-use Rattle.std.proofs.Common.{◌≡◌, ◌*◌, ◌+◌, ◌^◌, min}
-use Rattle.jh_systems.specs.Nodes.{count_max}
-use Rattle.jh_digits.proofs.counting.bare_nodes.Given as goal
-
-abbrev pub invariant-loop : goal.invariant-loop
-invariant-loop l = l.count ≡ min ((l.system.columns + 1) * 2 ^ l.counter) count_max

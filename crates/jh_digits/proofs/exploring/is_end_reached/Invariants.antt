@@ -1,8 +1,0 @@
-use Rattle.jh_digits.specs.Table.{marks_left, IsTable}
-use Rattle.jh_digits.proofs.exploring.is_end_reached.Given as goal
-
-abbrev pub invariant-loop-table : goal.invariant-loop-table
-invariant-loop-table l = IsTable l.system l.table
-
-abbrev pub decreases-loop-table : goal.decreases-loop-table
-decreases-loop-table l = marks_left l.table

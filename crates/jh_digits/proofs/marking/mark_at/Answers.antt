@@ -1,7 +1,0 @@
-use Rattle.std.proofs.Common.{refl}
-use Rattle.jh_digits.specs.Table.{mark_of}
-use Rattle.jh_digits.proofs.marking.mark_at.Goals as goal
-
-pub returns : goal.returns
-unfolding mark_of
-returns c = rw c.requires.space.cells refl

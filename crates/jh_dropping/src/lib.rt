@@ -1,8 +1,0 @@
-//! Updates that change nothing dropped from formulas that are nodes of a table.
-#![tactic(auto)]
-
-mod dropping;
-mod laws;
-
-pub use dropping::dropped;
-pub use laws::dropping_keeps_meaning;

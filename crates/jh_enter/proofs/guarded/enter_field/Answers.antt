@@ -1,9 +1,0 @@
--- Written by tools/enter.py.
-use Rattle.jh_tree.specs.Tree.{of_field}
-use Rattle.jh_tree.specs.Bare.{field_tree}
-use Rattle.jh_enter.proofs.Keeping.{kept-parts}
-use Rattle.jh_enter.proofs.guarded.enter_field.Goals as goal
-
-pub returns-clause-kept : goal.returns-clause-kept
-returns-clause-kept c =
-    kept-parts c.args.table.now c.enter_field-node.new.table (of_field (field_tree c.args.field.now)) c.parts_come_first.ensures c.enter_field-node.ensures.grows c.nodes_differ.ensures.different c.enter_field-node.ensures.only

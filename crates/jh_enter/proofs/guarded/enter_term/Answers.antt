@@ -1,9 +1,0 @@
--- Written by tools/enter.py.
-use Rattle.jh_tree.specs.Tree.{of_object}
-use Rattle.jh_tree.specs.Bare.{term_tree}
-use Rattle.jh_enter.proofs.Keeping.{kept-parts}
-use Rattle.jh_enter.proofs.guarded.enter_term.Goals as goal
-
-pub returns-clause-kept : goal.returns-clause-kept
-returns-clause-kept c =
-    kept-parts c.args.table.now c.enter_term-node.new.table (of_object (term_tree c.args.term.now)) c.parts_come_first.ensures c.enter_term-node.ensures.grows c.nodes_differ.ensures.different c.enter_term-node.ensures.only

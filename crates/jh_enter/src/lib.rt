@@ -1,7 +1,0 @@
-//! Entering boxed formulas into a table of nodes.
-#![tactic(auto)]
-
-mod entering;
-mod guarded;
-
-pub use guarded::{enter, enter_field, enter_formula, enter_int, enter_set, enter_term};

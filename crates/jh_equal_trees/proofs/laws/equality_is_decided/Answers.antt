@@ -1,5 +1,0 @@
-use Rattle.jh_compare.proofs.Equalities.{equal_trees-true, equal_trees-same}
-use Rattle.jh_equal_trees.proofs.laws.equality_is_decided.Goals as goal
-
-pub returns : goal.returns
-returns c = λ u v. (equal_trees-true u v, equal_trees-same u v)

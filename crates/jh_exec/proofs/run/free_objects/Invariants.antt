@@ -1,9 +1,0 @@
-use Rattle.std.proofs.Common.{◌≡◌, filter}
-use Rattle.jh_runs.specs.State.{alloc_name}
-use Rattle.jh_runs.specs.Objects.{is_free, below}
-use Rattle.jh_memory.specs.Held.{state_of, IsNamed}
-use Rattle.jh_exec.proofs.run.free_objects.Given as goal
-
--- the free objects so far
-abbrev pub invariant-loop-object : goal.invariant-loop-object
-invariant-loop-object l = IsNamed l.memory l.all alloc_name → l.objects.items ≡ filter (is_free (state_of l.memory)) (below l.object)

@@ -1,7 +1,0 @@
-use Rattle.std.proofs.Common.{◌≡◌, subst, true, ◌↔◌, List}
-use Rattle.jh_closure.specs.Nodes.{Has}
-use Rattle.jh_trail.specs.declared.decided.Decided.{Decided}
-use Rattle.jh_explaining.proofs.explaining.step_of.Goals as goal
-
-pub returns-clause-marked : goal.returns-clause-marked
-returns-clause-marked c = subst (λ (xs : List Decided). (c.has.result ≡ true) ↔ Has xs c.literal-literal.result) c.as_slice.ensures.value c.has.ensures

@@ -1,7 +1,0 @@
-use Rattle.jh_exprs.specs.Lookings.{declared_by, scope_by}
-use Rattle.jh_exprs.proofs.Arguments.{Gathers}
-use Rattle.jh_exprs.proofs.calls.arguments.Given as goal
-
--- what is found and the rest give what all give
-abbrev pub invariant-loop-index : goal.invariant-loop-index
-invariant-loop-index l = Gathers (declared_by l.lookups) (scope_by l.at) l.exprs l.params l.index l.found

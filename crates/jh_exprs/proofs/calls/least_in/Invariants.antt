@@ -1,9 +1,0 @@
-use Rattle.std.proofs.Common.{◌≡◌, drop}
-use Rattle.jh_rules.specs.Found.{least, lesser}
-use Rattle.jh_exprs.specs.Lookings.{declared_by, scope_by}
-use Rattle.jh_exprs.specs.Asking.{all_faults}
-use Rattle.jh_exprs.proofs.calls.least_in.Given as goal
-
--- what is found and the rest give what all give
-abbrev pub invariant-loop-expr : goal.invariant-loop-expr
-invariant-loop-expr l = lesser l.found (least (all_faults (declared_by l.lookups) (scope_by l.at) (drop l.expr-index l.exprs))) ≡ least (all_faults (declared_by l.lookups) (scope_by l.at) l.exprs)

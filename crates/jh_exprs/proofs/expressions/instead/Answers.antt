@@ -1,6 +1,0 @@
-use Rattle.jh_rules.specs.Faults.{right}
-use Rattle.jh_exprs.proofs.expressions.instead.Goals as goal
-
--- src/expressions.rt
-pub returns-in-Some : goal.returns-in-Some
-returns-in-Some c = λ j h. c.after.ensures j (λ u. right c.args.ty) _ h c.in-Some.is c.right.ensures

@@ -1,6 +1,0 @@
-use Rattle.std.proofs.Common.{◌≡◌, ◌++◌, drop}
-use Rattle.jh_facts.specs.States.{texts_in}
-use Rattle.jh_facts.proofs.classes.all_texts.Given as goal
-
-abbrev pub invariant-loop-class : goal.invariant-loop-class
-invariant-loop-class l = texts_in l.made.items ++ drop l.class-index l.classes ≡ l.classes

@@ -1,5 +1,0 @@
-use Rattle.jh_fca.proofs.Everywhere.{eliminated-stands-everywhere}
-use Rattle.jh_fca.proofs.laws.eliminated_may_stand.Goals as goal
-
-pub returns : goal.returns
-returns c = eliminated-stands-everywhere

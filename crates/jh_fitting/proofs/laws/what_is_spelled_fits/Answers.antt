@@ -1,5 +1,0 @@
-use Rattle.jh_fitting.proofs.Texts.{spelled-fits}
-use Rattle.jh_fitting.proofs.laws.what_is_spelled_fits.Goals as goal
-
-pub returns : goal.returns
-returns c = spelled-fits c.spelled_has_shape.ensures c.spelled_is_placed.ensures c.spelled_is_written.ensures

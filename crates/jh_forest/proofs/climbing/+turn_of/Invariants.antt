@@ -1,5 +1,0 @@
-use Rattle.std.proofs.Common.{◌+◌, ◌-◌, slice_index}
-use Rattle.jh_forest.proofs.climbing.+turn_of.Given as goal
-
-abbrev pub decreases-turn_of : goal.decreases-turn_of
-decreases-turn_of l = l.before - slice_index l.stamps.now l.left + (l.before - slice_index l.stamps.now l.right)

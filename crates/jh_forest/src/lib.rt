@@ -1,9 +1,0 @@
-//! Classes of numbers, joined by merges that are kept in their order and can be taken back.
-#![tactic(auto)]
-
-mod climbing;
-mod forest;
-mod merge;
-
-pub use forest::Forest;
-pub use merge::{Cause, Joint, Merge, Why};

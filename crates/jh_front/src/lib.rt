@@ -1,8 +1,0 @@
-//! How long the word is that stands at the front of a text, or the two words with a dot between them.
-#![tactic(auto)]
-
-mod character;
-mod front;
-
-pub use character::starts_word;
-pub use front::{qualified_len, word_len};

@@ -1,8 +1,0 @@
-//! The sequents of the weakest precondition of a command, or that there are too many.
-#![tactic(auto)]
-
-mod fault;
-mod goals;
-
-pub use fault::GoalsFault;
-pub use goals::{MOST_SEQUENTS, sequents_of};

@@ -1,0 +1,1 @@
+pub use Rattle.jh_command_statements.specs as jh_command_statements

@@ -1,6 +1,0 @@
-use Rattle.std.proofs.Common.{◌≡◌, None, replicate}
-use Rattle.jh_heap.specs.Held.{given_in}
-use Rattle.jh_heap.proofs.draft.no_cells.Given as goal
-
-abbrev pub invariant-loop-place : goal.invariant-loop-place
-invariant-loop-place l = given_in l.made.items ≡ replicate l._place None

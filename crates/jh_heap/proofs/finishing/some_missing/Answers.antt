@@ -1,6 +1,0 @@
-use Rattle.std.proofs.Common.{◌∙◌, sym}
-use Rattle.jh_heap.proofs.Finishings.{any_missing}
-use Rattle.jh_heap.proofs.finishing.some_missing.Goals as goal
-
-pub returns : goal.returns
-returns c = c.any_is_missing.ensures ∙ sym (any_missing c.args.given.now)

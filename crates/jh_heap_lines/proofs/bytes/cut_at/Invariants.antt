@@ -1,7 +1,0 @@
-use Rattle.std.proofs.Common.{◌≡◌, take, drop}
-use Rattle.jh_heap_lines.specs.Bytes.{cut}
-use Rattle.jh_heap_lines.proofs.Cuts.{behind_more}
-use Rattle.jh_heap_lines.proofs.bytes.cut_at.Given as goal
-
-abbrev pub invariant-loop-place : goal.invariant-loop-place
-invariant-loop-place l = cut l.byte l.bytes ≡ behind_more (take l.place l.bytes) (cut l.byte (drop l.place l.bytes))

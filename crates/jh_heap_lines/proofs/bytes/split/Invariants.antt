@@ -1,9 +1,0 @@
-use Rattle.std.proofs.Common.{◌≡◌, ◌++◌, map, length}
-use Rattle.jh_heap_lines.specs.Bytes.{split}
-use Rattle.jh_heap_lines.proofs.bytes.split.Given as goal
-
-abbrev pub invariant-loop-found : goal.invariant-loop-found
-invariant-loop-found l = map (λ part. part.now) l.parts.items ++ split l.byte l.rest ≡ split l.byte l.bytes
-
-abbrev pub decreases-loop-found : goal.decreases-loop-found
-decreases-loop-found l = length l.rest

@@ -1,9 +1,0 @@
-//! The lines of a heap text.
-#![tactic(auto)]
-
-mod bytes;
-mod lines;
-mod numbers;
-
-pub use bytes::split;
-pub use lines::{Line, Value, line_of};

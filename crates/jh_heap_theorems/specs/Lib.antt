@@ -1,0 +1,2 @@
+pub mod program_fits
+pub mod round_trip

@@ -1,6 +1,0 @@
-use Rattle.std.proofs.Common.{◌≡◌, ◌++◌, drop}
-use Rattle.jh_heap.specs.Held.{texts_in}
-use Rattle.jh_holders.proofs.classes.all_texts.Given as goal
-
-abbrev pub invariant-loop-class : goal.invariant-loop-class
-invariant-loop-class l = texts_in l.made.items ++ drop l.class-index l.fn.classes ≡ l.fn.classes

@@ -1,9 +1,0 @@
-use Rattle.jh_table.specs.Growth.{Grows}
-use Rattle.jh_homes.proofs.HomeSteps.{AreHomesBelow}
-use Rattle.jh_homes.proofs.homes.homes_of.Given as goal
-
-abbrev pub invariant-loop-number : goal.invariant-loop-number
-invariant-loop-number l = record {
-  names : Grows l.initial.names l.names;
-  homes : AreHomesBelow l.fn.table.pools.names l.names l.number l.made.items;
-}

@@ -1,6 +1,0 @@
-//! The operators that stand between the operands of a formula, and how loosely each binds.
-#![tactic(auto)]
-
-mod infix;
-
-pub use infix::operator;

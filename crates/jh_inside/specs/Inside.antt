@@ -1,9 +1,0 @@
--- What a heap text spells is of the objects from 0 to the greatest.
-use Rattle.std.specs.Prelude.{◌≡◌, ℕ, List}
-use Rattle.jh_runs.specs.Heaps.{Heap, Args}
-use Rattle.jh_cells.specs.Inside.{HeapIsInside, ArgsAreInside}
-use Rattle.jh_heap.specs.Outlines.{Outline}
-use Rattle.jh_heap.specs.Reading.{reading, read}
-
-abbrev pub ReadIsInside : Type 0
-ReadIsInside = (o : Outline) (bytes : List ℕ) (h : Heap) (args : Args) → reading o bytes ≡ read h args → HeapIsInside h × ArgsAreInside h.greatest args

@@ -1,0 +1,2 @@
+pub mod derivations
+pub use Rattle.jh_refutation_proofs.specs.jh_search as jh_search

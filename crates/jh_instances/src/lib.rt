@@ -1,6 +1,0 @@
-//! Instances of the facts of a sequent, and how many there can be: definitions, and their laws.
-#![tactic(auto)]
-
-mod laws;
-
-pub use laws::{clashing_instances_give_valid, made_at_most_counted, made_follows, made_is_local};

@@ -1,7 +1,0 @@
-use Rattle.std.proofs.Common.{◌≡◌, [], drop}
-use Rattle.jh_interp.specs.Interps.{first_of, sets_of}
-use Rattle.jh_interp.proofs.interp.first_sets.Given as goal
-
--- the first entry is among those that are left
-abbrev pub invariant-loop-entry : goal.invariant-loop-entry
-invariant-loop-entry l = first_of [] (sets_of l.entries) l.name ≡ first_of [] (sets_of (drop l.entry-index l.entries)) l.name

@@ -1,9 +1,0 @@
-//! Which hypotheses of a sequent its query keeps, over the nodes of a table.
-#![tactic(auto)]
-
-mod choosing;
-mod labels;
-mod near;
-mod reached;
-
-pub use choosing::kept_facts;

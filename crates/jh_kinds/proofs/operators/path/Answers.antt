@@ -1,9 +1,0 @@
-use Rattle.jh_ast.specs.Bare.{form_tree}
-use Rattle.jh_name.specs.declared.place.Kind.TheVariants as k
-use Rattle.jh_rules.specs.Faults.{both}
-use Rattle.jh_kinds.specs.Parts as parts
-use Rattle.jh_kinds.specs.declared.operators.Wanted.TheVariants as w
-use Rattle.jh_kinds.proofs.operators.path.Goals as goal
-
-pub returns : goal.returns
-returns c = λ i j m h x y. c.instead.ensures (both i (parts.two w.Obj w.Obj (form_tree c.args.form.now) j m k.Bool)) (c.both.ensures _ _ h (c.two-ends.ensures j m x y))

@@ -1,6 +1,0 @@
-use Rattle.jh_kinds.proofs.Others.{not-read}
-use Rattle.jh_kinds.proofs.shapes.read_word.Goals as goal
-
--- src/shapes.rt
-pub returns-in_default : goal.returns-in_default
-returns-in_default c = not-read c.args.text.now c.args.form.now.place c.args.form.now.body c.in_default.not-Member

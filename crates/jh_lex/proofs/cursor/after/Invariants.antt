@@ -1,6 +1,0 @@
-use Rattle.std.proofs.Common.{◌≡◌, take}
-use Rattle.jh_lex.specs.Places.{after}
-use Rattle.jh_lex.proofs.cursor.after.Given as goal
-
-abbrev pub invariant-loop-c : goal.invariant-loop-c
-invariant-loop-c l = l.at ≡ after l.fn.place (take l.c-index l.text)

@@ -1,6 +1,0 @@
-use Rattle.std.proofs.Common.{◌≡◌, drop}
-use Rattle.jh_lex.specs.Symbols.{find_text}
-use Rattle.jh_lex.proofs.kind.find_text.Given as goal
-
-abbrev pub invariant-loop-symbol : goal.invariant-loop-symbol
-invariant-loop-symbol l = find_text (drop l.symbol-index l.table) l.text ≡ find_text l.table l.text

@@ -1,6 +1,0 @@
-use Rattle.std.proofs.Common.{◌≡◌, drop}
-use Rattle.jh_lex.specs.Symbols.{begins_with}
-use Rattle.jh_lex.proofs.lexeme.begins_with.Given as goal
-
-abbrev pub invariant-loop-i : goal.invariant-loop-i
-invariant-loop-i l = begins_with l.front l.text ≡ begins_with (drop l.i l.front) (drop l.i l.text)

@@ -1,0 +1,12 @@
+use Rattle.std.proofs.Common.{sym}
+use Rattle.std.proofs.lemmas.Bool.{ne_eqb}
+use Rattle.jh_lex.specs.lexer.Texts.{LexemeStep, CodeStep}
+use Rattle.jh_lex.specs.declared.lexer.mode.Mode.TheVariants.{Code}
+use Rattle.jh_lex.proofs.lexer.Reading.{step_weaker, code_lexeme}
+use Rattle.jh_lex.proofs.lexer.code.code_step.Goals as goal
+
+pub returns-clause-reads : goal.returns-clause-reads
+returns-clause-reads c =
+    let p = c.args.at.place in
+    let text = c.args.at.rest.now in
+    step_weaker (LexemeStep Code) CodeStep p text _ _ _ (λ s. code_lexeme p text s c.requires (sym c.if-is_space.ensures) (ne_eqb _ 47 c.if-first-eq47.false)) c.lexeme.ensures.reads

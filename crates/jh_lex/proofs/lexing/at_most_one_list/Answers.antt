@@ -1,5 +1,0 @@
-use Rattle.jh_lex.proofs.Unique.{one_list}
-use Rattle.jh_lex.proofs.lexing.at_most_one_list.Goals as goal
-
-pub returns : goal.returns
-returns c = one_list

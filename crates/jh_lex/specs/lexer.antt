@@ -1,0 +1,13 @@
+pub mod Characters
+pub mod Ends
+pub mod Lexemes
+pub mod Lexes
+pub mod Lengths
+pub mod Modes
+pub mod Numbers
+pub mod Places
+pub mod Reports
+pub mod Rising
+pub mod Shapes
+pub mod Symbols
+pub mod Texts

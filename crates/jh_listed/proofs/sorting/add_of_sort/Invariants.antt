@@ -1,9 +1,0 @@
-use Rattle.std.proofs.Common.{◌≡◌, drop, nat_eq}
-use Rattle.indexmap.specs.IndexSet.{insert_all}
-use Rattle.jh_table.specs.Nodes.{nodes}
-use Rattle.jh_listed.specs.Sorting.{of_sort}
-use Rattle.jh_listed.proofs.sorting.add_of_sort.Given as goal
-
--- with what is left the list comes to that with all of the sort
-abbrev pub invariant-loop-node : goal.invariant-loop-node
-invariant-loop-node l = insert_all nat_eq l.list.keys (of_sort (nodes l.table) l.sort (drop l.node-index l.names)) ≡ insert_all nat_eq l.initial.list.keys (of_sort (nodes l.table) l.sort l.names)

@@ -1,9 +1,0 @@
-//! The names of a query as lists of nodes, one for each sort.
-#![tactic(auto)]
-
-mod listed;
-mod listing;
-mod sorting;
-
-pub use listed::Listed;
-pub use listing::names_of;

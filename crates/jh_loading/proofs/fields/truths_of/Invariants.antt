@@ -1,8 +1,0 @@
-use Rattle.std.proofs.Common.{◌≡◌, ◌++◌, Some, drop, map}
-use Rattle.jh_cells.specs.declared.cells.Cell.{Cell}
-use Rattle.jh_cells.specs.Cells.{cell_in}
-use Rattle.jh_runs.specs.Heaps.{truth_in}
-use Rattle.jh_loading.proofs.fields.truths_of.Given as goal
-
-abbrev pub invariant-loop-cell : goal.invariant-loop-cell
-invariant-loop-cell l = l.made.items ++ map (λ (c : Cell). truth_in (Some (cell_in c))) (drop l.cell-index l.fn.cells) ≡ map (λ (c : Cell). truth_in (Some (cell_in c))) l.fn.cells

@@ -1,9 +1,0 @@
-use Rattle.std.proofs.Common.{◌≡◌, ◌++◌, List, drop, filter, map}
-use Rattle.jh_runs.specs.Code.{Text}
-use Rattle.jh_runs.specs.State.{named}
-use Rattle.jh_memory.specs.Held.{state_of}
-use Rattle.jh_loading.specs.Places.{AreNumbers}
-use Rattle.jh_loading.proofs.unloading.classes.Given as goal
-
-abbrev pub invariant-loop-place : goal.invariant-loop-place
-invariant-loop-place l = (cs : List Text) → AreNumbers l.fn.memory.names l.fn.numbers cs → l.made.items ++ map (λ c. filter ((state_of l.fn.memory).set (named c)) l.fn.objects) (drop l.place cs) ≡ map (λ c. filter ((state_of l.fn.memory).set (named c)) l.fn.objects) cs

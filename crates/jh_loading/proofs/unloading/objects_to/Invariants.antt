@@ -1,6 +1,0 @@
-use Rattle.std.proofs.Common.{◌≡◌}
-use Rattle.jh_runs.specs.Objects.{below}
-use Rattle.jh_loading.proofs.unloading.objects_to.Given as goal
-
-abbrev pub invariant-loop-object : goal.invariant-loop-object
-invariant-loop-object l = l.made.items ≡ below l.object

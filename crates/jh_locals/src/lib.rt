@@ -1,6 +1,0 @@
-//! Parameters and locals in a memory: saved, cleared, given and put back.
-#![tactic(auto)]
-
-mod locals;
-
-pub use locals::{Saved, clear, put_args, put_this, restore, save};

@@ -1,0 +1,5 @@
+pub mod Reached
+pub mod Histories
+pub mod Sure
+pub mod MethodContracts
+pub mod Laws

@@ -1,0 +1,5 @@
+//! Valid formulas make programs sound.
+
+mod laws;
+
+pub use laws::valid_makes_sound;

@@ -1,0 +1,3 @@
+pub mod code
+pub mod entry_state
+pub mod numbering

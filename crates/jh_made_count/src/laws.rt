@@ -1,6 +1,0 @@
-ghost use Rattle.jh_made_count.specs.Laws.{MadeOwesFew};
-
-/// No method of a program that a made source spells has more than 2,000 sequents. It is a law, and does nothing.
-pub fn made_owes_few()
-    ensures { MadeOwesFew }
-{}

@@ -1,6 +1,0 @@
-//! A program that a made source spells breaks no rule.
-#![tactic(auto)]
-
-mod laws;
-
-pub use laws::{made_is_acyclic, made_is_typed};

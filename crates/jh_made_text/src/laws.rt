@@ -1,6 +1,0 @@
-ghost use Rattle.jh_made_text.specs.Laws.{MadeIsCut};
-
-/// A made source is cut into tokens of these kinds. It is a law, and does nothing.
-pub fn made_is_cut()
-    ensures { MadeIsCut }
-{}

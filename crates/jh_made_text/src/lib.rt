@@ -1,6 +1,0 @@
-//! How the text of a made source is cut into tokens.
-#![tactic(auto)]
-
-mod laws;
-
-pub use laws::made_is_cut;

@@ -1,6 +1,0 @@
-ghost use Rattle.jh_made_tree.specs.Laws.{MadeIsSpelled};
-
-/// The tokens of a made source spell a made program. It is a law, and does nothing.
-pub fn made_is_spelled()
-    ensures { MadeIsSpelled }
-{}

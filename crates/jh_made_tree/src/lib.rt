@@ -1,6 +1,0 @@
-//! The tokens of a made source spell a program.
-#![tactic(auto)]
-
-mod laws;
-
-pub use laws::made_is_spelled;

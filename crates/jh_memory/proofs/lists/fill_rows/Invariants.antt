@@ -1,8 +1,0 @@
-use Rattle.std.proofs.Common.{◌≡◌, ◌++◌, ◌-◌, [], map, length, replicate}
-use Rattle.jh_memory.specs.Cells.{items_of}
-use Rattle.jh_memory.proofs.lists.fill_rows.Given as goal
-
-abbrev pub invariant-loop-place : goal.invariant-loop-place
-invariant-loop-place l =
-    (length l.rows.items ≡ l._place) ×
-    (map items_of l.rows.items ≡ map items_of l.initial.rows.items ++ replicate (l._place - length l.initial.rows.items) [])

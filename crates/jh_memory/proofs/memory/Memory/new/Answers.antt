@@ -1,8 +1,0 @@
-use Rattle.std.proofs.Common.{ap, ◌∙◌}
-use Rattle.jh_memory.specs.Held.{state_in}
-use Rattle.jh_memory.proofs.States.{nothing_there}
-use Rattle.jh_memory.proofs.memory.Memory.new.Goals as goal
-
--- src/memory.rt
-pub returns-clause-state : goal.returns-clause-state
-returns-clause-state c = ap (λ cells. state_in c.args.names.now c.args.last cells) c.loop-name.invariant ∙ nothing_there c.args.names.now c.args.last c.loop-name._name

@@ -1,8 +1,0 @@
-use Rattle.std.proofs.Common.{subst}
-use Rattle.jh_memory.specs.Held.{AreApart}
-use Rattle.jh_memory.proofs.Apart.{are_apart}
-use Rattle.jh_memory.proofs.names.Names.len.Goals as goal
-
--- src/names.rt:26:5
-pub returns-clause-apart : goal.returns-clause-apart
-returns-clause-apart c = subst AreApart c.self.view_is (are_apart c.self.inside.names.keys c.len.ensures.unique)

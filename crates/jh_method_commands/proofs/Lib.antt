@@ -1,0 +1,1 @@
+pub use Rattle.jh_call_commands.proofs.of_jh_command_statements as of_jh_command_statements

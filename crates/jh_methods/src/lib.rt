@@ -1,9 +1,0 @@
-//! The guarded command of a method of a source, boxed.
-#![tactic(auto)]
-
-mod named;
-mod outlined;
-mod source;
-
-pub use named::method_name;
-pub use source::of_method;

@@ -1,5 +1,0 @@
-use Rattle.jh_models.proofs.Models.{model-propagated}
-use Rattle.jh_models.proofs.laws.models_hold_propagated.Goals as goal
-
-pub returns : goal.returns
-returns c = λ is ls l h m g held. model-propagated is m g ls held l h

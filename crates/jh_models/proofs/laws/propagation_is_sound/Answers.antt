@@ -1,5 +1,0 @@
-use Rattle.jh_models.proofs.Propagation.{propagated-met}
-use Rattle.jh_models.proofs.laws.propagation_is_sound.Goals as goal
-
-pub returns : goal.returns
-returns c = λ is ls l h s made met. propagated-met is ls s made met l h

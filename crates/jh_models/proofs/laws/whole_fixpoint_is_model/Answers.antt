@@ -1,5 +1,0 @@
-use Rattle.jh_models.proofs.Fixing.{whole-model}
-use Rattle.jh_models.proofs.laws.whole_fixpoint_is_model.Goals as goal
-
-pub returns : goal.returns
-returns c = whole-model

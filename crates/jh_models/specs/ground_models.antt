@@ -1,0 +1,10 @@
+pub mod Atoms
+pub mod Truths
+pub mod GroundModel
+pub mod Clashes
+pub mod Fixpoints
+pub mod Explanations
+pub mod Branches
+pub mod Budget
+pub mod Making
+pub mod Laws

@@ -1,6 +1,0 @@
-//! What formulas see in a run: the state now, and that at the method's entry.
-#![tactic(auto)]
-
-mod moment;
-
-pub use moment::{Home, Moment};

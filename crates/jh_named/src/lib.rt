@@ -1,9 +1,0 @@
-//! The names that a query has for the parts of formulas, gathered from the nodes of a table.
-#![tactic(auto)]
-
-mod found;
-mod gathering;
-mod kinds;
-
-pub use found::Found;
-pub use gathering::gather;

@@ -1,8 +1,0 @@
-//! The formulas of a contract at a call: each name becomes the one that stands for it there.
-#![tactic(auto)]
-
-mod calling;
-mod renaming;
-
-pub use calling::{Calling, is_among};
-pub use renaming::at_call;

@@ -1,6 +1,0 @@
-use Rattle.std.proofs.Common.{◌≡◌, drop}
-use Rattle.jh_nest.specs.Nesting.{leads_on}
-use Rattle.jh_nest.proofs.nesting.leads_on.Given as goal
-
-abbrev pub invariant-loop-at : goal.invariant-loop-at
-invariant-loop-at l = leads_on (drop l.at l.tokens) ≡ leads_on (drop l.from l.tokens)

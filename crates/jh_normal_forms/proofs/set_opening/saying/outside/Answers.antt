@@ -1,0 +1,28 @@
+use Rattle.std.proofs.Common.{◌≡◌, ap, ◌∙◌, Some, slice_get}
+use Rattle.std.proofs.lemmas.Result.{IfOk-weaker}
+use Rattle.jh_form.specs.Tree.{of_object, of_set, of_truth}
+use Rattle.jh_form.specs.Tree as t
+use Rattle.jh_arena.specs.table.Entries.{the_set, the_truth}
+use Rattle.jh_arena.specs.table.Nodes.{nodes}
+use Rattle.jh_normal_forms.specs.set_opening.SetsOpened.{body}
+use Rattle.jh_normal_forms.proofs.set_opening.Arms.{truth-there, truth-at}
+use Rattle.jh_normal_forms.proofs.set_opening.saying.outside.Goals as goal
+
+pub negation-requires : goal.negation-requires
+negation-requires c = record { a = truth-there (slice_get (nodes c.body.new.table) c.in_ok-formula.formula) _ c.in_ok-formula.ensures.node }
+
+pub comprehension-requires : goal.comprehension-requires
+comprehension-requires c = record { a = truth-there (slice_get (nodes c.negation.new.table) c.in_ok-negated.negated) _ c.in_ok-negated.ensures.node }
+
+pub returns-clause-node : goal.returns-clause-node
+returns-clause-node c =
+    let us = nodes c.negation.new.table in
+    let p = body (the_set (slice_get (nodes c.args.table.now) c.args.set)) in
+    let same : the_truth (slice_get us c.in_ok-negated.negated) ≡ t.negation p =
+    truth-at (slice_get us c.in_ok-negated.negated) _ c.in_ok-negated.ensures.node ∙ ap (λ f. t.negation f) (truth-at (slice_get (nodes c.body.new.table) c.in_ok-formula.formula) p c.in_ok-formula.ensures.node) in
+    IfOk-weaker
+    c.comprehension.result
+    (λ made. slice_get (nodes c.comprehension.new.table) made ≡ Some (of_set (t.compr (the_truth (slice_get us c.in_ok-negated.negated)))))
+    (λ made. slice_get (nodes c.comprehension.new.table) made ≡ Some (of_set (t.compr (t.negation p))))
+    (λ made at. at ∙ ap (λ f. Some (of_set (t.compr f))) same)
+    c.comprehension.ensures.node

@@ -1,6 +1,0 @@
-//! Numbers of the members of classes, by the number of the class and the own name of the member.
-#![tactic(auto)]
-
-mod numbers;
-
-pub use numbers::Numbers;

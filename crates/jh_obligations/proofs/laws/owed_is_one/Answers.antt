@@ -1,6 +1,0 @@
-use Rattle.jh_obligations.proofs.Unique.{one-owed}
-use Rattle.jh_obligations.proofs.laws.owed_is_one.Goals as goal
-
--- src/laws.rt
-pub returns : goal.returns
-returns c = one-owed

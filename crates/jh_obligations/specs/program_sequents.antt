@@ -1,0 +1,5 @@
+pub mod Faults
+pub mod Owing
+pub mod Owed
+pub mod Sources
+pub mod Laws

@@ -1,6 +1,0 @@
-//! Definitions opened each once, in an order in which each stands behind what it reads.
-#![tactic(auto)]
-
-mod opening;
-
-pub use opening::{Definition, opened};

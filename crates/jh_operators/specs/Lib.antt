@@ -1,0 +1,2 @@
+pub mod lookahead
+pub mod operators

@@ -1,0 +1,5 @@
+mod Aligning
+mod Framings
+pub mod Outlining
+mod Standing
+pub mod Telling

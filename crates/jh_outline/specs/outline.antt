@@ -1,0 +1,4 @@
+pub mod Drafts
+pub mod Framing
+pub mod Listing
+pub mod Rows

@@ -1,6 +1,0 @@
-//! That a test of free names is decided by the free names that are parts of a tree.
-#![tactic(auto)]
-
-mod laws;
-
-pub use laws::free_names_decide;

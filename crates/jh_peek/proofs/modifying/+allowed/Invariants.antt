@@ -1,5 +1,0 @@
-use Rattle.std.proofs.Common.{length}
-use Rattle.jh_peek.proofs.modifying.+allowed.Given as goal
-
-abbrev pub decreases-allowed : goal.decreases-allowed
-decreases-allowed l = length l.symbols.now

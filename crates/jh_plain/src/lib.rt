@@ -1,6 +1,0 @@
-//! That instances of facts in negation normal form are And and Or over atoms and negated atoms.
-#![tactic(auto)]
-
-mod laws;
-
-pub use laws::{entries_are_plain, instances_are_literals, normal_is_plain};

@@ -1,5 +1,0 @@
-use Rattle.jh_prove.proofs.Rights.{one-verdict}
-use Rattle.jh_prove.proofs.laws.one_verdict_is_right.Goals as goal
-
-pub returns : goal.returns
-returns c = one-verdict

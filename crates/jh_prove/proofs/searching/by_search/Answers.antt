@@ -1,8 +1,0 @@
-use Rattle.jh_approx.specs.Regions.{unlabelled}
-use Rattle.jh_local_form.specs.LocalOf.{local_of}
-use Rattle.jh_prove.proofs.searching.by_search.Goals as goal
-
-pub search_instances-requires-clause-form : goal.search_instances-requires-clause-form
-search_instances-requires-clause-form c =
-    let s = c.requires.sequent.0 in
-    (local_of (unlabelled s), c.in_ok-form.ensures.local (unlabelled s) c.requires.sequent.1)

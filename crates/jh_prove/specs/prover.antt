@@ -1,0 +1,5 @@
+pub mod Answers
+pub mod Right
+pub mod Laws
+pub mod Memos
+pub mod Unlabelled

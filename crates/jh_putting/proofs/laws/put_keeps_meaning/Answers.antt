@@ -1,5 +1,0 @@
-use Rattle.jh_putting.proofs.Puttings.{put-means}
-use Rattle.jh_putting.proofs.laws.put_keeps_meaning.Goals as goal
-
-pub returns : goal.returns
-returns c = λ a w m e. put-means w m a e

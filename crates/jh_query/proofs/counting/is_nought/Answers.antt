@@ -1,6 +1,0 @@
-use Rattle.std.proofs.Common.{ap, ◌∙◌, not}
-use Rattle.jh_query.proofs.Digits.{nought}
-use Rattle.jh_query.proofs.counting.is_nought.Goals as goal
-
-pub returns : goal.returns
-returns c = ap not c.has_one.ensures ∙ nought c.args.digits.now

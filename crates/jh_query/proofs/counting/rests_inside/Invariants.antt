@@ -1,8 +1,0 @@
-use Rattle.std.proofs.Common.{◌≡◌, if◌then◌else◌, map, get_or}
-use Rattle.jh_query.specs.Bare.{set_tree}
-use Rattle.jh_query.specs.Sizing.{spelled}
-use Rattle.jh_query.specs.Truth.{rest_lies, sum_below}
-use Rattle.jh_query.proofs.counting.rests_inside.Given as goal
-
-abbrev pub invariant-loop-region : goal.invariant-loop-region
-invariant-loop-region l = l.sum ≡ sum_below l.region (λ r. if rest_lies r (set_tree l.set) then get_or (map spelled l.rest) r 0 else 0)

@@ -1,5 +1,0 @@
-use Rattle.jh_query.proofs.Renamings.{fits-same, true-same}
-use Rattle.jh_query.proofs.laws.classes_may_be_renamed.Goals as goal
-
-pub returns : goal.returns
-returns c = record { same = true-same; fit = fits-same }

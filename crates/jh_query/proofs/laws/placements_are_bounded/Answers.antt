@@ -1,5 +1,0 @@
-use Rattle.jh_query.proofs.Bounds.{placed-bound}
-use Rattle.jh_query.proofs.laws.placements_are_bounded.Goals as goal
-
-pub returns : goal.returns
-returns c = placed-bound

@@ -1,5 +1,0 @@
-use Rattle.jh_query.proofs.Equalities.{same_atom-is}
-use Rattle.jh_query.proofs.laws.same_atoms_are_equal.Goals as goal
-
-pub returns : goal.returns
-returns c = same_atom-is

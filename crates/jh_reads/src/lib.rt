@@ -1,8 +1,0 @@
-//! The fields, statics and variables that a formula outside methods reads.
-#![tactic(auto)]
-
-mod naming;
-mod reading;
-
-pub use naming::{Read, Reading};
-pub use reading::add_reads;

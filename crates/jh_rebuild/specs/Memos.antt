@@ -1,9 +1,0 @@
--- What a memo holds.
-use Rattle.std.specs.Prelude.{ℕ, Option}
-use Rattle.indexmap.specs.IndexMap.{IndexMap, get}
-use Rattle.jh_rebuild.specs.declared.memo.Key.{Key}
-use Rattle.jh_rebuild.specs.contracts.memo.KeyPartialEq.TheImpl.{ghosts}
-
--- the answer for a key
-abbrev pub found : {S : Type 0} → IndexMap Key ℕ S → Key → Option ℕ
-found m k = get ghosts.eq m k

@@ -1,7 +1,0 @@
-use Rattle.std.proofs.Common.{◌≡◌, true, drop}
-use Rattle.jh_recall.specs.Now.{steps_now}
-use Rattle.jh_recall.proofs.recalling.+step_recalls.Given as goal
-
--- what is left says of all
-abbrev pub invariant-steps_recall-loop-step : goal.invariant-steps_recall-loop-step
-invariant-steps_recall-loop-step l = steps_now l.table (drop l.step-index l.steps) ≡ true → steps_now l.table l.steps ≡ true

@@ -1,7 +1,0 @@
-ghost use Rattle.jh_recall.specs.Now.{NothingRecalled};
-
-/// Steps whose formulas hang on the state now alone are the same statements where the state at entry isn't kept. It is a law, and
-/// does nothing.
-pub fn steps_that_recall_nothing()
-    ensures { NothingRecalled }
-{}

@@ -1,8 +1,0 @@
-//! Whether the formulas of steps may read the state at their method's entry.
-#![tactic(auto)]
-
-mod laws;
-mod recalling;
-
-pub use laws::steps_that_recall_nothing;
-pub use recalling::steps_recall;

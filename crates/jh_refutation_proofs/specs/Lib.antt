@@ -1,0 +1,1 @@
+pub use Rattle.jh_search.specs as jh_search

@@ -1,0 +1,5 @@
+//! All that a run needs of a program.
+
+mod ready;
+
+pub use ready::{Ready, ready_of};

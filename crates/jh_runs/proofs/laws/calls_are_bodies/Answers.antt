@@ -1,5 +1,0 @@
-use Rattle.jh_runs.proofs.Bounds.{calls-unfold}
-use Rattle.jh_runs.proofs.laws.calls_are_bodies.Goals as goal
-
-pub returns : goal.returns
-returns c p = calls-unfold p

@@ -1,5 +1,0 @@
-use Rattle.jh_runs.proofs.Bounds.{loops-unfold}
-use Rattle.jh_runs.proofs.laws.loops_are_turns.Goals as goal
-
-pub returns : goal.returns
-returns c p = loops-unfold p

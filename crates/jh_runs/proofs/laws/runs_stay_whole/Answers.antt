@@ -1,5 +1,0 @@
-use Rattle.jh_runs.proofs.Whole.{runs-stay-whole}
-use Rattle.jh_runs.proofs.laws.runs_stay_whole.Goals as goal
-
-pub returns : goal.returns
-returns c p = runs-stay-whole p

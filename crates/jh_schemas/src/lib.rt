@@ -1,8 +1,0 @@
-//! Formulas by schemas over three names, as nodes of a table.
-#![tactic(auto)]
-
-mod making;
-mod schema;
-
-pub use making::from_schema;
-pub use schema::{Named, NumberSchema, ObjectSchema, Schema, SetSchema, Slot, Slots};

@@ -1,0 +1,1 @@
+pub use Rattle.jh_wp.proofs.of_jh_boxed_operations as of_jh_boxed_operations

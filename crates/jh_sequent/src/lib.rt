@@ -1,6 +1,0 @@
-//! Sequents, as the splitting of a formula gives them and as provers take them.
-#![tactic(auto)]
-
-mod sequent;
-
-pub use sequent::{Hyp, Sequent, sequents_can_be_shared};

@@ -1,9 +1,0 @@
--- What opening sets keeps.
-use Rattle.std.specs.Prelude.{◌≡◌, ℕ, List}
-use Rattle.jh_tree.specs.Tree.{FormulaTree}
-use Rattle.jh_tree.specs.Meaning.{Interp, truth}
-use Rattle.jh_set_opening.specs.SetsOpened.{sets_opened}
-
--- A formula with its sets opened means what it means.
-abbrev pub OpeningKeepsMeaning : Type 0
-OpeningKeepsMeaning = (a : FormulaTree) (m : Interp) (e : List ℕ) → truth (sets_opened a) m e ≡ truth a m e

@@ -1,7 +1,0 @@
-use Rattle.jh_tree.specs.Tree as tree
-use Rattle.jh_runs.specs.State.{named}
-use Rattle.jh_changes.proofs.AddedSteps.{on-ok}
-use Rattle.jh_simple.proofs.creating.push_joins.Goals as goal
-
-pub returns-clause-commands : goal.returns-clause-commands
-returns-clause-commands c = on-ok c.assign_name.result (λ h a e. h (tree.of_set (tree.union (tree.free_set (named c.args.text.now)) (tree.single a))) (c.in_ok-set.ensures.node a e)) c.assign_name.ensures

@@ -1,7 +1,0 @@
-use Rattle.std.proofs.Common.{◌∙◌}
-use Rattle.jh_simple.proofs.CheckedSteps.{if-ok}
-use Rattle.jh_simple.proofs.LeftSteps.{name-there}
-use Rattle.jh_simple.proofs.lefts.name_of.Goals as goal
-
-pub returns : goal.returns
-returns c = if-ok c.copy.result (λ made e. e ∙ name-there c.args.table.now.pools.names c.args.number c.name_at.result.now c.name_at.ensures) c.copy.ensures

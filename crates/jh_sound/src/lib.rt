@@ -1,6 +1,0 @@
-//! A source that breaks no type rule meets the premises of the law that valid formulas make programs sound.
-#![tactic(auto)]
-
-mod laws;
-
-pub use laws::{accepted_is_sound, accepted_meets_premises};

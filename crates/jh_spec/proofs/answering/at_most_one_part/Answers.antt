@@ -1,5 +1,0 @@
-use Rattle.jh_spec.proofs.PartComplete.{at_most_one}
-use Rattle.jh_spec.proofs.answering.at_most_one_part.Goals as goal
-
-pub returns : goal.returns
-returns c = at_most_one

@@ -1,4 +1,0 @@
-use Rattle.jh_spec.proofs.formulas.+names.Given as goal
-
-abbrev pub decreases-names : goal.decreases-names
-decreases-names l = l.room

@@ -1,6 +1,0 @@
-use Rattle.jh_spelled.proofs.Members.{has-shape}
-use Rattle.jh_spelled.proofs.Places.{is-placed}
-use Rattle.jh_spelled.proofs.laws.spelled_is_accepted.Goals as goal
-
-pub returns : goal.returns
-returns c = λ ts p shape rises spells fine. record { shape = has-shape ts p shape spells; placed = is-placed ts p rises spells; fine = fine }

@@ -1,6 +1,0 @@
-//! A program that a text spells has the shape of a source, and its names stand at places of their own.
-#![tactic(auto)]
-
-mod laws;
-
-pub use laws::{spelled_has_shape, spelled_is_accepted, spelled_is_placed, spelled_is_written};

@@ -1,6 +1,0 @@
-ghost use Rattle.jh_split.specs.Laws.{SplitIsExact};
-
-/// The sequents of a formula are all valid exactly where the formula is. It is a law, and does nothing.
-pub fn split_is_exact()
-    ensures { SplitIsExact }
-{}

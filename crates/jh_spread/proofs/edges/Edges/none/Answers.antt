@@ -1,6 +1,0 @@
-use Rattle.jh_spread.proofs.Edging.{none-in-empty}
-use Rattle.jh_spread.proofs.edges.Edges.none.Goals as goal
-
--- src/edges.rt
-pub returns-clause-none : goal.returns-clause-none
-returns-clause-none c = none-in-empty c.loop-thing.rows.items c.loop-thing.invariant.empty

@@ -1,8 +1,0 @@
-use Rattle.std.proofs.Common.{◌≡◌, [], ℕ, Some, length, slice_get}
-use Rattle.jh_spread.proofs.edges.Edges.none.Given as goal
-
-abbrev pub invariant-loop-thing : goal.invariant-loop-thing
-invariant-loop-thing l = record {
-  empty : (i : ℕ) (row : _) → slice_get l.rows.items i ≡ Some row → row.items ≡ [];
-  count : length l.rows.items ≡ l._thing;
-}

@@ -1,7 +1,0 @@
-use Rattle.std.proofs.Common.{◌≡◌, ◌++◌, map, drop}
-use Rattle.jh_ast.specs.Bare.{class_part}
-use Rattle.jh_state.specs.States.{class_sets}
-use Rattle.jh_state.proofs.listing.push_sets.Given as goal
-
-abbrev pub invariant-loop-number : goal.invariant-loop-number
-invariant-loop-number l = l.list.items ++ class_sets l.number (map class_part (drop l.number l.classes)) ≡ l.initial.list.items ++ class_sets 0 (map class_part l.classes)

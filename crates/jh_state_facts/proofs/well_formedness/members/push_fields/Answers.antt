@@ -1,0 +1,13 @@
+use Rattle.jh_arena.proofs.table.Listed.{extends-trans}
+use Rattle.jh_semantics.specs.WellFormed.{field_facts}
+use Rattle.jh_state_facts.specs.well_formedness.States.{member_in}
+use Rattle.jh_state_facts.proofs.well_formedness.FactSteps.{adds-next, at-place}
+use Rattle.jh_state_facts.proofs.well_formedness.members.push_fields.Goals as goal
+
+pub loop-place-preserved : goal.loop-place-preserved
+loop-place-preserved c = record {
+  grows = extends-trans c.args.table.now c.loop-place.table c.push_field.new.table c.loop-place.invariant.grows c.push_field.ensures.grows;
+  facts =
+      adds-next (field_facts c.args.classes.now) (member_in c.args.classes.now) c.args.members.now c.index-members-place.result c.loop-place.place c.loop-place.table c.push_field.new.table c.args.facts.now.items c.loop-place.facts.items c.push_field.new.facts.items
+      (at-place c.args.members.now c.index-members-place.result c.loop-place.place c.loop-place-test.true c.index-members-place.is) c.push_field.ensures.grows c.loop-place.invariant.facts c.in_ok-push_field.ensures.facts;
+}

@@ -1,0 +1,3 @@
+pub mod changes
+pub mod schemas
+pub mod well_formedness

@@ -1,5 +1,0 @@
-use Rattle.jh_steps.proofs.Trees.{closes-valid}
-use Rattle.jh_steps.proofs.laws.closing_shows_validity.Goals as goal
-
-pub returns : goal.returns
-returns c = closes-valid c.axioms_are_true.ensures

@@ -1,9 +1,0 @@
-//! The parser of statements.
-#![tactic(auto)]
-
-mod branches;
-mod simple;
-mod statements;
-
-pub use simple::{declared, typed};
-pub use statements::body;

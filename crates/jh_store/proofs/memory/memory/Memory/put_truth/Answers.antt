@@ -1,0 +1,15 @@
+use Rattle.std.proofs.Common.{◌≡◌, slice_set, subst}
+use Rattle.jh_name.specs.declared.naming.Name.{Name}
+use Rattle.jh_form.specs.Meaning.{a_truth}
+use Rattle.jh_form.specs.Assigned.{assigned}
+use Rattle.jh_store.specs.memory.Held.{Held, state_of, state_in, IsNamed}
+use Rattle.jh_store.proofs.memory.Writes as w
+use Rattle.jh_store.proofs.memory.memory.Memory.put_truth.Goals as goal
+
+-- src/memory.rt
+pub returns-clause-state : goal.returns-clause-state
+returns-clause-state c =
+    subst
+    (λ (m : Held). (x : Name) → IsNamed m c.args.name x → state_in c.self.inside.names.now c.self.inside.last (slice_set c.self.inside.slots.items c.args.name c.put_truth.new.self) ≡ assigned (state_of m) x (a_truth c.args.value))
+    c.self.view_is
+    (λ x at. w.truth_put (record { names = c.self.inside.names.now; last = c.self.inside.last; cells = c.self.inside.slots.items }) c.self.invariant c.args.name x at c.index_mut.result.now c.index_mut.ensures.value c.args.value c.put_truth.new.self c.put_truth.ensures)

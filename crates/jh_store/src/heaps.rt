@@ -1,0 +1,5 @@
+//! Heaps as lists.
+
+mod cells;
+
+pub use cells::{Args, Cell, Heap};

@@ -1,0 +1,3 @@
+pub mod declarations
+pub mod member_numbers
+pub mod scopes

@@ -1,5 +1,0 @@
-use Rattle.jh_table.proofs.Lists.{list-lacks}
-use Rattle.jh_table.proofs.listing.Arena.new_list.Goals as goal
-
-pub returns-in-None-clause-listed : goal.returns-in-None-clause-listed
-returns-in-None-clause-listed c = λ h. absurd (list-lacks c.args.shape c.in-None.ensures h)

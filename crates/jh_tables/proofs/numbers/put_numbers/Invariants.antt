@@ -1,7 +1,0 @@
-use Rattle.indexmap.specs.IndexMap.{get_by_text}
-use Rattle.jh_tables.proofs.Naming.{Numbers}
-use Rattle.jh_tables.proofs.numbers.put_numbers.Given as goal
-
--- what the table says is what the classes behind say
-abbrev pub invariant-loop-back : goal.invariant-loop-back
-invariant-loop-back l = Numbers (λ x. get_by_text l.table x) l.classes l.back

@@ -1,6 +1,0 @@
-use Rattle.indexmap.specs.IndexMap.{get_by_text}
-use Rattle.jh_tables.proofs.Stating.{first-put}
-use Rattle.jh_tables.proofs.states.put_first.Goals as goal
-
-pub returns : goal.returns
-returns c = first-put (λ x. get_by_text c.args.firsts.now x) (λ x. get_by_text c.put.new.table x) c.args.state c.args.text.now c.in_ok-put.ensures

@@ -1,8 +1,0 @@
-use Rattle.std.proofs.Common.{subst, map}
-use Rattle.jh_ast.specs.Bare.{class_part}
-use Rattle.jh_tables.specs.Filling.{Filled}
-use Rattle.jh_tables.proofs.Declaring.{declares}
-use Rattle.jh_tables.proofs.tables.lookups_of.Goals as goal
-
-pub returns : goal.returns
-returns c = declares c.fill.new.lookups c.args.program.now (subst (λ cs. Filled c.fill.new.lookups (map class_part cs)) c.items.ensures c.in_ok-fill.ensures)

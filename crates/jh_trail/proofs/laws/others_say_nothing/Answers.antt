@@ -1,5 +1,0 @@
-use Rattle.jh_trail.proofs.Connectives.{other-alone, other-beside}
-use Rattle.jh_trail.proofs.laws.others_say_nothing.Goals as goal
-
-pub returns : goal.returns
-returns c = record { alone = other-alone; beside = λ ls k l i none h. other-beside ls k i none l h }

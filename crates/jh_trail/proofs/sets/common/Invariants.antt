@@ -1,6 +1,0 @@
-use Rattle.std.proofs.Common.{take}
-use Rattle.jh_trail.specs.Looks.{AreCommon}
-use Rattle.jh_trail.proofs.sets.common.Given as goal
-
-abbrev pub invariant-loop-item : goal.invariant-loop-item
-invariant-loop-item l = AreCommon (take l.item-index l.list) l.other l.made.items

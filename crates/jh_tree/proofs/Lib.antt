@@ -1,9 +1,0 @@
-pub mod Steps
-pub mod ClosedSteps
-pub mod ClosedLemmas
-pub mod PassSteps
-pub mod Coincidences
-pub mod Names
-pub mod TruthExamples
-pub mod Numbers
-pub mod Universes

@@ -1,5 +1,0 @@
-use Rattle.jh_tree.proofs.Coincidences.{datum-agrees}
-use Rattle.jh_tree.proofs.laws.names_decide_meaning.Goals as goal
-
-pub returns : goal.returns
-returns c p m n both = datum-agrees p m n both

@@ -1,5 +1,0 @@
-use Rattle.jh_tree.proofs.Universes.{term_inside}
-use Rattle.jh_tree.proofs.laws.terms_stay_inside.Goals as goal
-
-pub returns : goal.returns
-returns c m inside a e objects = term_inside m inside e objects a

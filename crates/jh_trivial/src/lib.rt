@@ -1,8 +1,0 @@
-//! Sequents that are valid at sight.
-#![tactic(auto)]
-
-mod laws;
-mod sight;
-
-pub use laws::trivial_is_valid;
-pub use sight::{gives, is_evident, is_trivial};

@@ -1,4 +1,0 @@
-use Rattle.jh_type.proofs.classes.least_fault.Goals as goal
-
-pub returns : goal.returns
-returns c = c.in_ok-found.ensures c.in_ok-lookups.ensures

@@ -1,6 +1,0 @@
-use Rattle.jh_type.proofs.Others.{not-number}
-use Rattle.jh_type.proofs.defaults.is_zero_form.Goals as goal
-
--- src/defaults.rt
-pub returns-in_default : goal.returns-in_default
-returns-in_default c = not-number c.args.form.now.place c.args.form.now.body c.in_default.not-Number

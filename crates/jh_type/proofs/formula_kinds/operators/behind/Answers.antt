@@ -1,0 +1,8 @@
+use Rattle.jh_rules.specs.Faults.{right, both, second_of}
+use Rattle.jh_type.proofs.formula_kinds.operators.behind.Goals as goal
+
+pub returns-in-None : goal.returns-in-None
+returns-in-None c = λ j m h n. c.stop.ensures (both j m) (λ u. right (second_of u)) (c.both-found.ensures j m h n) c.in-None.is
+
+pub returns-in-Some : goal.returns-in-Some
+returns-in-Some c = λ j m h n. c.after.ensures (both j m) (λ u. right (second_of u)) _ (c.both-found.ensures j m h n) c.in-Some.is c.right.ensures

@@ -1,0 +1,4 @@
+pub mod Parts
+pub mod Defaults
+pub mod Wholes
+pub mod Refused

@@ -1,7 +1,0 @@
-use Rattle.jh_table.specs.Nodes.{nodes}
-use Rattle.jh_open.specs.Opening.{source_of}
-use Rattle.jh_unfold.proofs.Knowing.{known-is}
-use Rattle.jh_unfold.proofs.gathering.begin.Goals as goal
-
-pub returns : goal.returns
-returns c = known-is (source_of c.args.classes.now) (nodes c.opened.new.table) c.in_ok-meanings.meanings c.args.definitions.now c.requires.ordered c.in_ok-meanings.ensures.only c.in_ok-meanings.ensures.means c.in_ok-meanings.ensures.held

@@ -1,0 +1,2 @@
+pub mod unfolder
+pub mod visitor

@@ -1,0 +1,5 @@
+//! Formulas of a program with all definitions opened.
+#![tactic(auto)]
+
+pub mod unfolder;
+pub mod visitor;

@@ -1,6 +1,0 @@
-//! For each class of nodes the numbers of the nodes with a part in it, as classes are joined and taken apart.
-#![tactic(auto)]
-
-mod lists;
-
-pub use lists::{add_use, no_uses, pass_uses, take_uses, uses_of};

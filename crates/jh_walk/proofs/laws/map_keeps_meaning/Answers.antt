@@ -1,5 +1,0 @@
-use Rattle.jh_walk.proofs.Meanings.{datum-mapped}
-use Rattle.jh_walk.proofs.laws.map_keeps_meaning.Goals as goal
-
-pub returns : goal.returns
-returns c l m n view keeps = datum-mapped l m n view keeps

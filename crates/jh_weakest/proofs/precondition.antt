@@ -1,0 +1,3 @@
+mod Renames
+mod Rests
+mod WpSteps

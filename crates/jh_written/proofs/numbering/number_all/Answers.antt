@@ -1,6 +1,0 @@
-use Rattle.jh_written.proofs.Numbers.{numbers-keep}
-use Rattle.jh_written.proofs.numbering.number_all.Goals as goal
-
--- src/numbering.rt
-pub returns-clause-numbers : goal.returns-clause-numbers
-returns-clause-numbers c = numbers-keep c.number_list.new.keys.keys c.number_given.new.keys.keys c.in_ok-facts.ensures.keeps c.in_ok-list.list.items c.args.list.items c.in_ok-list.ensures.numbers
