@@ -7,7 +7,7 @@ ghost use Rattle.jh_files.specs.Reading.{Reads};
 use crate::{FileFault, Files, Sink, SinkFailed};
 use std::alloc::{AllocError, Global};
 use std::fs;
-use std::io::{Read, Write};
+use std::io::{ErrorKind, Read, Write};
 
 /// The files of the host, read through the runtime. They tell nothing of contents, and keep one count of
 /// faults for all names.
@@ -27,7 +27,7 @@ enum Reading {
     Broken,
 }
 
-/// Reads to the end, and stops where more than `most` bytes came.
+/// Reads to the end, and stops where more than `most` bytes came. What is interrupted is asked again.
 fn read_within<F: Read>(alloc: Global, file: &mut F, most: u64) -> Result<Reading, AllocError>
     ensures { IfOk result (Reads (F.remaining file.old) most) }
 {
@@ -36,6 +36,7 @@ fn read_within<F: Read>(alloc: Global, file: &mut F, most: u64) -> Result<Readin
     for _ in 0..u64::MAX {
         let count = match file.read(&mut piece) {
             Ok(count) => count,
+            Err(fault) if fault.kind() == ErrorKind::Interrupted => continue,
             Err(_) => return Ok(Reading::Broken),
         };
         if count == 0 {
