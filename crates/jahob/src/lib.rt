@@ -4,4 +4,4 @@
 mod top;
 
 pub use jh_reply::at_most_one_refusal;
-pub use top::jahob;
+pub use top::{jahob, say_no_memory};

@@ -2,7 +2,7 @@
 #![tactic(auto)]
 
 ghost use Rattle.std.specs.Prelude.{◌≡◌, ◌≢◌, ◌⊎◌, ℕ, List, Some, map, string_bytes};
-ghost use Rattle.jh_reply.specs.Causes.{Answered, Delivered, Exact, Fits, FitsWords, HaveNoFault, Takes, reply_due};
+ghost use Rattle.jh_reply.specs.Causes.{Answered, Delivered, Exact, Fits, FitsWords, HaveNoFault, Takes, due, files_seen, no_memory, number_of, reply_due, sink_seen};
 ghost use Rattle.jh_reply.specs.Made.{Sums};
 ghost use Rattle.jh_reply.specs.Run.{Runs};
 ghost use Rattle.jh_reply.specs.Verify.{Reports, Verifies};
@@ -12,7 +12,7 @@ ghost use Rattle.jh_words.specs.Usage.{IsRefusal};
 use jh_files::{Files, Sink, put_all};
 use jh_reply::jh_obligations::program_sequents::{owed_is_one, owed_is_sound, too_many_is_exact};
 use jh_reply::jh_prove::prover::{provable_is_proved, proved_is_valid};
-use jh_reply::{Reply, run_file, spelled_source_is_accepted, sum_source, verify_file};
+use jh_reply::{Reply, Status, run_file, spelled_source_is_accepted, sum_source, verify_file};
 use jh_words::{Job, WordsError, read};
 use std::alloc::Global;
 
@@ -28,7 +28,7 @@ fn reply_to_words(error: WordsError) -> Reply
 
 /// What the words and the files that they name come to.
 fn reply_to<F: Files>(alloc: Global, words: &[String], files: &mut F) -> Reply
-    ensures fits { Fits (map (λ word. string_bytes word) words.now) (record { holds = F.holds files.old; before = F.faults files.old; after = F.faults files.new }) result }
+    ensures fits { Fits (map (λ word. string_bytes word) words.now) (files_seen (F.holds files.old) (F.faults files.old) (F.faults files.new)) result }
     ensures held { (name : List ℕ) → F.holds files.new name ≡ F.holds files.old name }
 {
     match read(alloc, words) {
@@ -39,21 +39,21 @@ fn reply_to<F: Files>(alloc: Global, words: &[String], files: &mut F) -> Reply
     }
 }
 
-/// Writes a text, and answers the status that is due with it, or 5 where the sink fails.
-fn written<S: Sink>(sink: &mut S, text: &[u8], status: u8) -> u8
-    ensures { Takes (record { before = S.written sink.old; after = S.written sink.new; faults_before = S.faults sink.old; faults_after = S.faults sink.new }) text.now status result }
+/// Writes a text, and answers the number of the status that is due with it, or that of a sink that fails.
+fn written<S: Sink>(sink: &mut S, text: &[u8], status: Status) -> u8
+    ensures { Takes (sink_seen (S.written sink.old) (S.written sink.new) (S.faults sink.old) (S.faults sink.new)) text.now (number_of status) result }
 {
     match put_all(sink, text) {
-        Ok(()) => status,
-        Err(_) => 5,
+        Ok(()) => status.number(),
+        Err(_) => Status::Sink.number(),
     }
 }
 
 /// Writes what is due for a reply, and answers the status.
 fn deliver<O: Sink, E: Sink>(reply: &Reply, out: &mut O, err: &mut E) -> u8
     ensures { Delivered (reply_due reply.now)
-        (record { before = O.written out.old; after = O.written out.new; faults_before = O.faults out.old; faults_after = O.faults out.new })
-        (record { before = E.written err.old; after = E.written err.new; faults_before = E.faults err.old; faults_after = E.faults err.new })
+        (sink_seen (O.written out.old) (O.written out.new) (O.faults out.old) (O.faults out.new))
+        (sink_seen (E.written err.old) (E.written err.new) (E.faults err.old) (E.faults err.new))
         result }
 {
     if reply.is_on_out() {
@@ -61,6 +61,16 @@ fn deliver<O: Sink, E: Sink>(reply: &Reply, out: &mut O, err: &mut E) -> u8
     } else {
         written(err, reply.text(), reply.status())
     }
+}
+
+/// Says that memory ran out before there were words, and answers the exit status: 6, or 5 where that can't be written.
+pub fn say_no_memory<O: Sink, E: Sink>(out: &mut O, err: &mut E) -> u8
+    ensures { Delivered (due no_memory)
+        (sink_seen (O.written out.old) (O.written out.new) (O.faults out.old) (O.faults out.new))
+        (sink_seen (E.written err.old) (E.written err.new) (E.faults err.old) (E.faults err.new))
+        result }
+{
+    deliver(&Reply::NoMemory, out, err)
 }
 
 /// Does what the words of a command line say, and answers the exit status: 0 accepted, or the run returned, 1 rejected, 2
@@ -89,18 +99,18 @@ pub fn jahob<F: Files, O: Sink, E: Sink>(
 
     // Each answer has its cause, and the text that is due with it was written whole, or a front of it by a sink that failed.
     ensures cause { Answered (map (λ word. string_bytes word) words.now)
-        (record { holds = F.holds files.old; before = F.faults files.old; after = F.faults files.new })
-        (record { before = O.written out.old; after = O.written out.new; faults_before = O.faults out.old; faults_after = O.faults out.new })
-        (record { before = E.written err.old; after = E.written err.new; faults_before = E.faults err.old; faults_after = E.faults err.new })
+        (files_seen (F.holds files.old) (F.faults files.old) (F.faults files.new))
+        (sink_seen (O.written out.old) (O.written out.new) (O.faults out.old) (O.faults out.new))
+        (sink_seen (E.written err.old) (E.written err.new) (E.faults err.old) (E.faults err.new))
         result }
 
     // The same from the conditions to the answers.
-    ensures exact { Exact (map (λ word. string_bytes word) words.now) (record { holds = F.holds files.old; before = F.faults files.old; after = F.faults files.new }) result }
+    ensures exact { Exact (map (λ word. string_bytes word) words.now) (files_seen (F.holds files.old) (F.faults files.old) (F.faults files.new)) result }
 
     // With any status but 5 no put failed, also none that was tried again with success.
     ensures faults { result ≢ 5 → HaveNoFault
-        (record { before = O.written out.old; after = O.written out.new; faults_before = O.faults out.old; faults_after = O.faults out.new })
-        (record { before = E.written err.old; after = E.written err.new; faults_before = E.faults err.old; faults_after = E.faults err.new }) }
+        (sink_seen (O.written out.old) (O.written out.new) (O.faults out.old) (O.faults out.new))
+        (sink_seen (E.written err.old) (E.written err.new) (E.faults err.old) (E.faults err.new)) }
 
     // Want of memory never follows a byte on the first sink, and what the files hold stays.
     ensures memory { result ≡ 6 → O.written out.new ≡ O.written out.old }

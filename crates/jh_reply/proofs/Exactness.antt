@@ -10,7 +10,7 @@ use Rattle.jh_gen_laws.specs.jh_obligations.program_sequents.Sources.{OwesLittle
 use Rattle.jh_report.specs.jh_prove.prover.Laws.{ProvableIsProved}
 use Rattle.jh_report.specs.report.Report.{Reported, is_accepted}
 use Rattle.jh_reply.specs.Refusals.{Spells, RefusedAt, IsMistyped, IsCircular, IsCrowded}
-use Rattle.jh_reply.specs.Causes.{FilesSeen, SinkSeen, Finding, reported, summed, ran, unreturned, no_job, no_method, refused, mistyped, circular, crowded, file_failed, file_too_long, no_memory, IsRead_in, as_source, as_heap, Comes, due, unreturned_status, Takes, Delivered, Answered, IsExcused, IsWithoutFile, IsRunStatus, IsCutShort, IsRefusal, by_place, by_rule, by_loop, Exact}
+use Rattle.jh_reply.specs.Causes.{FilesSeen, SinkSeen, Finding, reported, summed, ran, unreturned, no_job, no_method, refused, mistyped, circular, crowded, file_failed, file_too_long, no_memory, IsRead_in, as_source, as_heap, Comes, due, unreturned_status, Takes, Delivered, Answered, IsExcused, IsWithoutFile, IsRunStatus, IsCutShort, IsRefusal, by_place, by_rule, by_loop, Exact, Holds, HoldsReported, HoldsProgram, HoldsHeap}
 use Rattle.jh_reply.specs.Made.{default_options, made_source}
 use Rattle.jh_reply.specs.Run.{IsBegun, IsSource, ending_of, ending_status}
 use Rattle.jh_name.specs.declared.options.Options.{Options}
@@ -103,14 +103,14 @@ module _ (much : LittleIsNotMuch) (words : List (List ℕ)) (files : FilesSeen) 
   seen (no_job text) comes delivered = none-job (job_of words) job comes.0 asked
   seen (no_method p text) comes delivered = run-seen p comes.0 (lacks comes.1 (due-or files err _ comes.0.job.file 2 status delivered.0))
   seen (refused n place) comes delivered =
-      let same : comes.bytes ≡ bytes = came-same comes.job comes.file comes.bytes comes.asked comes.reads comes.told in
-      is_refused (subst (λ (b : List ℕ). length b ≤ source_limit) same comes.within) (λ p spells. refused-parses bytes n place p (subst (λ (b : List ℕ). RefusedAt b n place) same comes.why) spells.parsed) (due-or files err _ file 3 status delivered.0)
+      let same : comes.source.bytes ≡ bytes = came-same comes.source.job comes.source.file comes.source.bytes comes.source.asked comes.source.reads comes.source.told in
+      is_refused (subst (λ (b : List ℕ). length b ≤ source_limit) same comes.source.within) (λ p spells. refused-parses bytes n place p (subst (λ (b : List ℕ). RefusedAt b n place) same comes.why) spells.parsed) (due-or files err _ file 3 status delivered.0)
   seen (mistyped rule place) comes delivered =
-      let same : comes.bytes ≡ bytes = came-same comes.job comes.file comes.bytes comes.asked comes.reads comes.told in
-      is_refused (subst (λ (b : List ℕ). length b ≤ source_limit) same comes.within) (λ p spells. ill-spells bytes rule place p (subst (λ (b : List ℕ). IsMistyped b rule place) same comes.why) spells) (due-or files err _ file 3 status delivered.0)
+      let same : comes.source.bytes ≡ bytes = came-same comes.source.job comes.source.file comes.source.bytes comes.source.asked comes.source.reads comes.source.told in
+      is_refused (subst (λ (b : List ℕ). length b ≤ source_limit) same comes.source.within) (λ p spells. ill-spells bytes rule place p (subst (λ (b : List ℕ). IsMistyped b rule place) same comes.why) spells) (due-or files err _ file 3 status delivered.0)
   seen (circular name) comes delivered =
-      let same : comes.bytes ≡ bytes = came-same comes.job comes.file comes.bytes comes.asked comes.reads comes.told in
-      is_refused (subst (λ (b : List ℕ). length b ≤ source_limit) same comes.within) (λ p spells. loop-spells bytes name p (subst (λ (b : List ℕ). IsCircular b name) same comes.why) spells) (due-or files err _ file 3 status delivered.0)
+      let same : comes.source.bytes ≡ bytes = came-same comes.source.job comes.source.file comes.source.bytes comes.source.asked comes.source.reads comes.source.told in
+      is_refused (subst (λ (b : List ℕ). length b ≤ source_limit) same comes.source.within) (λ p spells. loop-spells bytes name p (subst (λ (b : List ℕ). IsCircular b name) same comes.why) spells) (due-or files err _ file 3 status delivered.0)
   seen (crowded class name n) comes delivered =
       let same : comes.bytes ≡ bytes = came-same (verify comes.job) comes.job.file comes.bytes comes.asked refl comes.told in
       is_crowded comes.job (one-job (job_of words) job (verify comes.job) asked comes.asked) (subst (λ (b : List ℕ). length b ≤ source_limit) same comes.within)
@@ -242,9 +242,9 @@ usage-of words files out err status (ran p text) comes delivered none = none-job
 usage-of words files out err status (unreturned p e) comes delivered none = none-job (job_of words) (run comes.0.called.source.job) none comes.0.called.source.asked
 usage-of words files out err status (no_job text) comes delivered none = is-usage err text status delivered.0
 usage-of words files out err status (no_method p text) comes delivered none = is-usage err text status delivered.0
-usage-of words files out err status (refused n place) comes delivered none = none-job (job_of words) comes.job none comes.asked
-usage-of words files out err status (mistyped n place) comes delivered none = none-job (job_of words) comes.job none comes.asked
-usage-of words files out err status (circular name) comes delivered none = none-job (job_of words) comes.job none comes.asked
+usage-of words files out err status (refused n place) comes delivered none = none-job (job_of words) comes.source.job none comes.source.asked
+usage-of words files out err status (mistyped n place) comes delivered none = none-job (job_of words) comes.source.job none comes.source.asked
+usage-of words files out err status (circular name) comes delivered none = none-job (job_of words) comes.source.job none comes.source.asked
 usage-of words files out err status (crowded class name n) comes delivered none = none-job (job_of words) (verify comes.job) none comes.asked
 usage-of words files out err status (file_failed file) comes delivered none = let job = read-job words files.holds file comes.0 in none-job (job_of words) job.0 none job.1
 usage-of words files out err status (file_too_long file) comes delivered none = let job = read-job words files.holds file comes.0 in none-job (job_of words) job.0 none job.1
@@ -276,9 +276,9 @@ module _ (words : List (List ℕ)) (files : FilesSeen) (out err : SinkSeen) (sta
   made-seen (unreturned p e) comes delivered = apart-run-made (job_of words) comes.0.called.source.job g comes.0.called.source.asked asked
   made-seen (no_job text) comes delivered = none-job (job_of words) (gen g) comes.0 asked
   made-seen (no_method p text) comes delivered = apart-run-made (job_of words) comes.0.job g comes.0.asked asked
-  made-seen (refused n place) comes delivered = job-none comes.job comes.file comes.asked comes.reads
-  made-seen (mistyped n place) comes delivered = job-none comes.job comes.file comes.asked comes.reads
-  made-seen (circular name) comes delivered = job-none comes.job comes.file comes.asked comes.reads
+  made-seen (refused n place) comes delivered = job-none comes.source.job comes.source.file comes.source.asked comes.source.reads
+  made-seen (mistyped n place) comes delivered = job-none comes.source.job comes.source.file comes.source.asked comes.source.reads
+  made-seen (circular name) comes delivered = job-none comes.source.job comes.source.file comes.source.asked comes.source.reads
   made-seen (crowded class name n) comes delivered = apart-verify-made (job_of words) comes.job g comes.asked asked
   made-seen (file_failed file) comes delivered = file-none file comes.0
   made-seen (file_too_long file) comes delivered = file-none file comes.0
@@ -311,29 +311,36 @@ module _ (little : OwedIsLittle) (much : LittleIsNotMuch) (one : OwedIsOne) (pro
   made-at : (g : Gen) → job_of words ≡ Some (gen g) → MadeSeen g status
   made-at g asked = made-seen words files out err status g asked a.finding a.comes a.delivered
 
-  run-at : (r : Run) (bytes : List ℕ) (p : ProgramTree) → job_of words ≡ Some (run r) → files.holds r.file ≡ Some bytes → length bytes ≤ source_limit → Spells bytes p → RunSeen files p r status ⊎ IsExcused files r.file status
-  run-at r bytes p asked held short spells = run-of files r bytes status (at (run r) r.file bytes asked refl held) p short spells
+  run-at : (r : Run) (p : ProgramTree) → HoldsProgram words files r p → RunSeen files p r status ⊎ IsExcused files r.file status
+  run-at r p held = run-of files r held.bytes status (at (run r) r.file held.bytes held.asked refl held.told) p held.within held.spelled
+
+  reported-at : (v : Verify) (bytes : List ℕ) → HoldsReported words files v bytes → Seen files (verify v) v.file bytes status
+  reported-at v bytes held = at (verify v) v.file bytes held.asked refl held.told
+
+  -- a source that spells no program
+  none-at : (file bytes : List ℕ) → Holds words files file bytes → ((p : ProgramTree) → Spells bytes p → ⊥) → (status ≡ 3) ⊎ IsExcused files file status
+  none-at file bytes held none = none-of files held.job file bytes status (at held.job file bytes held.asked held.reads held.told) held.within none
 
   pub answered-exact : Exact words files status
   answered-exact = record {
     usage = usage-of words files out err status a.finding a.comes a.delivered;
     too_long = λ job file bytes asked reads held long. long-of files job file bytes status (at job file bytes asked reads held) long;
-    refused = λ job file bytes n place asked reads held short why. none-of files job file bytes status (at job file bytes asked reads held) short (λ p spells. refused-parses bytes n place p why spells.parsed);
-    mistyped = λ job file bytes rule place asked reads held short why. none-of files job file bytes status (at job file bytes asked reads held) short (λ p spells. ill-spells bytes rule place p why spells);
-    circular = λ job file bytes name asked reads held short why. none-of files job file bytes status (at job file bytes asked reads held) short (λ p spells. loop-spells bytes name p why spells);
-    crowded = λ v bytes class name n asked held short why. crowd-of little files v bytes status (at (verify v) v.file bytes asked refl held) short (λ p spells few. crowded-spells much bytes class name n p why spells few);
-    reported = λ v bytes p asked held short spells few. reported-of files v bytes status (at (verify v) v.file bytes asked refl held) p short spells few;
-    proved = λ v bytes p asked held short spells owes. proved-of little one provable files v bytes status (at (verify v) v.file bytes asked refl held) p short spells owes;
-    no_method = λ r bytes p asked held short spells none. elim (run-at r bytes p asked held short spells) [
+    refused = λ file bytes n place held why. none-at file bytes held (λ p spells. refused-parses bytes n place p why spells.parsed);
+    mistyped = λ file bytes rule place held why. none-at file bytes held (λ p spells. ill-spells bytes rule place p why spells);
+    circular = λ file bytes name held why. none-at file bytes held (λ p spells. loop-spells bytes name p why spells);
+    crowded = λ v bytes class name n held why. crowd-of little files v bytes status (reported-at v bytes held) held.within (λ p spells few. crowded-spells much bytes class name n p why spells few);
+    reported = λ v bytes p held spells few. reported-of files v bytes status (reported-at v bytes held) p held.within spells few;
+    proved = λ v bytes p held spells owes. proved-of little one provable files v bytes status (reported-at v bytes held) p held.within spells owes;
+    no_method = λ r p held none. elim (run-at r p held) [
       | inl is ↦ lacks-of files p r status is none
       | inr excused ↦ inr excused
     ];
-    heap_too_long = λ r bytes text p asked held short spells has there long. elim (run-at r bytes p asked held short spells) [
-      | inl is ↦ elim (much-of files p r status is has text there long) [ inl four ↦ inl four | inr excused ↦ inr (inr excused) ]
+    heap_too_long = λ r p text held long. elim (run-at r p held.source) [
+      | inl is ↦ elim (much-of files p r status is held.has text held.told long) [ inl four ↦ inl four | inr excused ↦ inr (inr excused) ]
       | inr excused ↦ inr (inl excused)
     ];
-    ran = λ r bytes text p asked held short spells has there within. elim (run-at r bytes p asked held short spells) [
-      | inl is ↦ elim (ended-of files p r status is has text there within) [ inl end ↦ inl end | inr excused ↦ inr (inr excused) ]
+    ran = λ r p text held within. elim (run-at r p held.source) [
+      | inl is ↦ elim (ended-of files p r status is held.has text held.told within) [ inl end ↦ inl end | inr excused ↦ inr (inr excused) ]
       | inr excused ↦ inr (inl excused)
     ];
     summed = λ g asked. summed-of g status (made-at g asked);

@@ -13,11 +13,11 @@ use Rattle.jh_run.specs.declared.outcome.unreturned.Unreturned.TheVariants as wh
 use Rattle.jh_reply.specs.Refusals.{Spells, method_text}
 use Rattle.jh_reply.specs.declared.reply.Reply.{Reply}
 use Rattle.jh_reply.specs.declared.reply.Reply.TheVariants as reply
-use Rattle.jh_reply.specs.Causes.{FilesSeen, Finding, reported, summed, ran, unreturned, no_job, no_method, refused, mistyped, circular, crowded, file_failed, file_too_long, no_memory, IsRead_in, as_source, as_heap, Comes, Due, due, unreturned_status, unreturned_text, fault_text, Says, IsReply, IsSumReply, IsRefusal, by_place, by_rule, by_loop, FitsRefusal, FitsGen, FitsBytes, FitsFault, IsFaultReply, IsUsageReply, IsPageReply, IsUnreturnedReply, FitsFile, FitsOutcome, FitsHeap, FitsMethod, FitsSource, FitsRun, FitsWords, Fits}
+use Rattle.jh_reply.specs.Causes.{FilesSeen, Finding, reported, summed, ran, unreturned, no_job, no_method, refused, mistyped, circular, crowded, file_failed, file_too_long, no_memory, IsRead_in, as_source, as_heap, Comes, Due, due, number_of, unreturned_status, unreturned_text, fault_text, Says, IsReply, IsSumReply, IsRefusal, by_place, by_rule, by_loop, FitsRefusal, FitsGen, FitsBytes, FitsFault, IsFaultReply, IsUsageReply, IsPageReply, IsUnreturnedReply, FitsFile, FitsOutcome, FitsHeap, FitsMethod, FitsSource, FitsRun, FitsWords, Fits}
 use Rattle.jh_reply.specs.Made.{made_source}
 use Rattle.jh_reply.specs.Run.{IsCalled, IsSource}
 use Rattle.jh_name.specs.declared.options.Options.{Options}
-use Rattle.jh_reply.specs.Verify.{Tells, options_of, source_limit}
+use Rattle.jh_reply.specs.Verify.{SourceRead, Tells, options_of, source_limit}
 use Rattle.jh_reply.specs.Words.{source_of}
 use Rattle.jh_words.specs.CommandLine.{Gen, Job, Run, Verify, gen, job_of, run, verify}
 use Rattle.jh_words.specs.Usage.{usage_page}
@@ -135,7 +135,7 @@ module _ (words : List (List ℕ)) (files : FilesSeen) (job : Job) (asked : job_
   says-fits status text o (reply.Report line accepted) comes is h = absurd h
   says-fits status text o (reply.Summed line accepted) comes is h = absurd h
   says-fits status text o (reply.Ran line) comes is h = absurd h
-  says-fits status text o (reply.Line line number) comes is h = record { finding = o; comes = comes; is_due = is ∙ line-due status number text (string_bytes line) h.0 h.1 }
+  says-fits status text o (reply.Line line said) comes is h = record { finding = o; comes = comes; is_due = is ∙ line-due status (number_of said) text (string_bytes line) h.0 h.1 }
   says-fits status text o (reply.Usage said) comes is h = absurd h
   says-fits status text o reply.NoMemory comes is h = memory-fits
 
@@ -150,11 +150,14 @@ module _ (words : List (List ℕ)) (files : FilesSeen) (job : Job) (asked : job_
       ]
 
   module _ (file bytes : List ℕ) (reads : source_of job ≡ Some file) (told : Tells (files.holds file) bytes) (within : length bytes ≤ source_limit) where
+    abbrev source_read : SourceRead words files.holds
+    source_read = record { job = job; file = file; bytes = bytes; asked = asked; reads = reads; told = told; within = within }
+
     -- the finding of a line for a source that is refused
     refusal-found : (text : List ℕ) → IsRefusal bytes text → (o : Finding) × Comes words files o × (due o ≡ record { status = 3; on_out = false; text = text })
-    refusal-found text (by_place n place why is) = (refused n place, record { job = job; file = file; bytes = bytes; asked = asked; reads = reads; told = told; within = within; why = why }, λ i. record { status = 3; on_out = false; text = sym is i })
-    refusal-found text (by_rule rule place why is) = (mistyped rule place, record { job = job; file = file; bytes = bytes; asked = asked; reads = reads; told = told; within = within; why = why }, λ i. record { status = 3; on_out = false; text = sym is i })
-    refusal-found text (by_loop name why is) = (circular name, record { job = job; file = file; bytes = bytes; asked = asked; reads = reads; told = told; within = within; why = why }, λ i. record { status = 3; on_out = false; text = sym is i })
+    refusal-found text (by_place n place why is) = (refused n place, record { source = source_read; why = why }, λ i. record { status = 3; on_out = false; text = sym is i })
+    refusal-found text (by_rule rule place why is) = (mistyped rule place, record { source = source_read; why = why }, λ i. record { status = 3; on_out = false; text = sym is i })
+    refusal-found text (by_loop name why is) = (circular name, record { source = source_read; why = why }, λ i. record { status = 3; on_out = false; text = sym is i })
 
     refusal-fits : (answer : Reply) → FitsRefusal bytes answer → Fits words files answer
     refusal-fits (reply.Report line accepted) h = absurd h
@@ -178,7 +181,7 @@ module _ (words : List (List ℕ)) (files : FilesSeen) (v : Verify) (asked : job
   program-fits bytes p (reply.Line line status) told within spells h = record {
     finding = crowded (class_text p h.1.id.class) (method_text p h.1.id) h.1.n;
     comes = record { job = v; bytes = bytes; asked = asked; told = told; within = within; why = record { tree = p; spelled = spells; id = h.1.id; much = h.1.much; class_is = refl; name_is = refl } };
-    is_due = line-due 3 status _ (string_bytes line) h.0 h.1.text_is;
+    is_due = line-due 3 (number_of status) _ (string_bytes line) h.0 h.1.text_is;
   }
   program-fits bytes p (reply.Usage said) told within spells h = absurd h
   program-fits bytes p reply.NoMemory told within spells h = memory-fits words files (verify v) asked
@@ -213,7 +216,7 @@ module _ (words : List (List ℕ)) (files : FilesSeen) (r : Run) (asked : job_of
       outcome-fits text held short (reply.Line line status) h = record {
         finding = unreturned p h.0;
         comes = (record { called = called; text = text; told = held; within = short }, h.1);
-        is_due = line-due (unreturned_status h.0) status (unreturned_text h.0) (string_bytes line) h.2 h.3;
+        is_due = line-due (unreturned_status h.0) (number_of status) (unreturned_text h.0) (string_bytes line) h.2 h.3;
       }
       outcome-fits text held short (reply.Usage said) h = record {
         finding = unreturned p why.NoMethod;

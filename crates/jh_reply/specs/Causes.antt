@@ -8,6 +8,8 @@ use Rattle.jh_files.specs.declared.fault.FileFault.TheVariants as fault
 use Rattle.jh_ast.specs.Programs.{ProgramTree}
 use Rattle.jh_reply.specs.declared.reply.Reply.{Reply}
 use Rattle.jh_reply.specs.declared.reply.Reply.TheVariants as reply
+use Rattle.jh_reply.specs.declared.status.Status.{Status}
+use Rattle.jh_reply.specs.declared.status.Status.TheVariants as status_of
 use Rattle.jh_vars.specs.States.{class_text}
 use Rattle.jh_gen_laws.specs.jh_obligations.program_sequents.Sources.{OwesLittle, OwesMuch}
 use Rattle.jh_run.specs.jh_heap.declared.text.reading.HeapError.{HeapError}
@@ -31,12 +33,32 @@ use Rattle.jh_reply.specs.Words.{source_of}
 use Rattle.jh_words.specs.CommandLine.{Gen, Job, Run, Verify, gen, job_of, run, verify}
 use Rattle.jh_words.specs.Usage.{IsUsage, usage_page}
 
+-- the number of an exit status
+abbrev pub number_of : Status → ℕ
+number_of status_of.Accepted = 0
+number_of status_of.Rejected = 1
+number_of status_of.Usage = 2
+number_of status_of.Refused = 3
+number_of status_of.File = 4
+number_of status_of.Sink = 5
+number_of status_of.Memory = 6
+number_of status_of.Null = 10
+number_of status_of.Assert = 11
+number_of status_of.NoObject = 12
+number_of status_of.StepsOut = 13
+number_of status_of.Overflow = 14
+number_of status_of.Heap = 15
+
 -- What there is to see of the files over a call: what they hold, and for each name how many calls had
 -- failed before it and had after it.
 pub record FilesSeen : Type 0 where
   pub holds : List ℕ → Option (List ℕ)
   pub before : List ℕ → ℕ
   pub after : List ℕ → ℕ
+
+-- the files as they are seen over a call
+abbrev pub files_seen : (List ℕ → Option (List ℕ)) → (List ℕ → ℕ) → (List ℕ → ℕ) → FilesSeen
+files_seen holds before after = record { holds = holds; before = before; after = after }
 
 -- What there is to see of a sink over a call: what was written before it and after it, where the sink
 -- tells, and how many calls had failed.
@@ -45,6 +67,10 @@ pub record SinkSeen : Type 0 where
   pub after : Option (List ℕ)
   pub faults_before : ℕ
   pub faults_after : ℕ
+
+-- a sink as it is seen over a call: what was written before and after it, and how many calls had failed
+abbrev pub sink_seen : Option (List ℕ) → Option (List ℕ) → ℕ → ℕ → SinkSeen
+sink_seen before after faults_before faults_after = record { before = before; after = after; faults_before = faults_before; faults_after = faults_after }
 
 -- What a call finds, before anything is written.
 pub data Finding : Type 0 where
@@ -251,40 +277,86 @@ pub record IsCutShort (o : Options) (p : ProgramTree) : Type 0 where
   pub unproved : is_accepted reported ≡ false
   pub spent : are_proved_or_spent reported ≡ true
 
--- The answers by their conditions. Without a job it is usage, want of memory aside. Else, for what the file of the source holds where it tells: 4 where it is too long,
--- 3 where it is refused, breaks a type rule or has a cyclic variable. Of a report: 3 where a method has too many sequents, and else 0 or 1; where
--- all that is owed is provable, 0, or 1 where the search spent its budget on each sequent that is unproved. Of a run: usage where there is no such method; 4 where the file of the heap is too long; and else the status of what the
--- run comes to by the definition of runs, or 14 where something overflows in it. Of a source that is made from a number, which no file holds and which is never
--- refused: 0 or 1; where all that is owed is provable, as of a report.
+-- The words ask for a job whose source is of a file that holds these bytes, which are within the limit.
+pub record Holds (words : List (List ℕ)) (files : FilesSeen) (file bytes : List ℕ) : Type 0 where
+  pub job : Job
+  pub asked : job_of words ≡ Some job
+  pub reads : source_of job ≡ Some file
+  pub told : files.holds file ≡ Some bytes
+  pub within : length bytes ≤ source_limit
+
+-- The words ask for this report, and its file holds these bytes, which are within the limit.
+pub record HoldsReported (words : List (List ℕ)) (files : FilesSeen) (v : Verify) (bytes : List ℕ) : Type 0 where
+  pub asked : job_of words ≡ Some (verify v)
+  pub told : files.holds v.file ≡ Some bytes
+  pub within : length bytes ≤ source_limit
+
+-- The words ask for this run, and the file of its source holds bytes within the limit that spell this program.
+pub record HoldsProgram (words : List (List ℕ)) (files : FilesSeen) (r : Run) (p : ProgramTree) : Type 0 where
+  pub bytes : List ℕ
+  pub asked : job_of words ≡ Some (run r)
+  pub told : files.holds r.file ≡ Some bytes
+  pub within : length bytes ≤ source_limit
+  pub spelled : Spells bytes p
+
+-- The same, the program has the method, and the file of the heap holds this text.
+pub record HoldsHeap (words : List (List ℕ)) (files : FilesSeen) (r : Run) (p : ProgramTree) (text : List ℕ) : Type 0 where
+  pub source : HoldsProgram words files r p
+  pub has : has_method p r.class r.method ≡ true
+  pub told : files.holds r.heap ≡ Some text
+
+-- a status is that of a report, or something excuses that there is none
+abbrev pub IsReported : ℕ → Type 0 → Type 0
+IsReported status Excuse = (status ≡ 0) ⊎ (status ≡ 1) ⊎ Excuse
+
+-- a status is that of a report on a program of which all that is owed is provable, or something excuses that there is none
+abbrev pub IsProved : Options → ProgramTree → ℕ → Type 0 → Type 0
+IsProved o p status Excuse = (status ≡ 0) ⊎ ((status ≡ 1) × IsCutShort o p) ⊎ Excuse
+
+-- The answers by their conditions. Without a job it is usage, want of memory aside. Else, for what the file of the source holds where
+-- it tells: 4 where it is too long, 3 where it is refused, breaks a type rule or has a cyclic variable. Of a report: 3 where a method
+-- has too many sequents, and else 0 or 1; where all that is owed is provable, 0, or 1 where the search spent its budget on each sequent
+-- that is unproved. Of a run: usage where there is no such method; 4 where the file of the heap is too long; and else the status of what
+-- the run comes to by the definition of runs, or 14 where something overflows in it. Of a source that is made from a number, which no
+-- file holds and which is never refused: 0 or 1; where all that is owed is provable, as of a report.
 pub record Exact (words : List (List ℕ)) (files : FilesSeen) (status : ℕ) : Type 0 where
-  pub usage : job_of words ≡ None → (status ≡ 2) ⊎ (status ≡ 5) ⊎ (status ≡ 6)
-  pub too_long : (job : Job) (file bytes : List ℕ) → job_of words ≡ Some job → source_of job ≡ Some file → files.holds file ≡ Some bytes → source_limit < length bytes → (status ≡ 4) ⊎ IsExcused files file status
-  pub refused : (job : Job) (file bytes : List ℕ) (number : ℕ) (place : Place) → job_of words ≡ Some job → source_of job ≡ Some file → files.holds file ≡ Some bytes → length bytes ≤ source_limit → RefusedAt bytes number place → (status ≡ 3) ⊎ IsExcused files file status
-  pub mistyped : (job : Job) (file bytes : List ℕ) (rule : ℕ) (place : Place) → job_of words ≡ Some job → source_of job ≡ Some file → files.holds file ≡ Some bytes → length bytes ≤ source_limit → IsMistyped bytes rule place → (status ≡ 3) ⊎ IsExcused files file status
-  pub circular : (job : Job) (file bytes name : List ℕ) → job_of words ≡ Some job → source_of job ≡ Some file → files.holds file ≡ Some bytes → length bytes ≤ source_limit → IsCircular bytes name → (status ≡ 3) ⊎ IsExcused files file status
-  pub crowded : (v : Verify) (bytes class name : List ℕ) (n : ℕ) → job_of words ≡ Some (verify v) → files.holds v.file ≡ Some bytes → length bytes ≤ source_limit → IsCrowded bytes class name n → (status ≡ 3) ⊎ IsExcused files v.file status
-  pub reported : (v : Verify) (bytes : List ℕ) (p : ProgramTree) → job_of words ≡ Some (verify v) → files.holds v.file ≡ Some bytes → length bytes ≤ source_limit → Spells bytes p → OwesLittle p → (status ≡ 0) ⊎ (status ≡ 1) ⊎ IsExcused files v.file status
-  pub proved : (v : Verify) (bytes : List ℕ) (p : ProgramTree) → job_of words ≡ Some (verify v) → files.holds v.file ≡ Some bytes → length bytes ≤ source_limit → Spells bytes p → OwesProvable v.rounds p → (status ≡ 0) ⊎ ((status ≡ 1) × IsCutShort (options_of v) p) ⊎ IsExcused files v.file status
-  pub no_method : (r : Run) (bytes : List ℕ) (p : ProgramTree) → job_of words ≡ Some (run r) → files.holds r.file ≡ Some bytes → length bytes ≤ source_limit → Spells bytes p → has_method p r.class r.method ≡ false → (status ≡ 2) ⊎ IsExcused files r.file status
-  pub heap_too_long : (r : Run) (bytes text : List ℕ) (p : ProgramTree) → job_of words ≡ Some (run r) → files.holds r.file ≡ Some bytes → length bytes ≤ source_limit → Spells bytes p → has_method p r.class r.method ≡ true →
-      files.holds r.heap ≡ Some text → source_limit < length text → (status ≡ 4) ⊎ IsRunExcused files r status
-  pub ran : (r : Run) (bytes text : List ℕ) (p : ProgramTree) → job_of words ≡ Some (run r) → files.holds r.file ≡ Some bytes → length bytes ≤ source_limit → Spells bytes p → has_method p r.class r.method ≡ true →
-      files.holds r.heap ≡ Some text → length text ≤ source_limit → IsRunStatus p r text status ⊎ IsRunExcused files r status
-  pub summed : (g : Gen) → job_of words ≡ Some (gen g) → (status ≡ 0) ⊎ (status ≡ 1) ⊎ IsWithoutFile status
-  pub summed_proved : (g : Gen) (p : ProgramTree) → job_of words ≡ Some (gen g) → Spells (made_source g) p → OwesProvable default_options.rounds p → (status ≡ 0) ⊎ ((status ≡ 1) × IsCutShort default_options p) ⊎ IsWithoutFile status
+  pub usage : job_of words ≡ None → (status ≡ 2) ⊎ IsWithoutFile status
+  pub too_long : (job : Job) (file bytes : List ℕ) → job_of words ≡ Some job → source_of job ≡ Some file →
+      files.holds file ≡ Some bytes → source_limit < length bytes → (status ≡ 4) ⊎ IsExcused files file status
+  pub refused : (file bytes : List ℕ) (number : ℕ) (place : Place) → Holds words files file bytes →
+      RefusedAt bytes number place → (status ≡ 3) ⊎ IsExcused files file status
+  pub mistyped : (file bytes : List ℕ) (rule : ℕ) (place : Place) → Holds words files file bytes →
+      IsMistyped bytes rule place → (status ≡ 3) ⊎ IsExcused files file status
+  pub circular : (file bytes name : List ℕ) → Holds words files file bytes →
+      IsCircular bytes name → (status ≡ 3) ⊎ IsExcused files file status
+  pub crowded : (v : Verify) (bytes class name : List ℕ) (n : ℕ) → HoldsReported words files v bytes →
+      IsCrowded bytes class name n → (status ≡ 3) ⊎ IsExcused files v.file status
+  pub reported : (v : Verify) (bytes : List ℕ) (p : ProgramTree) → HoldsReported words files v bytes →
+      Spells bytes p → OwesLittle p → IsReported status (IsExcused files v.file status)
+  pub proved : (v : Verify) (bytes : List ℕ) (p : ProgramTree) → HoldsReported words files v bytes →
+      Spells bytes p → OwesProvable v.rounds p → IsProved (options_of v) p status (IsExcused files v.file status)
+  pub no_method : (r : Run) (p : ProgramTree) → HoldsProgram words files r p →
+      has_method p r.class r.method ≡ false → (status ≡ 2) ⊎ IsExcused files r.file status
+  pub heap_too_long : (r : Run) (p : ProgramTree) (text : List ℕ) → HoldsHeap words files r p text →
+      source_limit < length text → (status ≡ 4) ⊎ IsRunExcused files r status
+  pub ran : (r : Run) (p : ProgramTree) (text : List ℕ) → HoldsHeap words files r p text →
+      length text ≤ source_limit → IsRunStatus p r text status ⊎ IsRunExcused files r status
+  pub summed : (g : Gen) → job_of words ≡ Some (gen g) → IsReported status (IsWithoutFile status)
+  pub summed_proved : (g : Gen) (p : ProgramTree) → job_of words ≡ Some (gen g) →
+      Spells (made_source g) p → OwesProvable default_options.rounds p → IsProved default_options p status (IsWithoutFile status)
 
 -- what is due for a reply
 abbrev pub reply_due : Reply → Due
 reply_due (reply.Report text accepted) = record { status = if accepted then 0 else 1; on_out = true; text = string_bytes text }
 reply_due (reply.Summed text accepted) = record { status = if accepted then 0 else 1; on_out = true; text = text.items }
 reply_due (reply.Ran text) = record { status = 0; on_out = true; text = string_bytes text }
-reply_due (reply.Line text status) = record { status = status; on_out = false; text = string_bytes text }
+reply_due (reply.Line text status) = record { status = number_of status; on_out = false; text = string_bytes text }
 reply_due (reply.Usage text) = record { status = 2; on_out = false; text = text }
 reply_due reply.NoMemory = record { status = 6; on_out = false; text = no_memory_text }
 
 -- a reply is a line with a status, or want of memory
 abbrev pub Says : ℕ → List ℕ → Reply → Type 0
-Says status text (reply.Line line number) = (number ≡ status) × (string_bytes line ≡ text)
+Says status text (reply.Line line said) = (number_of said ≡ status) × (string_bytes line ≡ text)
 Says status text reply.NoMemory = Unit {0}
 Says status text _ = ⊥
 
@@ -296,20 +368,20 @@ IsUnreported p unreported.Memory = Unit {0}
 -- a reply is the report on a program, or says that a method has too many sequents, or is want of memory
 abbrev pub IsReply : Options → ProgramTree → Reply → Type 0
 IsReply o p (reply.Report text accepted) = IsReport o p (string_bytes text) accepted
-IsReply o p (reply.Line text status) = (status ≡ 3) × IsCrowd p (string_bytes text)
+IsReply o p (reply.Line text status) = (number_of status ≡ 3) × IsCrowd p (string_bytes text)
 IsReply o p reply.NoMemory = Unit {0}
 IsReply o p _ = ⊥
 
 -- a reply is the summary of what is proved of a program that was made, or says that a method has too many sequents, or is want of memory
 abbrev pub IsSumReply : Gen → ProgramTree → Reply → Type 0
 IsSumReply g p (reply.Summed text accepted) = IsSummary g p text.items accepted
-IsSumReply g p (reply.Line text status) = (status ≡ 3) × IsCrowd p (string_bytes text)
+IsSumReply g p (reply.Line text status) = (number_of status ≡ 3) × IsCrowd p (string_bytes text)
 IsSumReply g p reply.NoMemory = Unit {0}
 IsSumReply g p _ = ⊥
 
 -- A reply is right for the bytes of a source that is refused.
 abbrev pub FitsRefusal : List ℕ → Reply → Type 0
-FitsRefusal bytes (reply.Line text status) = (status ≡ 3) × IsRefusal bytes (string_bytes text)
+FitsRefusal bytes (reply.Line text status) = (number_of status ≡ 3) × IsRefusal bytes (string_bytes text)
 FitsRefusal bytes reply.NoMemory = Unit {0}
 FitsRefusal bytes _ = ⊥
 
@@ -366,7 +438,7 @@ IsUnreturnedReply unreturned_by.Memory answer = answer ≡ reply.NoMemory
 -- A reply is right for a method that is run from the bytes of a heap text.
 abbrev pub FitsOutcome : ProgramTree → Run → List ℕ → Reply → Type 0
 FitsOutcome p r text (reply.Ran printed) = Returns p r.class r.method text r.steps (string_bytes printed)
-FitsOutcome p r text (reply.Line line status) = (e : Unreturned) × IsReason p r.class r.method text r.steps e × (status ≡ unreturned_status e) × (string_bytes line ≡ unreturned_text e)
+FitsOutcome p r text (reply.Line line status) = (e : Unreturned) × IsReason p r.class r.method text r.steps e × (number_of status ≡ unreturned_status e) × (string_bytes line ≡ unreturned_text e)
 FitsOutcome p r text (reply.Usage said) = IsReason p r.class r.method text r.steps unreturned_by.NoMethod × (said ≡ usage_page)
 FitsOutcome p r text reply.NoMemory = Unit {0}
 FitsOutcome p r text _ = ⊥

@@ -75,38 +75,30 @@ pub record IsRead (words : List (List ℕ)) (holds : List ℕ → Option (List �
   pub spelled : Spells bytes p
   pub only : (q : ProgramTree) → Spells bytes q → q ≡ p
 
--- The words ask for a job, whose source is read from a file and is refused with a number, at a place.
+-- The words ask for a job whose source is of a file, and these bytes were read from it, which are within the limit.
+pub record SourceRead (words : List (List ℕ)) (holds : List ℕ → Option (List ℕ)) : Type 0 where
+  pub job : Job
+  pub file : List ℕ
+  pub bytes : List ℕ
+  pub asked : job_of words ≡ Some job
+  pub reads : source_of job ≡ Some file
+  pub told : Tells (holds file) bytes
+  pub within : length bytes ≤ source_limit
+
+-- A source that is read is refused with a number, at a place.
 pub record IsRefused (words : List (List ℕ)) (holds : List ℕ → Option (List ℕ)) (number : ℕ) (place : Place) : Type 0 where
-  pub job : Job
-  pub file : List ℕ
-  pub bytes : List ℕ
-  pub asked : job_of words ≡ Some job
-  pub reads : source_of job ≡ Some file
-  pub told : Tells (holds file) bytes
-  pub within : length bytes ≤ source_limit
-  pub why : RefusedAt bytes number place
+  pub source : SourceRead words holds
+  pub why : RefusedAt source.bytes number place
 
--- The same of a source that spells a tree that breaks a type rule at a place.
+-- A source that is read spells a tree that breaks a type rule at a place.
 pub record IsIll (words : List (List ℕ)) (holds : List ℕ → Option (List ℕ)) (rule : ℕ) (place : Place) : Type 0 where
-  pub job : Job
-  pub file : List ℕ
-  pub bytes : List ℕ
-  pub asked : job_of words ≡ Some job
-  pub reads : source_of job ≡ Some file
-  pub told : Tells (holds file) bytes
-  pub within : length bytes ≤ source_limit
-  pub why : IsMistyped bytes rule place
+  pub source : SourceRead words holds
+  pub why : IsMistyped source.bytes rule place
 
--- The same of a source that spells a tree with a cyclic variable of this name.
+-- A source that is read spells a tree with a cyclic variable of this name.
 pub record IsLooped (words : List (List ℕ)) (holds : List ℕ → Option (List ℕ)) (name : List ℕ) : Type 0 where
-  pub job : Job
-  pub file : List ℕ
-  pub bytes : List ℕ
-  pub asked : job_of words ≡ Some job
-  pub reads : source_of job ≡ Some file
-  pub told : Tells (holds file) bytes
-  pub within : length bytes ≤ source_limit
-  pub why : IsCircular bytes name
+  pub source : SourceRead words holds
+  pub why : IsCircular source.bytes name
 
 -- The words ask for the report on a file, whose bytes spell a program with a method of too many sequents.
 pub record IsOverfull (words : List (List ℕ)) (holds : List ℕ → Option (List ℕ)) (class name : List ℕ) (n : ℕ) : Type 0 where

@@ -12,6 +12,7 @@ mod reading;
 mod reply;
 mod reporting;
 mod running;
+mod status;
 mod tallying;
 mod verification;
 
@@ -20,4 +21,5 @@ pub use making::sum_source;
 pub use reading::spelled_source_is_accepted;
 pub use reply::Reply;
 pub use running::run_file;
+pub use status::Status;
 pub use verification::verify_file;

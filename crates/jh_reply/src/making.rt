@@ -13,6 +13,7 @@ ghost use Rattle.jh_reply.specs.Made.{IsTallied, default_options};
 use crate::error::Unreported;
 use crate::reading::{read, spelled_source_is_accepted};
 use crate::reply::{Reply, reply_to_refusal};
+use crate::status::Status;
 use crate::tallying::tally;
 use jh_gen::{Counts, source_of, summary};
 use jh_gen_laws::program::made_is_program;
@@ -44,7 +45,7 @@ fn sum_program(alloc: Global, job: Gen, source: Unfolded) -> Reply
     };
     match tally(alloc, options, source) {
         Ok(counts) => reply_to_counts(alloc, job, counts),
-        Err(Unreported::Crowded(text)) => Reply::Line(text, 3),
+        Err(Unreported::Crowded(text)) => Reply::Line(text, Status::Refused),
         Err(Unreported::Memory) => Reply::NoMemory,
     }
 }

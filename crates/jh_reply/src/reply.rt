@@ -2,10 +2,11 @@
 #![tactic(auto)]
 
 ghost use Rattle.std.specs.Prelude.{◌≡◌, ℕ, List, codes, string_bytes, IfOk};
-ghost use Rattle.jh_reply.specs.Causes.{FitsRefusal, IsFaultReply, Says, circular_text, fault_text, mistyped_text, refused_text, reply_due};
+ghost use Rattle.jh_reply.specs.Causes.{FitsRefusal, IsFaultReply, Says, circular_text, fault_text, mistyped_text, number_of, refused_text, reply_due};
 ghost use Rattle.jh_reply.specs.Refusals.{IsWhy};
 
 use crate::error::Refusal;
+use crate::status::{Status, of_report};
 use jh_files::FileFault;
 use jh_name::{Name, NoMemory, Place, Text};
 use std::alloc::Global;
@@ -20,7 +21,7 @@ pub enum Reply {
     /// What is printed of a run that returns.
     Ran(String),
     /// A line on the second sink, and the status that goes with it.
-    Line(String, u8),
+    Line(String, Status),
     /// What is said where nothing is asked for, or the method isn't there.
     Usage(Text),
     NoMemory,
@@ -28,16 +29,16 @@ pub enum Reply {
 
 impl Reply {
     /// The exit status that is due.
-    pub fn status(&self) -> u8
-        ensures { result ≡ (reply_due self.now).status }
+    pub fn status(&self) -> Status
+        ensures { number_of result ≡ (reply_due self.now).status }
     {
         match self {
-            Reply::Report(_, accepted) => { if *accepted { 0 } else { 1 } }
-            Reply::Summed(_, accepted) => { if *accepted { 0 } else { 1 } }
-            Reply::Ran(_) => 0,
+            Reply::Report(_, accepted) => of_report(*accepted),
+            Reply::Summed(_, accepted) => of_report(*accepted),
+            Reply::Ran(_) => Status::Accepted,
             Reply::Line(_, status) => *status,
-            Reply::Usage(_) => 2,
-            Reply::NoMemory => 6,
+            Reply::Usage(_) => Status::Usage,
+            Reply::NoMemory => Status::Memory,
         }
     }
 
@@ -71,8 +72,8 @@ impl Reply {
 }
 
 /// A line with its status, or want of memory.
-pub fn said(line: Result<String, NoMemory>, status: u8) -> Reply
-    ensures { (text : List ℕ) → IfOk line (λ made. string_bytes made ≡ text) → Says status text result }
+pub fn said(line: Result<String, NoMemory>, status: Status) -> Reply
+    ensures { (text : List ℕ) → IfOk line (λ made. string_bytes made ≡ text) → Says (number_of status) text result }
 {
     match line {
         Ok(text) => Reply::Line(text, status),
@@ -117,9 +118,9 @@ pub fn reply_to_refusal(alloc: Global, refusal: Refusal) -> Reply
     ensures { (bytes : List ℕ) → IsWhy bytes refusal → FitsRefusal bytes result }
 {
     match refusal {
-        Refusal::At(number, place) => said(refused_line(alloc, number, place), 3),
-        Refusal::Mistyped(rule, place) => said(mistyped_line(alloc, rule, place), 3),
-        Refusal::Cyclic(name) => said(circular_line(alloc, &name), 3),
+        Refusal::At(number, place) => said(refused_line(alloc, number, place), Status::Refused),
+        Refusal::Mistyped(rule, place) => said(mistyped_line(alloc, rule, place), Status::Refused),
+        Refusal::Cyclic(name) => said(circular_line(alloc, &name), Status::Refused),
         Refusal::Memory => Reply::NoMemory,
     }
 }
@@ -138,8 +139,8 @@ pub fn reply_to_fault(alloc: Global, file: &str, fault: FileFault) -> Reply
     ensures { IsFaultReply file.now fault result }
 {
     match fault {
-        FileFault::Failed => said(fault_line(alloc, "failed", file), 4),
-        FileFault::TooLong { .. } => said(fault_line(alloc, "too long", file), 4),
+        FileFault::Failed => said(fault_line(alloc, "failed", file), Status::File),
+        FileFault::TooLong { .. } => said(fault_line(alloc, "too long", file), Status::File),
         FileFault::Memory => Reply::NoMemory,
     }
 }

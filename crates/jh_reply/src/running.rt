@@ -3,11 +3,12 @@
 
 ghost use Rattle.std.specs.Prelude.{◌≡◌, ◌+◌, ◌-◌, ◌<◌, ◌^◌, ℕ, List, length, string_bytes, IfOk};
 ghost use Rattle.jh_ast.specs.Bare.{program_tree};
-ghost use Rattle.jh_reply.specs.Causes.{FitsHeap, FitsMethod, FitsOutcome, FitsRun, FitsSource, IsPageReply, IsUnreturnedReply, IsUsageReply, Says, bad_line_text, heap_status, heap_text, ill_line_text, steps_out_text, stop_status, stop_text, stopped_text};
+ghost use Rattle.jh_reply.specs.Causes.{FitsHeap, FitsMethod, FitsOutcome, FitsRun, FitsSource, IsPageReply, IsUnreturnedReply, IsUsageReply, Says, bad_line_text, files_seen, heap_status, heap_text, ill_line_text, steps_out_text, stop_status, stop_text, stopped_text};
 ghost use Rattle.jh_words.specs.Held.{run_in};
 
 use crate::reading::{SOURCE_LIMIT, read};
 use crate::reply::{Reply, reply_to_fault, reply_to_refusal, said};
+use crate::status::Status;
 use jh_files::Files;
 use jh_name::{NoMemory, Place, Text};
 use jh_run::jh_heap::text::HeapError;
@@ -41,11 +42,11 @@ fn reply_to_stop(alloc: Global, stop: Stop) -> Reply
     ensures { Says (stop_status stop) (stop_text stop) result }
 {
     match stop {
-        Stop::Null(place) => said(stopped_line(alloc, "null", place), 10),
-        Stop::AssertFailed(place) => said(stopped_line(alloc, "assert", place), 11),
-        Stop::NoObject(place) => said(stopped_line(alloc, "no object", place), 12),
-        Stop::StepsOut => said(steps_out_line(alloc), 13),
-        Stop::Overflow(place) => said(stopped_line(alloc, "overflow", place), 14),
+        Stop::Null(place) => said(stopped_line(alloc, "null", place), Status::Null),
+        Stop::AssertFailed(place) => said(stopped_line(alloc, "assert", place), Status::Assert),
+        Stop::NoObject(place) => said(stopped_line(alloc, "no object", place), Status::NoObject),
+        Stop::StepsOut => said(steps_out_line(alloc), Status::StepsOut),
+        Stop::Overflow(place) => said(stopped_line(alloc, "overflow", place), Status::Overflow),
         Stop::Memory => Reply::NoMemory,
     }
 }
@@ -73,8 +74,8 @@ fn reply_to_heap_error(alloc: Global, error: HeapError) -> Reply
     ensures { Says (heap_status error) (heap_text error) result }
 {
     match error {
-        HeapError::BadLine(line) => said(bad_line(alloc, line), 15),
-        HeapError::NotWellFormed { line, rule } => said(ill_line(alloc, line, rule), 15),
+        HeapError::BadLine(line) => said(bad_line(alloc, line), Status::Heap),
+        HeapError::NotWellFormed { line, rule } => said(ill_line(alloc, line, rule), Status::Heap),
         HeapError::Memory => Reply::NoMemory,
     }
 }
@@ -114,7 +115,7 @@ fn reply_to_text(alloc: Global, source: Unfolded, run: &Run<'_>, text: &[u8]) ->
 
 /// What it comes to from the heap of a file.
 fn run_heap<F: Files>(alloc: Global, source: Unfolded, run: &Run<'_>, files: &mut F) -> Reply
-    ensures fits { FitsHeap (record { holds = F.holds files.old; before = F.faults files.old; after = F.faults files.new }) (program_tree source.program) (run_in run.now) result }
+    ensures fits { FitsHeap (files_seen (F.holds files.old) (F.faults files.old) (F.faults files.new)) (program_tree source.program) (run_in run.now) result }
     ensures held { (name : List ℕ) → F.holds files.new name ≡ F.holds files.old name }
 {
     match files.get(alloc, run.heap, SOURCE_LIMIT) {
@@ -135,7 +136,7 @@ fn reply_to_no_method(alloc: Global, run: &Run<'_>) -> Reply
 
 /// What a run in a program comes to, where the program has the method.
 fn run_program<F: Files>(alloc: Global, source: Unfolded, run: &Run<'_>, files: &mut F) -> Reply
-    ensures fits { FitsMethod (record { holds = F.holds files.old; before = F.faults files.old; after = F.faults files.new }) (program_tree source.program) (run_in run.now) result }
+    ensures fits { FitsMethod (files_seen (F.holds files.old) (F.faults files.old) (F.faults files.new)) (program_tree source.program) (run_in run.now) result }
     ensures held { (name : List ℕ) → F.holds files.new name ≡ F.holds files.old name }
 {
     match has_method(alloc, source.typed().program(), run.class, run.method) {
@@ -148,7 +149,7 @@ fn run_program<F: Files>(alloc: Global, source: Unfolded, run: &Run<'_>, files: 
 /// What a run in the bytes of a source comes to.
 fn run_bytes<F: Files>(alloc: Global, bytes: &[u8], run: &Run<'_>, files: &mut F) -> Reply
     requires { length bytes.now < 2 ^ 32 - 1 }
-    ensures fits { FitsSource (record { holds = F.holds files.old; before = F.faults files.old; after = F.faults files.new }) (run_in run.now) bytes.now result }
+    ensures fits { FitsSource (files_seen (F.holds files.old) (F.faults files.old) (F.faults files.new)) (run_in run.now) bytes.now result }
     ensures held { (name : List ℕ) → F.holds files.new name ≡ F.holds files.old name }
 {
     match read(alloc, bytes) {
@@ -159,7 +160,7 @@ fn run_bytes<F: Files>(alloc: Global, bytes: &[u8], run: &Run<'_>, files: &mut F
 
 /// What `run` comes to.
 pub fn run_file<F: Files>(alloc: Global, run: &Run<'_>, files: &mut F) -> Reply
-    ensures fits { FitsRun (record { holds = F.holds files.old; before = F.faults files.old; after = F.faults files.new }) (run_in run.now) result }
+    ensures fits { FitsRun (files_seen (F.holds files.old) (F.faults files.old) (F.faults files.new)) (run_in run.now) result }
     ensures held { (name : List ℕ) → F.holds files.new name ≡ F.holds files.old name }
 {
     match files.get(alloc, run.file, SOURCE_LIMIT) {

@@ -5,12 +5,13 @@ ghost use Rattle.std.specs.Prelude.{◌≡◌, ◌-◌, ◌<◌, ◌^◌, ℕ, L
 ghost use Rattle.jh_ast.specs.Bare.{program_tree};
 ghost use Rattle.jh_run.specs.jh_logic.source.Laws.{IsAccepted};
 ghost use Rattle.jh_vars.specs.Reading.{IsAcyclic};
-ghost use Rattle.jh_reply.specs.Causes.{FitsBytes, FitsFile, IsReply};
+ghost use Rattle.jh_reply.specs.Causes.{FitsBytes, FitsFile, IsReply, files_seen};
 
 use crate::error::Unreported;
 use crate::reading::{SOURCE_LIMIT, read, spelled_source_is_accepted};
 use crate::reply::{Reply, reply_to_fault, reply_to_refusal};
 use crate::reporting::verify;
+use crate::status::Status;
 use jh_files::Files;
 use jh_name::options::Options;
 use jh_run::jh_unfolding::unfolder::Unfolded;
@@ -24,7 +25,7 @@ fn reply_to_program(alloc: Global, options: Options, source: Unfolded) -> Reply
 {
     match verify(alloc, options, source) {
         Ok(verified) => Reply::Report(verified.text, verified.accepted),
-        Err(Unreported::Crowded(text)) => Reply::Line(text, 3),
+        Err(Unreported::Crowded(text)) => Reply::Line(text, Status::Refused),
         Err(Unreported::Memory) => Reply::NoMemory,
     }
 }
@@ -44,7 +45,7 @@ fn reply_to_bytes(alloc: Global, options: Options, bytes: &[u8]) -> Reply
 /// What `verify` of a file comes to.
 pub fn verify_file<F: Files>(alloc: Global, file: &str, options: Options, files: &mut F) -> Reply
     requires { 0 < options.leaves }
-    ensures fits { FitsFile options (record { holds = F.holds files.old; before = F.faults files.old; after = F.faults files.new }) file.now result }
+    ensures fits { FitsFile options (files_seen (F.holds files.old) (F.faults files.old) (F.faults files.new)) file.now result }
     ensures held { (name : List ℕ) → F.holds files.new name ≡ F.holds files.old name }
 {
     match files.get(alloc, file, SOURCE_LIMIT) {

@@ -1,0 +1,1 @@
+pub use Rattle.jh_reply.specs as jh_reply
