@@ -600,8 +600,13 @@
 //! ```
 #![tactic(auto)]
 
-use jahob::jahob;
-use jh_files::{HostFiles, HostSink, Sink, put_all};
+ghost use Rattle.std.specs.Prelude.{◌≡◌, ◌≢◌, [], IfErr, IfOk, map, string_bytes};
+ghost use Rattle.std.specs.IoError.{error_kind};
+ghost use Rattle.jahob.specs.jh_reply.Causes.{Answered, Delivered, due, files_seen, no_memory, sink_seen};
+
+use jahob::{jahob, say_no_memory};
+use jh_files::{Files, HostFiles, HostSink, Sink};
+use std::alloc::Global;
 use std::io::ErrorKind;
 use std::process::ExitCode;
 use std::{env, io};
@@ -615,18 +620,44 @@ fn words(rt: &HostRuntime) -> io::Result<Vec<String>> {
     Ok(words)
 }
 
-/// Says that memory ran out, and answers the status: 6, or 5 where that can't be written.
-fn no_memory<E: Sink>(err: &mut E) -> u8 {
-    match put_all(err, b"no memory\n") {
-        Ok(()) => 6,
-        Err(_) => 5,
+/// What the words after the program's name come to, and the exit status. Where one of them isn't UTF-8 they ask for nothing, as no
+/// words do; where there was no memory for them, that is said.
+fn answer<F: Files, O: Sink, E: Sink>(
+    alloc: Global,
+    words: &io::Result<Vec<String>>,
+    files: &mut F,
+    out: &mut O,
+    err: &mut E,
+) -> u8
+    ensures words { IfOk words.now (λ came. Answered (map (λ word. string_bytes word) came.items)
+        (files_seen (F.holds files.old) (F.faults files.old) (F.faults files.new))
+        (sink_seen (O.written out.old) (O.written out.new) (O.faults out.old) (O.faults out.new))
+        (sink_seen (E.written err.old) (E.written err.new) (E.faults err.old) (E.faults err.new))
+        result) }
+    ensures no_text { IfErr words.now (λ fault. error_kind fault ≡ ErrorKind.InvalidData → Answered []
+        (files_seen (F.holds files.old) (F.faults files.old) (F.faults files.new))
+        (sink_seen (O.written out.old) (O.written out.new) (O.faults out.old) (O.faults out.new))
+        (sink_seen (E.written err.old) (E.written err.new) (E.faults err.old) (E.faults err.new))
+        result) }
+    ensures no_memory { IfErr words.now (λ fault. error_kind fault ≢ ErrorKind.InvalidData → Delivered (due no_memory)
+        (sink_seen (O.written out.old) (O.written out.new) (O.faults out.old) (O.faults out.new))
+        (sink_seen (E.written err.old) (E.written err.new) (E.faults err.old) (E.faults err.new))
+        result) }
+{
+    match words {
+        Ok(words) => jahob(alloc, words.as_slice(), files, out, err),
+        Err(fault) => {
+            if fault.kind() == ErrorKind::InvalidData {
+                jahob(alloc, &[], files, out, err)
+            } else {
+                say_no_memory(out, err)
+            }
+        }
     }
 }
 
-/// Calls `jahob` with the words after the program's name. Where one of them isn't UTF-8 they ask for
-/// nothing, as no words do.
+/// Calls `jahob` with the words after the program's name, the files of the host and its two streams, and ends with its status.
 fn main(rt: HostRuntime) -> ExitCode {
-    let alloc = rt.alloc();
     let mut files = HostFiles { rt: &rt, failed: 0 };
     let mut out = HostSink {
         inner: rt.stdout(),
@@ -636,12 +667,5 @@ fn main(rt: HostRuntime) -> ExitCode {
         inner: rt.stderr(),
         failed: 0,
     };
-    let status = match words(&rt) {
-        Ok(words) => jahob(alloc, words.as_slice(), &mut files, &mut out, &mut err),
-        Err(fault) if fault.kind() == ErrorKind::InvalidData => {
-            jahob(alloc, &[], &mut files, &mut out, &mut err)
-        }
-        Err(_) => no_memory(&mut err),
-    };
-    ExitCode::from(status)
+    ExitCode::from(answer(rt.alloc(), &words(&rt), &mut files, &mut out, &mut err))
 }

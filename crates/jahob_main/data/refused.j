@@ -1,0 +1,4 @@
+class Swap {
+  static Object a;
+  static void clear() { a = 1; }
+}
