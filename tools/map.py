@@ -1,9 +1,11 @@
 #!/usr/bin/env python3
-"""Writes the table of crates in docs/MAP.md, and looks whether what pages say of crates is so.
+"""Writes the table of crates in docs/MAP.md and the lists of proofs that crates give out, and looks whether what pages
+say of crates is so.
 
-tools/map.py write   writes the table, from the first lines of the crates' READMEs and from crates.txt
+tools/map.py write   writes the table, from the first lines of the crates' READMEs and from crates.txt; and into each
+                     README the modules of proofs that other crates cite, with the first sentence of each
 tools/map.py check   writes nothing, says what isn't so, and ends with 1 where something isn't:
-                     the table is the one that is written;
+                     the table and the lists are those that are written;
                      each arrow of the drawing leads to a group in which a crate depends on one of where it comes from;
                      each step of the walk names the crate of the step before, and is truly above or below it;
                      each README tells truly what its crate stands on, what stands on it, its modules, and the scripts
@@ -27,12 +29,21 @@ EXAMPLES = ('jh_low', 'jh_mid')
 # The most ways through crates.txt from a crate down, in all: one kit walks each of them, once for each source file.
 MOST_PATHS = 200_000
 CITED = re.compile(r'`((?:jh_|jahob)\w*)((?:::\w+)+|/(?:src|specs|proofs)[/\w.+]*)?`')
+# Where a module of another crate's proofs is named: by an import, or in the line of a tactic.
+CITING = re.compile(r'\bRattle\.(\w+)\.proofs\.([\w.]+)|\b(\w+)::proofs::([\w:]+)')
+GIVEN = '## Proofs that are given out\n\n'
 STEP = re.compile(r'^(\d+)\. `(\w+)`(?: \((above|below) `(\w+)`\))?: ')
 
 
 def text_of(path):
     with open(path, encoding='utf-8') as file:
         return file.read()
+
+
+def put(path, text):
+    if text_of(path) != text:
+        with open(path, 'w', encoding='utf-8') as file:
+            file.write(text)
 
 
 def libraries_of(text):
@@ -111,6 +122,65 @@ def table(libraries, told):
             lines += filled(f'`{name}`: {told[name]["Contract"]} *Uses* {uses}.', '-')
         lines.append('')
     return '\n'.join(lines)
+
+
+def module_of(top, crates, owner, names):
+    """The module of proofs that a path names, with its crate: the longest front of it that is a file."""
+    while names and names[0].startswith('of_') and names[0][3:] in crates:
+        owner, names = names[0][3:], names[1:]
+    for count in range(len(names), 0, -1):
+        path = '/'.join(names[:count])
+        if names[count - 1][:1].isupper() and os.path.exists(f'{top}/crates/{owner}/proofs/{path}.antt'):
+            return owner, path
+    return None
+
+
+def cited_proofs(top, crates):
+    """For each crate the modules of its proofs that others cite."""
+    cited = {name: set() for name in crates}
+    for name in crates:
+        paths = [path for part in ('src', 'specs', 'proofs')
+                 for path in glob.glob(f'{top}/crates/{name}/{part}/**/*.*', recursive=True)]
+        named = {it for path in paths if path.endswith(('.rt', '.antt')) for it in CITING.findall(text_of(path))}
+        for one, dotted, other, coloned in named:
+            found = module_of(top, crates, one or other, (dotted or coloned).replace('::', '.').strip('.').split('.'))
+            if found and found[0] in cited and found[0] != name:
+                cited[found[0]].add(found[1])
+    return cited
+
+
+def first_sentence(path):
+    """The first sentence of a file's first comment."""
+    lines = [line for line in text_of(path).splitlines() if line and 'ritten by tools/' not in line]
+    told = []
+    for line in lines:
+        if line.startswith('-- '):
+            told.append(line[3:])
+        elif told:
+            break
+    return re.split(r'(?<=\.) (?=[A-Z])', ' '.join(told))[0]
+
+
+def given(top, name, modules):
+    """The list of the proofs that a crate gives out, as it stands in its README; empty where it gives out none."""
+    if not modules:
+        return ''
+    lines = ['Crates above cite these modules of `proofs/`; the others serve this crate alone.', '']
+    for module in sorted(modules):
+        lines += filled(f'`{module}`: {first_sentence(f"{top}/crates/{name}/proofs/{module}.antt")}', '-')
+    return BEGIN + '\n'.join(lines) + '\n' + END
+
+
+def with_given(readme, text):
+    """A README with another list of the proofs that its crate gives out, which stands before how it is proved."""
+    if GIVEN in readme:
+        front, _, rest = readme.partition(GIVEN)
+        back = rest.partition(END)[2].lstrip('\n')
+    else:
+        front, mark, back = readme.partition('## How')
+        back = mark + back
+    front = front.rstrip('\n') + '\n'
+    return front + (f'\n{GIVEN}{text}' if text else '') + (f'\n{back}' if back else '')
 
 
 def groups_apart(page, libraries, told, below):
@@ -198,8 +268,8 @@ class Cited:
             return self.is_there(modules[0], '::'.join(['', *modules[1:], last]))
         if len(modules) == 1 and not os.path.exists(f'{place}.rt') and not modules[0][0].isupper():
             return False
-        return re.search(rf'\b(fn|struct|enum|trait|type|const|static|impl) {last}\b|^ +{last}\b|^pub use [^;]*\b{last}\b',
-                         self.text(crate), flags=re.MULTILINE) is not None
+        item = rf'\b(fn|struct|enum|trait|type|const|static|impl) {last}\b|^ +{last}\b|^pub use [^;]*\b{last}\b'
+        return re.search(item, self.text(crate), flags=re.MULTILINE) is not None
 
 
 def page_apart(path, page, cited):
@@ -233,21 +303,27 @@ def faults_of(top):
     faults = [it for name in libraries for it in readme_apart(top, name, told[name], below)]
     if paths_of(libraries) > MOST_PATHS:
         faults.append(f'crates.txt has {paths_of(libraries)} paths, more than {MOST_PATHS}')
+    for name, modules in cited_proofs(top, libraries).items():
+        readme = text_of(f'{top}/crates/{name}/README.md')
+        if readme != with_given(readme, given(top, name, modules)):
+            faults.append(f'{name}/README.md has another list of proofs that are given out: tools/map.py write')
     page = text_of(f'{top}/docs/MAP.md')
     if not faults:
         if parts_of(page)[1] != table(libraries, told):
             faults.append('docs/MAP.md has another table of crates: tools/map.py write')
         faults += groups_apart(page, libraries, told, below) + steps_apart(page, below)
-    cited = Cited(top)
-    return faults + [it for path in pages_of(top) for it in page_apart(path, text_of(path), cited)]
+    there = Cited(top)
+    return faults + [it for path in pages_of(top) for it in page_apart(path, text_of(path), there)]
 
 
 def write(top):
     libraries = libraries_of(text_of(f'{top}/crates.txt'))
     told = {name: told_of(text_of(f'{top}/crates/{name}/README.md')) for name in libraries}
     front, _, back = parts_of(text_of(f'{top}/docs/MAP.md'))
-    with open(f'{top}/docs/MAP.md', 'w', encoding='utf-8') as file:
-        file.write(front + BEGIN + table(libraries, told) + END + back)
+    put(f'{top}/docs/MAP.md', front + BEGIN + table(libraries, told) + END + back)
+    for name, modules in cited_proofs(top, libraries).items():
+        path = f'{top}/crates/{name}/README.md'
+        put(path, with_given(text_of(path), given(top, name, modules)))
 
 
 def main(words):

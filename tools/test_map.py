@@ -140,6 +140,20 @@ class Room(unittest.TestCase):
         self.assert_fault('mid/README.md tells other modules than src has: other')
         self.assert_fault('mid/README.md tells other scripts than files name: tools/some.py')
 
+    def test_proofs_that_others_cite_are_listed(self):
+        self.put('crates/low/proofs/part/Steps.antt', '-- Written by tools/some.py.\n-- Each step\n-- is one. More.\n')
+        self.put('crates/mid/proofs/Lib.antt', 'pub use Rattle.low.proofs as of_low\n')
+        self.put('crates/high/proofs/Uses.antt', 'use Rattle.mid.proofs.of_low.part.Steps.{step}\n')
+        self.change('crates/low/README.md', '- Nothing here', '- Scripts: `tools/some.py`. Nothing here')
+        self.assert_fault('low/README.md has another list of proofs')
+        maps.write(self.top)
+        self.assertEqual(maps.faults_of(self.top), [])
+        self.assertIn('- `part/Steps`: Each step is one.\n', maps.text_of(f'{self.top}/crates/low/README.md'))
+        self.put('crates/high/proofs/Uses.antt', '')
+        self.assert_fault('low/README.md has another list of proofs')
+        maps.write(self.top)
+        self.assertNotIn('given out', maps.text_of(f'{self.top}/crates/low/README.md'))
+
     def test_what_is_cited_has_to_be_there(self):
         self.put('crates/jh_it/src/part.rt', 'pub fn work() {}\n')
         self.put('README.md', '`jh_it::part::work`, `jh_it::work` and `jh_it/src/part.rt`\n')
