@@ -5,7 +5,7 @@ mod Labels
 mod Found
 mod Made
 mod Boxed
-mod Facts
+pub mod Facts
 pub mod Crossings
 mod Among
 mod Restricted
