@@ -7,16 +7,17 @@ use std::thread::{scope, Builder};
 
 pub mod files;
 pub mod queries;
+pub mod random;
 pub mod source;
 pub mod text;
 pub mod values;
 pub mod words;
 
-/// Runs what needs more stack than a test has: calls on formulas that are thousands of levels deep.
+/// Runs what needs more stack than a test has: calls on large programs, on the 8 MB that a host gives a program.
 pub fn with_large_stack(run: impl FnOnce() + Send) {
     scope(|threads| {
         let running = Builder::new()
-            .stack_size(256 << 20)
+            .stack_size(8 << 20)
             .spawn_scoped(threads, run);
         running
             .expect("a thread")

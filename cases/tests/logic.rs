@@ -34,8 +34,6 @@ mod judging;
 mod keeping;
 #[path = "logic/listing.rs"]
 mod listing;
-#[path = "logic/random.rs"]
-mod random;
 #[path = "logic/running.rs"]
 mod running;
 #[path = "logic/sources.rs"]

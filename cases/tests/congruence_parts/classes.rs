@@ -1,9 +1,10 @@
 //! Congruence closure over the terms and formulas of a table, with inequations: cases, random runs and a long chain.
 
 use crate::plain::{
-    is_conflict, number, pairs, parts_of, picked, sorted, Labels, Random, Tally, Term,
+    is_conflict, number, pairs, parts_of, picked, sorted, Labels, Tally, Term,
 };
 use cases::files::Case;
+use cases::random::Random;
 use cases::words::{leaf, made, operation};
 use jh_cong::classes::{Classes, CongError, Said};
 use jh_arena::makers::free_object;

@@ -131,37 +131,6 @@ pub fn picked(said: &[Said], listed: &[usize]) -> Vec<Said> {
     listed.iter().map(|number| said[*number]).collect()
 }
 
-/// Numbers that look random, from a seed (the generator xorshift64* of Marsaglia and Vigna).
-pub struct Random(u64);
-
-impl Random {
-    /// The numbers of a seed.
-    pub fn new(seed: u64) -> Random {
-        Random(seed.wrapping_mul(2_862_933_555_777_941_757) | 1)
-    }
-
-    /// A number below a bound, or 0 where the bound is 0.
-    pub fn below(&mut self, bound: usize) -> usize {
-        let mut x = self.0;
-        x ^= x >> 12;
-        x ^= x.wrapping_mul(1 << 25);
-        x ^= x >> 27;
-        self.0 = x;
-        let number = x.wrapping_mul(2_685_821_657_736_338_717) >> 33;
-        (number as usize).checked_rem(bound).unwrap_or(0)
-    }
-
-    /// Whether one in so many.
-    pub fn one_in(&mut self, count: usize) -> bool {
-        self.below(count) == 0
-    }
-
-    /// A pair of nodes, of so many.
-    pub fn pair(&mut self, count: usize) -> (usize, usize) {
-        (self.below(count), self.below(count))
-    }
-}
-
 /// The texts of a case: its nodes, its steps and a pair, with bars between them.
 pub fn parts_of(text: &str) -> (&str, &str, &str) {
     let mut parts = text.split('|');

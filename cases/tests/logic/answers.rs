@@ -2,7 +2,7 @@
 
 use crate::judging::owed_of;
 use crate::listing::is_tried;
-use crate::random::Random;
+use cases::random::Random;
 use crate::running::{said_by_runs, Said};
 use crate::sources::Case;
 use jh_name::options::Options;

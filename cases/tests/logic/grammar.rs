@@ -1,6 +1,6 @@
 //! Random texts of a grammar.
 
-use crate::random::Random;
+use cases::random::Random;
 
 /// How many steps a text grows freely, and how many there are at most.
 const GROWING: usize = 160;

@@ -3,7 +3,7 @@
 //! `go` does and asserts where it returns what `go` promises.
 
 use crate::grammar::{expand, Gives, Rule, Spot};
-use crate::random::Random;
+use cases::random::Random;
 use crate::world::World;
 use std::fmt;
 

@@ -1,7 +1,7 @@
 //! Random heaps of the classes of the random sources, with the arguments of their methods, as texts
 //! and as interpretations.
 
-use crate::random::Random;
+use cases::random::Random;
 use cases::text;
 use cases::row;
 use cases::values::name;
