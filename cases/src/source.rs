@@ -29,5 +29,6 @@ pub fn typed(source: &str) -> Result<Typed, Refusal> {
 
 /// The program of a source, with its formulas in a table.
 pub fn unfolded(source: &str) -> Result<Unfolded, Refusal> {
-    jh_unfolding::unfolder::unfold(Global, typed(source)?).map_err(|refused| Refusal::Definitions(refused.fault))
+    jh_unfolding::unfolder::unfold(Global, typed(source)?)
+        .map_err(|refused| Refusal::Definitions(refused.fault))
 }

@@ -1,8 +1,8 @@
 //! Names, kinds of labels and the nodes of a table as text.
 
-use jh_name::Name;
 use jh_arena::table::{Shape, Table};
 use jh_form::MarkKind;
+use jh_name::Name;
 
 /// The word for a kind of label.
 pub fn kind_word(kind: MarkKind) -> &'static str {

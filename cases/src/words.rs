@@ -2,15 +2,15 @@
 //! text.
 
 use crate::row;
-use jh_import::entering::enter_formula;
 use jh_arena::makers::{
     bound, constant, free_field, free_number, free_object, free_set, free_truth, labelled,
 };
+use jh_arena::table::{Shape, Table};
+use jh_export::{boxed_field, boxed_formula, boxed_int, boxed_set, boxed_term, value};
+use jh_form::{FieldTerm, Formula, IntTerm, Mark, MarkKind, SetTerm, Term, Value};
+use jh_import::entering::enter_formula;
 use jh_name::{name, MethodId, Name, Place, Row, Sort};
 use jh_seq::sequent::{Hyp, Sequent};
-use jh_arena::table::{Shape, Table};
-use jh_form::{FieldTerm, Formula, IntTerm, Mark, MarkKind, SetTerm, Term, Value};
-use jh_export::{boxed_field, boxed_formula, boxed_int, boxed_set, boxed_term, value};
 use rattle_std::alloc::Global;
 use std::str::SplitWhitespace;
 

@@ -11,9 +11,9 @@ mod worlds;
 
 use cases::files::{check, lines, Case};
 use cases::row;
+use jh_form::{Formula, Term};
 use jh_name::{name, Name};
 use jh_reach::{axioms, Backbone, NameBase};
-use jh_form::{Formula, Term};
 use rattle_std::alloc::Global;
 use worlds::{large_worlds, small_worlds, Reading, World};
 

@@ -35,7 +35,12 @@ fn answers(case: &Case) -> String {
         .ok()
         .expect("an acyclic program");
     let mut parts = unfolded.into_parts(Global).expect("memory");
-    let all = jh_obligations::program_sequents::obligations(Global, &parts.typed, &mut parts.table, &parts.formulas);
+    let all = jh_obligations::program_sequents::obligations(
+        Global,
+        &parts.typed,
+        &mut parts.table,
+        &parts.formulas,
+    );
     let all = all.ok().expect("sequents");
     let mut made = String::new();
     for line in case.wanted.lines() {

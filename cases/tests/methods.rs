@@ -68,7 +68,9 @@ fn go_through(what: &str, count: usize, files: &[&str], made_of: fn(&str) -> Str
 #[test]
 fn formulas_have_these_values() {
     let files = [include_str!("../data/methods/formulas.cases")];
-    go_through("values of formulas", 41, &files, |source| shown(source, values));
+    go_through("values of formulas", 41, &files, |source| {
+        shown(source, values)
+    });
 }
 
 #[test]

@@ -3,17 +3,17 @@
 //! bound.
 
 use cases::row;
-use jh_command_terms::command::Command;
-use jh_weakest::sequent_count::count;
+use jh_arena::makers::free_truth;
 use jh_boxed_calls::formulas::{
     carry, conjunction, free_object, negation, negation_normal, null, same_object, truth,
     unlabelled, vary,
 };
 use jh_boxed_calls::formulas::{Formulas, FreeNames, NodeList, Order, Table};
-use jh_arena::makers::free_truth;
+use jh_command_terms::command::Command;
 use jh_name::{name, MethodId};
 use jh_splitting::split_in;
 use jh_weakest::precondition::wp_in;
+use jh_weakest::sequent_count::count;
 use rattle_std::alloc::Global;
 use rattle_std::boxed::Box;
 use std::thread::Builder;

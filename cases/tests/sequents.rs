@@ -4,8 +4,8 @@
 use cases::files::{blocks, check, Case};
 use cases::queries::cond_text;
 use cases::words::sequent_of;
-use jh_name::options::Options;
 use jh_boxed_calls::sequents::{bapa_of, prove, Answer, BapaCause};
+use jh_name::options::Options;
 use jh_query::queries::Query;
 use rattle_std::alloc::Global;
 

@@ -1,15 +1,13 @@
 //! Congruence closure over the terms and formulas of a table, with inequations: cases, random runs and a long chain.
 
-use crate::plain::{
-    is_conflict, number, pairs, parts_of, picked, sorted, Labels, Tally, Term,
-};
+use crate::plain::{is_conflict, number, pairs, parts_of, picked, sorted, Labels, Tally, Term};
 use cases::files::Case;
 use cases::random::Random;
 use cases::words::{leaf, made, operation};
-use jh_cong::classes::{Classes, CongError, Said};
 use jh_arena::makers::free_object;
-use jh_name::name;
 use jh_arena::table::{Own, Shape, Table};
+use jh_cong::classes::{Classes, CongError, Said};
+use jh_name::name;
 use rattle_std::alloc::Global;
 use std::time::Instant;
 

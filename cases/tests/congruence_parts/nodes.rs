@@ -1,8 +1,8 @@
 //! Congruence closure over plain nodes: cases, random runs and a long chain.
 
 use crate::plain::{number, pairs, parts_of, sorted, Labels, Tally, Term};
-use cases::random::Random;
 use cases::files::Case;
+use cases::random::Random;
 use cases::row;
 use jh_closure::congruence_closure::{are_parts_inside, Closure, Node};
 use jh_cong::classes::Said;

@@ -1,7 +1,7 @@
 //! Classes of nodes by a plain fixed point over all pairs of them, and what is compared with it.
 
-use jh_cong::classes::Said;
 use jh_arena::table::Shape;
+use jh_cong::classes::Said;
 
 /// A node: its operation and its parts.
 pub struct Term<T> {

@@ -2,7 +2,9 @@
 
 use cases::row;
 use cases::words::{named, Words};
-use jh_boxed_calls::interpretations::{member, number, object, truth, FieldValue, Interp, SemError};
+use jh_boxed_calls::interpretations::{
+    member, number, object, truth, FieldValue, Interp, SemError,
+};
 use jh_name::{Name, Row};
 use rattle_std::alloc::Global;
 

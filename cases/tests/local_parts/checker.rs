@@ -2,11 +2,11 @@
 //! atoms again and again. Only congruence is asked of the classes of terms.
 
 use crate::figures::{add_atoms, Instances};
-use jh_cong::classes::{Classes, CongError};
-use jh_import::entering::enter_formula;
 use jh_arena::table::{Shape, Table};
-use jh_propagation::trail::{opposite, Decided};
+use jh_cong::classes::{Classes, CongError};
 use jh_form::Formula;
+use jh_import::entering::enter_formula;
+use jh_propagation::trail::{opposite, Decided};
 use rattle_std::alloc::Global;
 use std::collections::{BTreeSet, HashMap};
 

@@ -1,9 +1,9 @@
 //! How much there is to search of a sequent.
 
+use jh_arena::table::{Shape, Table};
 use jh_ground_input::facts_apart;
 use jh_instantiation::instances::{count, entries, InstanceError};
 use jh_local_form::local_sequents::LocalForm;
-use jh_arena::table::{Shape, Table};
 use std::collections::BTreeSet;
 
 /// After how many rounds instances are counted.

@@ -2,11 +2,11 @@
 
 use crate::checker::Checker;
 use crate::figures::{Instances, ROUNDS};
+use jh_arena::table::Table;
+use jh_closure::structures::Literal;
 use jh_import::entering::enter_formula;
 use jh_local::{search_instances, Closed, LocalCause, Searched};
 use jh_local_form::local_sequents::LocalForm;
-use jh_closure::structures::Literal;
-use jh_arena::table::Table;
 use jh_propagation::trail::{opposite, Decided};
 
 /// A closed branch over the nodes of a table: its decisions, and why it is closed.

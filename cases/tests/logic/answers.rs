@@ -2,12 +2,12 @@
 
 use crate::judging::owed_of;
 use crate::listing::is_tried;
-use cases::random::Random;
 use crate::running::{said_by_runs, Said};
 use crate::sources::Case;
+use cases::random::Random;
+use jh_boxed_calls::sequents::{prove, Answer, BapaCause};
 use jh_name::options::Options;
 use jh_prove::prover::is_unproved;
-use jh_boxed_calls::sequents::{prove, Answer, BapaCause};
 use jh_seq::sequent::Sequent;
 use rattle_std::alloc::Global;
 use std::fmt;

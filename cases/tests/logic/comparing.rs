@@ -5,9 +5,9 @@ use crate::judging::{judged_case, Judged};
 use crate::running::{said_by_runs, Said};
 use crate::sources::Case;
 use cases::text::kind_word;
+use jh_form::MarkKind;
 use jh_name::Place;
 use jh_seq::sequent::Sequent;
-use jh_form::MarkKind;
 use std::fmt;
 
 /// How many methods were tried, how many sequents they have, and what came of them.

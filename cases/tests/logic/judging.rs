@@ -4,14 +4,14 @@
 use crate::sources::Case;
 use crate::world::Constants;
 use cases::source::unfolded;
-use jh_boxed_commands::conditions::{split, wp};
-use jh_import::entering::enter_formula;
+use jh_arena::table::Table;
 use jh_boxed_calls::interpretations::{truth, Interp};
+use jh_boxed_commands::conditions::{split, wp};
 use jh_boxed_commands::methods::of_method;
+use jh_form::Formula;
+use jh_import::entering::enter_formula;
 use jh_name::MethodId;
 use jh_seq::sequent::Sequent;
-use jh_arena::table::Table;
-use jh_form::Formula;
 use rattle_std::alloc::Global;
 
 /// The first method of the first class.

@@ -2,11 +2,11 @@
 //! can say all. The rules stand here once more, over the names of formulas, so that a wrong choice
 //! shows.
 
+use jh_arena::table::{Shape, Table};
+use jh_form::Formula;
 use jh_import::entering::enter_formula;
 use jh_name::{Name, Sort};
 use jh_seq::sequent::Sequent;
-use jh_arena::table::{Shape, Table};
-use jh_form::Formula;
 use rattle_std::alloc::Global;
 use std::collections::HashSet;
 

@@ -4,12 +4,12 @@ use crate::judging::is_false;
 use crate::keeping::{kept_hyps, name_there};
 use cases::row;
 use cases::values::name;
-use jh_import::entering::enter_formula;
+use jh_arena::table::Table;
 use jh_boxed_calls::interpretations::Interp;
+use jh_import::entering::enter_formula;
 use jh_name::{Name, Sort};
 use jh_query::queries::{Sizes, Whole};
 use jh_seq::sequent::Sequent;
-use jh_arena::table::Table;
 use rattle_std::alloc::Global;
 
 /// The most objects that are listed.

@@ -2,9 +2,9 @@
 
 use crate::sources::Case;
 use cases::source::unfolded;
+use jh_machine::continuation::Stop;
 use jh_name::Place;
 use jh_run::outcome::{run_method, Unreturned};
-use jh_machine::continuation::Stop;
 use rattle_std::alloc::Global;
 
 /// How many steps a run may take.

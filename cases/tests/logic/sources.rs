@@ -3,8 +3,8 @@
 //! `go` does and asserts where it returns what `go` promises.
 
 use crate::grammar::{expand, Gives, Rule, Spot};
-use cases::random::Random;
 use crate::world::World;
+use cases::random::Random;
 use std::fmt;
 
 /// What stands in the class before its methods.

@@ -2,8 +2,8 @@
 //! and as interpretations.
 
 use cases::random::Random;
-use cases::text;
 use cases::row;
+use cases::text;
 use cases::values::name;
 use jh_boxed_calls::interpretations::FieldValue::{self, Bool, Int, Obj, Set};
 use jh_boxed_calls::interpretations::Interp;

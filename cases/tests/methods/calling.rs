@@ -1,19 +1,19 @@
 //! The commands of a call of a static method, `y = m(z)`. The method has a parameter `x`, may write
 //! the static `C.n`, requires that `x` is less than it and ensures that its result is what it was.
 
-use cases::text::name_text;
 use cases::row;
+use cases::text::name_text;
 use cases::values::name;
-use jh_command_statements::checks::bare_mark;
-use jh_call_commands::calls::{push_call, Called, Surroundings};
-use jh_state_facts::changes::SortedName;
-use jh_command_terms::command::Command;
-use jh_semantics::typed_code::{AnyCode, CallCode, Claim, Local, MethodCode, NumberCode, Target};
 use jh_arena::makers::{free_number, labelled, truth};
+use jh_arena::table::{Shape, Table};
+use jh_call_commands::calls::{push_call, Called, Surroundings};
+use jh_command_statements::checks::bare_mark;
+use jh_command_terms::command::Command;
+use jh_form::{Mark, MarkKind};
 use jh_name::{Place, Sort, Text};
 use jh_rules::Ty;
-use jh_arena::table::{Shape, Table};
-use jh_form::{Mark, MarkKind};
+use jh_semantics::typed_code::{AnyCode, CallCode, Claim, Local, MethodCode, NumberCode, Target};
+use jh_state_facts::changes::SortedName;
 use rattle_std::alloc::Global;
 use rattle_std::prelude as rattle;
 

@@ -7,9 +7,9 @@ use cases::source::program;
 use cases::with_large_stack;
 use jh_ast::Program;
 use jh_effects::modified_state::modified;
+use jh_effects::written_state::{written, MethodPlaces};
 use jh_type::checker::check;
 use jh_unfolding::unfolder::unfold;
-use jh_effects::written_state::{written, MethodPlaces};
 use rattle_std::alloc::Global;
 use std::time::Instant;
 

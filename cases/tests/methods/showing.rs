@@ -2,21 +2,21 @@
 
 use cases::source::{unfolded, Refusal};
 use cases::text::{joined, kind_word, name_text, node_text};
+use jh_arena::table::Table;
 use jh_ast::Program;
-use jh_boxed_commands::conditions::{count, split, wp};
 use jh_boxed_commands::commands::{Command, MethodCommand};
+use jh_boxed_commands::conditions::{count, split, wp};
 use jh_boxed_commands::methods::{method_name, of_method};
 use jh_effects::modified_state::modified;
+use jh_effects::written_state::{written, MethodPlaces};
+use jh_form::{Formula, Mark};
 use jh_name::MethodId;
 use jh_obligations::program_sequents::{obligations, LogicError};
-use jh_splitting::{NodeHyp, Sequents};
 use jh_spec::parser::ParseError;
-use jh_vars::state_names::state_list;
-use jh_arena::table::Table;
-use jh_form::{Formula, Mark};
+use jh_splitting::{NodeHyp, Sequents};
 use jh_type::checker::TypeError;
 use jh_unfolding::unfolder::{Unfolded, VarsError};
-use jh_effects::written_state::{written, MethodPlaces};
+use jh_vars::state_names::state_list;
 use rattle_std::alloc::Global;
 
 /// What is written of a source, or why it is refused.

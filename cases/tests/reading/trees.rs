@@ -9,10 +9,10 @@
 use crate::parts::{form, part};
 use crate::statements::{class_text, statements};
 use jh_lex::lexer::{tokens, LexError, Token};
-use jh_parse::programs::program;
 use jh_operators::lookahead::{is_end, ReadError};
-use jh_spec::parser::{formula, spec, ParseError};
+use jh_parse::programs::program;
 use jh_parse::statements::body;
+use jh_spec::parser::{formula, spec, ParseError};
 use rattle_std::alloc::Global;
 
 /// Why nothing is read.
