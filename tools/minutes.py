@@ -121,11 +121,6 @@ def chain_of(libraries, minutes):
     return max((of(name) for name in libraries), default=(0, []))
 
 
-def half(minutes):
-    """Minutes to the half below ten, and whole above."""
-    return f'{round(minutes * 2) / 2:g}' if minutes < 10 else f'{round(minutes)}'
-
-
 def table(libraries, took):
     """The table of minutes, and what they come to, as lines of a page."""
     minutes = {name: seconds / 60 for name, seconds in took.items()}
@@ -135,9 +130,9 @@ def table(libraries, took):
     rows = {}
     for name, it in crates.items():
         if it >= LEAST:
-            rows.setdefault(half(it), []).append(f'`{name}`')
+            rows.setdefault(round(it), []).append(f'`{name}`')
     lines = ['| Minutes | Crates |', '|---|---|']
-    lines += [f'| {it} | {", ".join(sorted(rows[it]))} |' for it in sorted(rows, key=float, reverse=True)]
+    lines += [f'| {it} | {", ".join(sorted(rows[it]))} |' for it in sorted(rows, reverse=True)]
     missing = sorted(set(libraries) - set(crates))
     return '\n'.join([
         *lines, '',
