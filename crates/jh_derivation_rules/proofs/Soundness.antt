@@ -23,7 +23,7 @@ use Rattle.jh_derivation_rules.specs.Cited.{members, are_one, has_axioms, update
 use Rattle.jh_derivation_rules.specs.Steps.{StepTree}
 use Rattle.jh_derivation_rules.specs.Steps as s
 use Rattle.jh_derivation_rules.specs.Rules.{Rule, equation, pushed, leads_as, described, fact_opened, rule_adds, rule_from, rule_from_two, conjunction_rule, disjunction_rule, implication_rule, equivalence_rule, negation_rule, instance_rule, witness_rule, update_rule, base_needs, base_rule, numbered_rule, axiom_rule, rule_of, is_closed_step, Has, HasAll, IsFresh, Suits, Meets}
-use Rattle.jh_derivation_rules.specs.Closes.{AllHold, Clash}
+use Rattle.jh_derivation_rules.specs.Closes.{AllHold, AreUnsatisfiable}
 use Rattle.jh_derivation_rules.proofs.Truths.{true-or-false, both-true, either-true, implies-true, agree-either, not-true, not-false, some-found, every-at}
 use Rattle.jh_derivation_rules.proofs.Equations.{Holds, HoldsIf, inside-none, equation-same, same-equation, same-sym, same-trans, reads-true, refuted-false}
 use Rattle.jh_derivation_rules.proofs.Openings.{pushed-true, described-true, opened-true}
@@ -209,7 +209,7 @@ assigned-inside m x v lt inside = record {
 is-object : (m : Interp) (x : Name) (v : ℕ) → (assigned m x (an_object v)).object x ≡ v
 is-object m x v = λ i. if name_equal-same x x refl i then v else m.object x
 
-witness-clash : (fs : List FormulaTree) (a : FormulaTree) (x : Name) → IsFresh fs x → Has fs (t.ex a) → Clash (fs ++ opened a (t.free_object x) ∷ []) → Clash fs
+witness-clash : (fs : List FormulaTree) (a : FormulaTree) (x : Name) → IsFresh fs x → Has fs (t.ex a) → AreUnsatisfiable (fs ++ opened a (t.free_object x) ∷ []) → AreUnsatisfiable fs
 unfolding formula_passes is_closed_term
 witness-clash fs a x fresh has clash m inside hold =
     let found = some-found m.last (λ y. truth a m (y ∷ [])) (hold-has m fs (t.ex a) hold has) in
@@ -223,21 +223,21 @@ witness-clash fs a x fresh has clash m inside hold =
 -- each branch clashes
 abbrev pub BranchesClash : List FormulaTree → List (List FormulaTree) → Type 0
 BranchesClash fs [] = Unit {0}
-BranchesClash fs (added ∷ rest) = Clash (fs ++ added) × BranchesClash fs rest
+BranchesClash fs (added ∷ rest) = AreUnsatisfiable (fs ++ added) × BranchesClash fs rest
 
 some-clash : (m : Interp) (fs : List FormulaTree) (adds : List (List FormulaTree)) → InUniverse m → AllHold m fs → BranchesClash fs adds → SomeHold m adds → ⊥
 some-clash m fs [] inside hold clash found = found
 some-clash m fs (added ∷ rest) inside hold clash (inl here) = clash.0 m inside (hold-append m fs added hold here)
 some-clash m fs (added ∷ rest) inside hold clash (inr later) = some-clash m fs rest inside hold clash.1 later
 
-plain-clash : AxiomsAreTrue → (fs : List FormulaTree) (x : StepTree) (r : Rule) → IsPlain x → Meets fs x r → BranchesClash fs r.adds → Clash fs
+plain-clash : AxiomsAreTrue → (fs : List FormulaTree) (x : StepTree) (r : Rule) → IsPlain x → Meets fs x r → BranchesClash fs r.adds → AreUnsatisfiable fs
 plain-clash truths fs x r plain meets clash m inside hold =
     let sound : Sound m (Some r) = subst (λ (o : Option Rule). Sound m o) meets.form (plain-sound truths m inside fs x plain meets.closed meets.suits) in
     some-clash m fs r.adds inside hold clash (sound (hold-all m fs r.needs hold meets.facts))
 
 -- the rule of a witness, where its formula is existential
 abbrev IsWitness : List FormulaTree → FormulaTree → Name → Option Rule → Type 0
-IsWitness fs a x (Some r) = HasAll fs r.needs → BranchesClash fs r.adds → IsFresh fs x → Clash fs
+IsWitness fs a x (Some r) = HasAll fs r.needs → BranchesClash fs r.adds → IsFresh fs x → AreUnsatisfiable fs
 IsWitness fs a x None = Unit {0}
 
 witness-rule : (fs : List FormulaTree) (a : FormulaTree) (x : Name) → IsWitness fs a x (witness_rule a x)
@@ -245,12 +245,12 @@ unfolding witness_rule
 witness-rule fs (t.ex a) x = λ has clash fresh. witness-clash fs a x fresh has.0 clash.0
 witness-rule fs _ x = tt
 
-taken-clash : (fs : List FormulaTree) (a : FormulaTree) (x : Name) (r : Rule) → Meets fs (s.witness a x) r → BranchesClash fs r.adds → Clash fs
+taken-clash : (fs : List FormulaTree) (a : FormulaTree) (x : Name) (r : Rule) → Meets fs (s.witness a x) r → BranchesClash fs r.adds → AreUnsatisfiable fs
 unfolding rule_of
 taken-clash fs a x r meets clash =
     let taken : IsWitness fs a x (Some r) = subst (λ (o : Option Rule). IsWitness fs a x o) meets.form (witness-rule fs a x) in
     taken meets.facts clash meets.suits
 
-pub step-clash : AxiomsAreTrue → (fs : List FormulaTree) (x : StepTree) (r : Rule) → Meets fs x r → BranchesClash fs r.adds → Clash fs
+pub step-clash : AxiomsAreTrue → (fs : List FormulaTree) (x : StepTree) (r : Rule) → Meets fs x r → BranchesClash fs r.adds → AreUnsatisfiable fs
 step-clash truths fs (s.witness a x) r meets clash = taken-clash fs a x r meets clash
 step-clash truths fs x r meets clash = plain-clash truths fs x r tt meets clash

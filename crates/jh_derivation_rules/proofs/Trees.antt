@@ -9,13 +9,13 @@ use Rattle.jh_seq.specs.sequent.Sequents.{HypTree, SequentTree, AllTrue, IsValid
 use Rattle.jh_reach.specs.Truths.{AxiomsAreTrue}
 use Rattle.jh_derivation_rules.specs.Steps.{StepTree, bare_step}
 use Rattle.jh_derivation_rules.specs.Rules.{Rule, Meets}
-use Rattle.jh_derivation_rules.specs.Closes.{Closes, AllClose, step, none, more, after, Runs, FailsAt, AllHold, Clash, ClosesSequent, facts_of}
+use Rattle.jh_derivation_rules.specs.Closes.{Closes, AllClose, step, none, more, after, Runs, FailsAt, AllHold, AreUnsatisfiable, ClosesSequent, facts_of}
 use Rattle.jh_derivation_rules.proofs.Truths.{true-or-false, not-false}
 use Rattle.jh_derivation_rules.proofs.Unmarkings.{truth-unmarked}
 use Rattle.jh_derivation_rules.proofs.Soundness.{BranchesClash, step-clash, hold-append}
 
 mutual
-  pub closes-clash : AxiomsAreTrue → (fs : List FormulaTree) (ss : List StepTree) → Closes fs ss → Clash fs
+  pub closes-clash : AxiomsAreTrue → (fs : List FormulaTree) (ss : List StepTree) → Closes fs ss → AreUnsatisfiable fs
   closes-clash truths _ _ (step fs s r ss meets rest) = step-clash truths fs s r meets (all-clash truths fs r.adds ss rest)
 
   all-clash : AxiomsAreTrue → (fs : List FormulaTree) (adds : List (List FormulaTree)) (ss : List StepTree) → AllClose fs adds ss → BranchesClash fs adds

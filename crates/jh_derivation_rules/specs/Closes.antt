@@ -58,5 +58,5 @@ AllHold m [] = Unit {0}
 AllHold m (a ∷ rest) = (truth a m [] ≡ true) × AllHold m rest
 
 -- the facts are never true together
-abbrev pub Clash : List FormulaTree → Type 0
-Clash fs = (m : Interp) → InUniverse m → AllHold m fs → ⊥
+abbrev pub AreUnsatisfiable : List FormulaTree → Type 0
+AreUnsatisfiable fs = (m : Interp) → InUniverse m → AllHold m fs → ⊥

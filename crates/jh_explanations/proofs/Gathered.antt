@@ -7,7 +7,7 @@ use Rattle.jh_closure.specs.congruence_closure.Nodes.{Has}
 use Rattle.jh_closure.proofs.congruence_closure.Having.{has-at, has-left, has-last, has-pushed}
 use Rattle.jh_models.specs.ground_models.Atoms.{IsGroundAtom}
 use Rattle.jh_models.specs.ground_models.Clashes.{Clash}
-use Rattle.jh_models.specs.ground_models.Explanations.{Closes}
+use Rattle.jh_models.specs.ground_models.Explanations.{ClosesBranch}
 use Rattle.jh_models.specs.shortening.Steps.{MayStand, AreSteps}
 use Rattle.jh_models.specs.shortening.Laws.{MostIsKept}
 use Rattle.jh_propagation.specs.declared.trail.decided.Decided.{Decided}
@@ -136,7 +136,7 @@ module _ (ts : List ValueTree) (p : Problem) (trail : List Decided) (reasons : L
 
     -- in the end the steps close the branch
     module _ (ss : List Step) (h : AreGathered ts p ds trail marks (length trail) ss) where
-      pub gathered-close : Closes (instances_in ts p) (literals_at ts ds) (trees_of ts ss)
+      pub gathered-close : ClosesBranch (instances_in ts p) (literals_at ts ds) (trees_of ts ss)
       gathered-close = law.closes (instances_in ts p) (literals_at ts ds) (trees_of ts ss) h.goes (explained.clash (literals_of ss) h.all)
 
       pub gathered-right : ((d : Decided) → Has ds d → Has trail d) → AreRight p ds ss

@@ -9,7 +9,7 @@ use Rattle.jh_closure.proofs.congruence_closure.Having.{has-at, has-pushed}
 use Rattle.jh_cong.proofs.classes.Looking.{take-next}
 use Rattle.jh_arena.specs.table.Growth.{AreDifferent}
 use Rattle.jh_models.specs.ground_models.Clashes.{Clash}
-use Rattle.jh_models.specs.ground_models.Explanations.{Closes, IsExplanation}
+use Rattle.jh_models.specs.ground_models.Explanations.{ClosesBranch, IsExplanation}
 use Rattle.jh_models.specs.shortening.Steps.{MayStand, IsMost}
 use Rattle.jh_models.specs.shortening.Shortened.{IsShortened}
 use Rattle.jh_models.specs.shortening.Laws.{MostIsKept, ShorteningIsExact}
@@ -43,7 +43,7 @@ module _ (ts : List ValueTree) (p : Problem) (problem : IsPosed ts p) (different
     stands-kept s there had (inr clash) = inr clash
 
     -- in an explanation each step is a decision, or its opposite clashes with those before it
-    pub following-of : Closes (instances_in ts p) (literals_at ts ds) (trees_of ts ss) → AreFollowing ts p ss
+    pub following-of : ClosesBranch (instances_in ts p) (literals_at ts ds) (trees_of ts ss) → AreFollowing ts p ss
     following-of closes n s here = stands-kept s (has-at ss n s here) (literals_of (take n ss)) (goes-step ts (instances_in ts p) (literals_at ts ds) [] ss n s closes here)
 
   module _ (law : MostIsKept) (ss : List Step) (over : AreOverAtoms p.ground (literals_of ss)) (out : Decided) (out_over : Has p.ground.atoms out.atom) where

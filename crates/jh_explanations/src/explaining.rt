@@ -1,7 +1,7 @@
 ghost use Rattle.std.specs.Prelude.{◌≡◌, ◌↔◌, ◌<◌, ◌+◌, ◌++◌, [], ◌∷◌, ℕ, List, IfOk, IsTrue, OnOk, Some, length, slice_get};
 ghost use Rattle.jh_closure.specs.congruence_closure.Nodes.{Has};
 ghost use Rattle.jh_arena.specs.table.Nodes.{nodes};
-ghost use Rattle.jh_models.specs.ground_models.Explanations.{Closes};
+ghost use Rattle.jh_models.specs.ground_models.Explanations.{ClosesBranch};
 ghost use Rattle.jh_propagation.specs.trail.Saying.{literals_at};
 ghost use Rattle.jh_propagation.specs.propagation.Branches.{IsBranch};
 ghost use Rattle.jh_propagation.specs.propagation.Closings.{IsCause};
@@ -101,7 +101,7 @@ fn gather(problem: &Problem, branch: &Branch, marks: &[bool]) -> Result<Vec<Step
 pub fn explain(problem: &Problem, branch: &mut Branch, cause: &Cause) -> Result<Vec<Step>, NoMemory>
     requires branch { (busy : List ℕ) × IsBranch problem.now busy branch.old }
     requires cause { IsCause (nodes problem.now.table) problem.now branch.old.trail cause.now }
-    ensures closes { IfOk result (λ steps. Closes (instances_in (nodes problem.now.table) problem.now) (literals_at (nodes problem.now.table) branch.old.decisions.items) (trees_of (nodes problem.now.table) steps.items)) }
+    ensures closes { IfOk result (λ steps. ClosesBranch (instances_in (nodes problem.now.table) problem.now) (literals_at (nodes problem.now.table) branch.old.decisions.items) (trees_of (nodes problem.now.table) steps.items)) }
     ensures right { IfOk result (λ steps. AreRight problem.now branch.old.decisions.items steps.items) }
     ensures table { branch.new.classes.table ≡ branch.old.classes.table }
     ensures trail { branch.new.trail ≡ branch.old.trail }

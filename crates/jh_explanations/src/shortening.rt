@@ -2,7 +2,7 @@ ghost use Rattle.std.specs.Prelude.{◌≡◌, ◌<◌, ◌≤◌, ◌+◌, ◌+
 ghost use Rattle.jh_closure.specs.congruence_closure.Nodes.{Has};
 ghost use Rattle.jh_arena.specs.table.Nodes.{nodes};
 ghost use Rattle.jh_models.specs.ground_models.Clashes.{Clash};
-ghost use Rattle.jh_models.specs.ground_models.Explanations.{Closes, IsExplanation};
+ghost use Rattle.jh_models.specs.ground_models.Explanations.{ClosesBranch, IsExplanation};
 ghost use Rattle.jh_propagation.specs.trail.Listing.{IsUndecided};
 ghost use Rattle.jh_propagation.specs.trail.Saying.{literals_at};
 ghost use Rattle.jh_propagation.specs.declared.trail.decided.Decided.{Decided};
@@ -280,7 +280,7 @@ pub fn shortened(
 ) -> Result<Vec<Step>, NoMemory>
     requires problem { IsProblem (nodes classes.old.table) problem.now }
     requires right { AreRight problem.now decisions.now steps.items }
-    requires closes { Closes (instances_in (nodes problem.now.table) problem.now) (literals_at (nodes problem.now.table) decisions.now) (trees_of (nodes problem.now.table) steps.items) }
+    requires closes { ClosesBranch (instances_in (nodes problem.now.table) problem.now) (literals_at (nodes problem.now.table) decisions.now) (trees_of (nodes problem.now.table) steps.items) }
     requires quiet { Clash (instances_in (nodes problem.now.table) problem.now) [] → ⊥ }
     ensures explains { IfOk result (λ made. IsExplanation (instances_in (nodes problem.now.table) problem.now) (literals_at (nodes problem.now.table) decisions.now) (trees_of (nodes problem.now.table) made.items)) }
     ensures right { IfOk result (λ made. AreRight problem.now decisions.now made.items) }

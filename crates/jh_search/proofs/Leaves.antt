@@ -7,7 +7,7 @@ use Rattle.jh_arena.specs.table.Growth.{AreDifferent}
 use Rattle.jh_closure.specs.structures.Literals.{LiteralTree, IsListed}
 use Rattle.jh_closure.specs.congruence_closure.Nodes.{Has}
 use Rattle.jh_models.specs.ground_models.Clashes.{Clash, none}
-use Rattle.jh_models.specs.ground_models.Explanations.{Closes, IsExplanation}
+use Rattle.jh_models.specs.ground_models.Explanations.{ClosesBranch, IsExplanation}
 use Rattle.jh_models.specs.ground_models.Branches.{ClosedTree}
 use Rattle.jh_models.specs.backjumping.Paths as paths
 use Rattle.jh_models.specs.backjumping.Laws.{SearchGoesOn}
@@ -54,7 +54,7 @@ leaf-quiet p s c h some = open-quiet (instances_in ts p) (all_closed ts s.closed
     never (d ∷ ds) e f = nonempty ts d ds (sym (ap (literals_at ts) e) ∙ f)
 
 -- an explanation of a branch without decisions
-pub explained-bare : (is : List FormulaTree) (ls : List LiteralTree) → Closes is [] ls → IsExplanation is [] ls
+pub explained-bare : (is : List FormulaTree) (ls : List LiteralTree) → ClosesBranch is [] ls → IsExplanation is [] ls
 explained-bare is ls h = record { closes = h; needs = λ l g. absurd g }
 
 -- What a closed branch needs goes back.

@@ -9,7 +9,7 @@ use Rattle.jh_boxed_operations.proofs.comparison.Equalities.{equal_trees-true}
 use Rattle.jh_arena.specs.table.Growth.{AreDifferent}
 use Rattle.jh_seq.specs.sequent.Sequents.{HypTree, SequentTree}
 use Rattle.jh_approx.specs.definition.Shown.{shown}
-use Rattle.jh_approx.specs.definition.Names.{names, once}
+use Rattle.jh_approx.specs.definition.Names.{names, without_repeats}
 use Rattle.jh_approx.specs.definition.Links.{links, goal_names, is_linking, fact_links, shares, is_linked}
 use Rattle.jh_approx.specs.definition.Laws.{IsHyp, goal_links, LinksRight}
 use Rattle.jh_containers.specs.connected_component.Reaching.{has, IsRow, Reached, IsReach}
@@ -31,10 +31,10 @@ pub record Names (ts : List ValueTree) (ns : List ℕ) (vs : List ValueTree) : T
   pub back : (v : ValueTree) → has_name vs v ≡ true → (n : ℕ) × (has ns n ≡ true) × (slice_get ts n ≡ Some v)
 
 -- nodes of names, each once
-names-once : (ts : List ValueTree) (ns : List ℕ) (vs : List ValueTree) → AreTrees ts ns (once vs) → Names ts ns vs
+names-once : (ts : List ValueTree) (ns : List ℕ) (vs : List ValueTree) → AreTrees ts ns (without_repeats vs) → Names ts ns vs
 names-once ts ns vs are = record {
-  to = λ n h. let r = trees-has ts ns (once vs) are n h in (r.0, r.1, once-only vs r.0 r.2);
-  back = λ v h. trees-back ts ns (once vs) are v (once-has vs v h);
+  to = λ n h. let r = trees-has ts ns (without_repeats vs) are n h in (r.0, r.1, once-only vs r.0 r.2);
+  back = λ v h. trees-back ts ns (without_repeats vs) are v (once-has vs v h);
 }
 
 -- those of them that pass a test
@@ -80,7 +80,7 @@ few-is : (s : SequentTree) (b : Bool) → b ≡ list_any (linking true) (goal_na
 unfolding linking
 few-is s b e = e
 
-fact-names : (ts : List ValueTree) (s : SequentTree) (few : Bool) → few ≡ list_any links (goal_names s) → (a : FormulaTree) (ns : List ℕ) → AreTrees ts ns (once (names (shown a false))) → Names ts (linking_names ts few ns) (fact_links s a)
+fact-names : (ts : List ValueTree) (s : SequentTree) (few : Bool) → few ≡ list_any links (goal_names s) → (a : FormulaTree) (ns : List ℕ) → AreTrees ts ns (without_repeats (names (shown a false))) → Names ts (linking_names ts few ns) (fact_links s a)
 unfolding fact_links
 fact-names ts s few e a ns are = names-filter ts (linking few) (is_linking s) (linking-is s few e) ns (names (shown a false)) (names-once ts ns (names (shown a false)) are)
 
@@ -183,7 +183,7 @@ module _ (ts : List ValueTree) (s : SequentTree) (few : Bool) (few_are : few ≡
 
 -- the nodes that are reached decide which facts are linked
 pub reached-decide : (ts : List ValueTree) → AreDifferent ts → (s : SequentTree) → LinksRight s → (notes : List Note) (places : List ℕ) → HaveNotes ts notes places s.hyps →
-    (ns known : List ℕ) → AreTrees ts ns (once (names (shown s.goal true))) → AreReached ts notes places ns known → DecideLinks ts known (is_linked s)
+    (ns known : List ℕ) → AreTrees ts ns (without_repeats (names (shown s.goal true))) → AreReached ts notes places ns known → DecideLinks ts known (is_linked s)
 reached-decide ts different s law notes places noted ns known are reach =
     let of_goal = names-once ts ns (goal_names s) are in
     let few = few-is s (has_few ts ns) (names-any ts (linking true) ns (goal_names s) of_goal) in

@@ -5,7 +5,7 @@ use Rattle.std.proofs.lemmas.Bool.{true≢false, eqb-true, eq-eqb}
 use Rattle.jh_form.specs.Tree.{ValueTree}
 use Rattle.jh_boxed_operations.specs.comparison.Exchanged.{equal_trees}
 use Rattle.jh_boxed_operations.proofs.comparison.Equalities.{equal_trees-true, equal_trees-same}
-use Rattle.jh_approx.specs.definition.Names.{once}
+use Rattle.jh_approx.specs.definition.Names.{without_repeats}
 use Rattle.jh_containers.specs.connected_component.Reaching.{has}
 use Rattle.jh_query_names.specs.query_names.Gathered.{has_name}
 use Rattle.jh_query_names.specs.query_names.Kinds.{value_at}
@@ -26,16 +26,16 @@ nothing-some x xs e = cc
 
 -- ---- each once
 
-pub once-has : (vs : List ValueTree) (v : ValueTree) → has_name vs v ≡ true → has_name (once vs) v ≡ true
+pub once-has : (vs : List ValueTree) (v : ValueTree) → has_name vs v ≡ true → has_name (without_repeats vs) v ≡ true
 once-has vs v h = subst (λ (ws : List ValueTree). has_name ws v ≡ true) (with-once vs) (with-has vs [] v h)
 
-pub once-only : (vs : List ValueTree) (v : ValueTree) → has_name (once vs) v ≡ true → has_name vs v ≡ true
-unfolding once
+pub once-only : (vs : List ValueTree) (v : ValueTree) → has_name (without_repeats vs) v ≡ true → has_name vs v ≡ true
+unfolding without_repeats
 once-only [] v h = h
 once-only (w ∷ vs) v h =
-    elim (either (equal_trees v w) (has_name (filter (λ u. not (equal_trees w u)) (once vs)) v) h) [
+    elim (either (equal_trees v w) (has_name (filter (λ u. not (equal_trees w u)) (without_repeats vs)) v) h) [
       | inl e ↦ in-front (equal_trees v w) (has_name vs v) e
-      | inr k ↦ behind (equal_trees v w) (has_name vs v) (once-only vs v (filter-in equal_trees equal_trees-true self_value (λ u. not (equal_trees w u)) (once vs) v k).0)
+      | inr k ↦ behind (equal_trees v w) (has_name vs v) (once-only vs v (filter-in equal_trees equal_trees-true self_value (λ u. not (equal_trees w u)) (without_repeats vs) v k).0)
     ]
 
 -- ---- trees at nodes

@@ -8,7 +8,7 @@ use Rattle.jh_containers.specs.connected_component.Reaching.{IsReach}
 use Rattle.jh_containers.specs.connected_component.Reaching as reaching
 use Rattle.jh_query_names.specs.query_names.Kinds.{value_at}
 use Rattle.jh_approx.specs.definition.Shown.{shown}
-use Rattle.jh_approx.specs.definition.Names.{names, once}
+use Rattle.jh_approx.specs.definition.Names.{names, without_repeats}
 use Rattle.jh_approx.specs.definition.Links.{is_set_of_class, reads_set, reads_within, is_nameless}
 use Rattle.jh_seq.specs.sequent.Sequents.{HypTree, SequentTree}
 use Rattle.jh_splitting.specs.Pairs.{ArePaired}
@@ -59,7 +59,7 @@ AreReached ts notes places ns known = IsReach (map (linking_row ts (has_few ts n
 
 -- The numbers decide which facts are linked: those that have one of them as a name.
 abbrev pub DecideLinks : List ValueTree → List ℕ → (FormulaTree → Bool) → Type 0
-DecideLinks ts known linked = (a : FormulaTree) (ns : List ℕ) → AreTrees ts ns (once (names (shown a false))) → reaching.shares ns known ≡ linked a
+DecideLinks ts known linked = (a : FormulaTree) (ns : List ℕ) → AreTrees ts ns (without_repeats (names (shown a false))) → reaching.shares ns known ≡ linked a
 
 -- a free name is none of `alloc` and the class sets but those of a formula
 abbrev pub stands_within : FormulaTree → Name → place.Sort → Bool

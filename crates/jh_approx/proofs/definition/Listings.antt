@@ -14,7 +14,7 @@ use Rattle.jh_query.specs.queries.Tree.{QueryTree}
 use Rattle.jh_query.specs.queries.Sizing.{Sizing, spelled}
 use Rattle.jh_query.specs.queries.Named.{IsRenamed, moved_to}
 use Rattle.jh_query.specs.queries.Truth.{Fits, nowhere, spot_of, is_in}
-use Rattle.jh_approx.specs.definition.Names.{NameLists, once, place_in, is_set_name, is_element, is_number_name, is_flag, listed}
+use Rattle.jh_approx.specs.definition.Names.{NameLists, without_repeats, place_in, is_set_name, is_element, is_number_name, is_flag, listed}
 use Rattle.jh_approx.specs.definition.Plain.{is_plain_term}
 use Rattle.jh_approx.specs.definition.Listed.{firsts, class_place, rests, object_regions, object_of, listed_over}
 use Rattle.jh_approx.proofs.definition.Bits.{powers, one-more, doubled}
@@ -53,17 +53,17 @@ pub record IsGood (kind : ValueTree → Bool) (vs : List ValueTree) : Type 0 whe
   pub of_kind : list_all kind vs ≡ true
   pub once_each : Apart vs
 
-once-kind : (kind : ValueTree → Bool) (vs : List ValueTree) → list_all kind vs ≡ true → list_all kind (once vs) ≡ true
-unfolding once
+once-kind : (kind : ValueTree → Bool) (vs : List ValueTree) → list_all kind vs ≡ true → list_all kind (without_repeats vs) ≡ true
+unfolding without_repeats
 once-kind kind [] h = refl
-once-kind kind (v ∷ vs) h = and-parts (kind v) (list_all kind vs) h (λ a b. and_from (kind v) _ a (filter-keeps _ kind (once vs) (once-kind kind vs b)))
+once-kind kind (v ∷ vs) h = and-parts (kind v) (list_all kind vs) h (λ a b. and_from (kind v) _ a (filter-keeps _ kind (without_repeats vs) (once-kind kind vs b)))
   where
     and-parts : {P : Type 0} (a b : Bool) → (a && b) ≡ true → (a ≡ true → b ≡ true → P) → P
     and-parts true true h f = f refl refl
     and-parts true false h f = absurd (true≢false (sym h))
     and-parts false b h f = absurd (true≢false (sym h))
 
-filter-good : (kind : ValueTree → Bool) (vs : List ValueTree) → ArePlain vs → IsGood kind (once (filter kind vs))
+filter-good : (kind : ValueTree → Bool) (vs : List ValueTree) → ArePlain vs → IsGood kind (without_repeats (filter kind vs))
 filter-good kind vs h = record {
   plain = once-plain (filter kind vs) (filter-keeps kind is_plain_name vs h);
   of_kind = once-kind kind (filter kind vs) (filter-passes kind vs);
@@ -79,7 +79,7 @@ pub record AreGood (n : NameLists) : Type 0 where
   pub some : 0 < length n.elements
 
 pub listed-good : (vs : List ValueTree) → ArePlain vs → AreGood (listed vs)
-unfolding listed once is_element is_plain_name is_plain_term place_in
+unfolding listed without_repeats is_element is_plain_name is_plain_term place_in
 listed-good vs h = record {
   sets = filter-good is_set_name vs h;
   elements = record {
@@ -89,7 +89,7 @@ listed-good vs h = record {
   };
   numbers = filter-good is_number_name vs h;
   flags = filter-good is_flag vs h;
-  null = name-place (once (of_object t.null ∷ filter is_element vs)) 0 (of_object t.null) (once-apart (of_object t.null ∷ filter is_element vs)) (omega arith);
+  null = name-place (without_repeats (of_object t.null ∷ filter is_element vs)) 0 (of_object t.null) (once-apart (of_object t.null ∷ filter is_element vs)) (omega arith);
   some = omega arith;
 }
 

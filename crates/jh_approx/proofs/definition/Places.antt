@@ -6,7 +6,7 @@ use Rattle.jh_form.specs.Tree.{TermTree, IntTree, SetTree, ValueTree, FormulaTre
 use Rattle.jh_form.specs.Tree as t
 use Rattle.jh_boxed_operations.specs.comparison.Exchanged.{equal_trees}
 use Rattle.jh_boxed_operations.proofs.comparison.Equalities.{equal_trees-true, equal_trees-same}
-use Rattle.jh_approx.specs.definition.Names.{NameLists, once, place_in, is_set_name, is_element, is_number_name, is_flag, listed}
+use Rattle.jh_approx.specs.definition.Names.{NameLists, without_repeats, place_in, is_set_name, is_element, is_number_name, is_flag, listed}
 use Rattle.jh_approx.proofs.definition.Counts.{sure}
 
 -- a name is one of a list
@@ -36,14 +36,14 @@ among-filter p v [] h k = absurd k
 among-filter p v (x ∷ xs) h (inl e) = chosen-here (p x) v x (filter p xs) (ap p e ∙ h) e
 among-filter p v (x ∷ xs) h (inr k) = chosen-later (p x) v x (filter p xs) (among-filter p v xs h k)
 
-among-once : (v : ValueTree) (xs : List ValueTree) → Among v xs → Among v (once xs)
-unfolding once
+among-once : (v : ValueTree) (xs : List ValueTree) → Among v xs → Among v (without_repeats xs)
+unfolding without_repeats
 among-once v [] h = absurd h
 among-once v (x ∷ xs) (inl e) = inl e
 among-once v (x ∷ xs) (inr h) =
     elim (sure (equal_trees x v)) [
       | inl e ↦ inl (equal_trees-true x v e)
-      | inr e ↦ inr (among-filter (λ w. not (equal_trees x w)) v (once xs) (ap not e) (among-once v xs h))
+      | inr e ↦ inr (among-filter (λ w. not (equal_trees x w)) v (without_repeats xs) (ap not e) (among-once v xs h))
     ]
 
 -- the name stands at the place

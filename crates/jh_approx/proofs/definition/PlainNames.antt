@@ -10,7 +10,7 @@ use Rattle.jh_query.specs.queries.Named.{is_divisor}
 use Rattle.jh_boxed_operations.specs.comparison.Exchanged.{equal_trees}
 use Rattle.jh_boxed_operations.proofs.comparison.Equalities.{equal_trees-same}
 use Rattle.jh_approx.specs.definition.Shown.{replacement, negation_of, and_before, and_of, or_before, or_of, implies_before, implies_of, iff_before, iff_of, is_sayable, shown}
-use Rattle.jh_approx.specs.definition.Names.{set_names, number_names, names, once, place_in}
+use Rattle.jh_approx.specs.definition.Names.{set_names, number_names, names, without_repeats, place_in}
 use Rattle.jh_approx.specs.definition.Plain.{is_plain_term, is_plain_set, is_plain_number, is_plain_formula}
 use Rattle.jh_approx.proofs.definition.Counts.{first, second, not-true}
 use Rattle.jh_approx.proofs.definition.Filters.{all-get, filter-keeps, filter-passes}
@@ -186,12 +186,12 @@ shown-plain a s h = h
 
 -- ---- names each once
 
-pub once-plain : (vs : List ValueTree) → ArePlain vs → ArePlain (once vs)
-unfolding once
+pub once-plain : (vs : List ValueTree) → ArePlain vs → ArePlain (without_repeats vs)
+unfolding without_repeats
 once-plain [] h = refl
 once-plain (v ∷ vs) h =
-    and_from (is_plain_name v) (list_all is_plain_name (filter (λ w. not (equal_trees v w)) (once vs))) (first (is_plain_name v) (list_all is_plain_name vs) h)
-    (filter-keeps (λ w. not (equal_trees v w)) is_plain_name (once vs) (once-plain vs (second (is_plain_name v) (list_all is_plain_name vs) h)))
+    and_from (is_plain_name v) (list_all is_plain_name (filter (λ w. not (equal_trees v w)) (without_repeats vs))) (first (is_plain_name v) (list_all is_plain_name vs) h)
+    (filter-keeps (λ w. not (equal_trees v w)) is_plain_name (without_repeats vs) (once-plain vs (second (is_plain_name v) (list_all is_plain_name vs) h)))
 
 -- no name stands twice
 abbrev pub Apart : List ValueTree → Type 0
@@ -206,10 +206,10 @@ filter-apart : (p : ValueTree → Bool) (vs : List ValueTree) → Apart vs → A
 filter-apart p [] h = tt
 filter-apart p (v ∷ vs) h = chosen-apart (p v) v (filter p vs) (filter-keeps p (λ w. not (equal_trees v w)) vs h.0) (filter-apart p vs h.1)
 
-pub once-apart : (vs : List ValueTree) → Apart (once vs)
-unfolding once
+pub once-apart : (vs : List ValueTree) → Apart (without_repeats vs)
+unfolding without_repeats
 once-apart [] = tt
-once-apart (v ∷ vs) = (filter-passes (λ w. not (equal_trees v w)) (once vs), filter-apart (λ w. not (equal_trees v w)) (once vs) (once-apart vs))
+once-apart (v ∷ vs) = (filter-passes (λ w. not (equal_trees v w)) (without_repeats vs), filter-apart (λ w. not (equal_trees v w)) (without_repeats vs) (once-apart vs))
 
 -- where a name stands, there is its place
 pub name-place : (vs : List ValueTree) (k : ℕ) (d : ValueTree) → Apart vs → k < length vs → place_in vs (get_or vs k d) ≡ k

@@ -13,7 +13,7 @@ use Rattle.jh_form.specs.Passing.{name_equal, term_passes, int_passes, set_passe
 use Rattle.jh_boxed_operations.specs.comparison.Compared.{bound_with, free_object_with, null_with, read_object_with, const_with, free_number_with, read_number_with, add_with, sub_with, neg_with, scale_with, card_with, free_set_with, read_set_with, empty_with, univ_with, single_with, union_with, inter_with, diff_with, compl_with, compr_with, free_field_with, update_with, of_object_with, of_number_with, of_truth_with, of_set_with, of_field_with, true_formula_with, false_formula_with, free_truth_with, read_truth_with, negation_with, and_with, or_with, implies_with, iff_with, all_with, ex_with, eq_object_with, eq_number_with, eq_set_with, less_with, less_equal_with, divides_with, member_with, subset_with, reach_with, tree_with, mark_with, none_with, more_with, past, related_term, related_int, related_set, related_field, related_value, related_formula, related_fields}
 use Rattle.jh_boxed_operations.specs.comparison.Unmarked.{unmarked_term, unmarked_int, unmarked_set, unmarked_field, unmarked_value, unmarked_formula, unmarked_fields}
 use Rattle.jh_approx.specs.definition.Shown.{negation_of, and_before, and_of, or_before, or_of, implies_before, implies_of, iff_before, iff_of, is_sayable, shown}
-use Rattle.jh_approx.specs.definition.Names.{set_names, number_names, names, once, place_in, is_set_name, is_element, is_number_name, is_flag, listed}
+use Rattle.jh_approx.specs.definition.Names.{set_names, number_names, names, without_repeats, place_in, is_set_name, is_element, is_number_name, is_flag, listed}
 use Rattle.jh_approx.specs.definition.Links.{is_class_set, at_set, reads_set, reads_within, is_nameless, links, links_more, is_linking, fact_links, shares, reached, is_linked, named_in, is_kept}
 use Rattle.jh_approx.specs.definition.Told.{told_set, told_number, told}
 use Rattle.jh_approx.specs.definition.Regions.{unlabelled, kept_facts, query_over, query_from, bapa_of}
@@ -164,5 +164,5 @@ record Queries : Type 0 where
   }
 
 queries : Queries
-unfolding name_equal term_passes int_passes set_passes field_passes value_passes formula_passes fields_passes bound_with free_object_with null_with read_object_with const_with free_number_with read_number_with add_with sub_with neg_with scale_with card_with free_set_with read_set_with empty_with univ_with single_with union_with inter_with diff_with compl_with compr_with free_field_with update_with of_object_with of_number_with of_truth_with of_set_with of_field_with true_formula_with false_formula_with free_truth_with read_truth_with negation_with and_with or_with implies_with iff_with all_with ex_with eq_object_with eq_number_with eq_set_with less_with less_equal_with divides_with member_with subset_with reach_with tree_with mark_with none_with more_with past related_term related_int related_set related_field related_value related_formula related_fields unmarked_term unmarked_int unmarked_set unmarked_field unmarked_value unmarked_formula unmarked_fields negation_of and_before and_of or_before or_of implies_before implies_of iff_before iff_of is_sayable shown set_names number_names names once place_in is_set_name is_element is_number_name is_flag listed is_class_set at_set reads_set reads_within is_nameless links links_more is_linking fact_links shares reached is_linked named_in is_kept told_set told_number told unlabelled kept_facts query_over query_from bapa_of
+unfolding name_equal term_passes int_passes set_passes field_passes value_passes formula_passes fields_passes bound_with free_object_with null_with read_object_with const_with free_number_with read_number_with add_with sub_with neg_with scale_with card_with free_set_with read_set_with empty_with univ_with single_with union_with inter_with diff_with compl_with compr_with free_field_with update_with of_object_with of_number_with of_truth_with of_set_with of_field_with true_formula_with false_formula_with free_truth_with read_truth_with negation_with and_with or_with implies_with iff_with all_with ex_with eq_object_with eq_number_with eq_set_with less_with less_equal_with divides_with member_with subset_with reach_with tree_with mark_with none_with more_with past related_term related_int related_set related_field related_value related_formula related_fields unmarked_term unmarked_int unmarked_set unmarked_field unmarked_value unmarked_formula unmarked_fields negation_of and_before and_of or_before or_of implies_before implies_of iff_before iff_of is_sayable shown set_names number_names names without_repeats place_in is_set_name is_element is_number_name is_flag listed is_class_set at_set reads_set reads_within is_nameless links links_more is_linking fact_links shares reached is_linked named_in is_kept told_set told_number told unlabelled kept_facts query_over query_from bapa_of
 queries = record { two_in_a_set = refl; one_object = refl; a_number_links = refl; a_link_that_goes = refl; named_facts = refl; sets_that_are_read = refl; one_more = refl; at_most = refl }

@@ -6,7 +6,7 @@ use Rattle.jh_form.specs.Tree.{TermTree, IntTree, SetTree, ValueTree, FormulaTre
 use Rattle.jh_form.specs.Tree as t
 use Rattle.jh_query.specs.queries.Named.{Room, set_named, num_named, cond_named, IsWellFormed}
 use Rattle.jh_approx.specs.definition.Shown.{shown}
-use Rattle.jh_approx.specs.definition.Names.{NameLists, place_in, set_names, number_names, names, once, listed}
+use Rattle.jh_approx.specs.definition.Names.{NameLists, place_in, set_names, number_names, names, without_repeats, listed}
 use Rattle.jh_approx.specs.definition.Links.{is_kept}
 use Rattle.jh_approx.specs.definition.Told.{told_set, told_number, told}
 use Rattle.jh_approx.specs.definition.Regions.{unlabelled, kept_facts, query_over, query_from, bapa_of}
@@ -87,7 +87,7 @@ module _ (n : NameLists) where
   facts-in-room (a ∷ fs) said k = λ i. cond-in-room a said.0 (left n (names a) (flat_map names fs) k) i && facts-in-room fs said.1 (right n (names a) (flat_map names fs) k) i
 
 has-null : (vs : List ValueTree) → 0 < length (listed vs).elements
-unfolding listed once
+unfolding listed without_repeats
 has-null vs = omega arith
 
 query-formed : (facts : List FormulaTree) (goal : FormulaTree) → AllTold facts → IsTold goal → IsWellFormed (query_from facts goal)

@@ -46,9 +46,9 @@ names (t.subset a b) = set_names a ++ set_names b
 names a = []
 
 -- each once, where it stands first
-unfoldable pub once : List ValueTree → List ValueTree
-once [] = []
-once (v ∷ vs) = v ∷ filter (λ w. not (equal_trees v w)) (once vs)
+unfoldable pub without_repeats : List ValueTree → List ValueTree
+without_repeats [] = []
+without_repeats (v ∷ vs) = v ∷ filter (λ w. not (equal_trees v w)) (without_repeats vs)
 
 -- the place of a name in a list; how many there are, where it isn't there
 unfoldable pub place_in : List ValueTree → ValueTree → ℕ
@@ -81,8 +81,8 @@ pub record NameLists : Type 0 where
 -- null is element 0
 unfoldable pub listed : List ValueTree → NameLists
 listed vs = record {
-  sets = once (filter is_set_name vs);
-  elements = once (of_object t.null ∷ filter is_element vs);
-  numbers = once (filter is_number_name vs);
-  flags = once (filter is_flag vs);
+  sets = without_repeats (filter is_set_name vs);
+  elements = without_repeats (of_object t.null ∷ filter is_element vs);
+  numbers = without_repeats (filter is_number_name vs);
+  flags = without_repeats (filter is_flag vs);
 }

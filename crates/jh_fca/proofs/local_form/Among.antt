@@ -5,7 +5,7 @@ use Rattle.std.proofs.lemmas.Bool.{true≢false}
 use Rattle.jh_form.specs.Tree.{ValueTree}
 use Rattle.jh_boxed_operations.specs.comparison.Exchanged.{equal_trees}
 use Rattle.jh_boxed_operations.proofs.comparison.Equalities.{equal_trees-true}
-use Rattle.jh_approx.specs.definition.Names.{once}
+use Rattle.jh_approx.specs.definition.Names.{without_repeats}
 
 -- a value is one of a list
 abbrev pub Among : ValueTree → List ValueTree → Type 0
@@ -46,11 +46,11 @@ pub filter-passes : (p : ValueTree → Bool) (v : ValueTree) (xs : List ValueTre
 filter-passes p v [] h = absurd h
 filter-passes p v (x ∷ xs) h = passed-if p (p x) v x (filter p xs) refl (filter-passes p v xs) h
 
-pub among-once : (v : ValueTree) (xs : List ValueTree) → Among v (once xs) → Among v xs
-unfolding once
+pub among-once : (v : ValueTree) (xs : List ValueTree) → Among v (without_repeats xs) → Among v xs
+unfolding without_repeats
 among-once v [] h = h
 among-once v (x ∷ xs) (inl e) = inl e
-among-once v (x ∷ xs) (inr h) = inr (among-once v xs (among-filter _ v (once xs) h))
+among-once v (x ∷ xs) (inr h) = inr (among-once v xs (among-filter _ v (without_repeats xs) h))
 
 kept-here : (c : Bool) (v x : ValueTree) (xs : List ValueTree) → c ≡ true → x ≡ v → Among v (if c then x ∷ xs else xs)
 kept-here true v x xs h e = inl e
@@ -70,12 +70,12 @@ sure : (b : Bool) → (b ≡ true) ⊎ (b ≡ false)
 sure true = inl refl
 sure false = inr refl
 
-pub once-among : (v : ValueTree) (xs : List ValueTree) → Among v xs → Among v (once xs)
-unfolding once
+pub once-among : (v : ValueTree) (xs : List ValueTree) → Among v xs → Among v (without_repeats xs)
+unfolding without_repeats
 once-among v [] h = h
 once-among v (x ∷ xs) (inl e) = inl e
 once-among v (x ∷ xs) (inr h) =
     elim (sure (equal_trees x v)) [
       | inl e ↦ inl (equal_trees-true x v e)
-      | inr e ↦ inr (filter-among (λ w. not (equal_trees x w)) v (once xs) (ap not e) (once-among v xs h))
+      | inr e ↦ inr (filter-among (λ w. not (equal_trees x w)) v (without_repeats xs) (ap not e) (once-among v xs h))
     ]

@@ -14,7 +14,7 @@ use Rattle.jh_substitution.specs.rewriting.Rewritten.{rewritten_value}
 use Rattle.jh_approx.specs.jh_reach.Axioms.{BackboneTree, axioms_of}
 use Rattle.jh_approx.specs.jh_reach.Truths.{AreClosed, IsBase, IsThatUpdate, OfBase, AxiomsAreTrue}
 use Rattle.jh_fca.specs.local_form.Named.{is_whole_update}
-use Rattle.jh_fca.specs.local_form.Chains.{is_name, all_differ, has_axioms, place_of, same_list, ChangeTree, change, changes_of, changes, backbone, base_at, led_from, lists_once, lists_in, backbones, reach_axioms}
+use Rattle.jh_fca.specs.local_form.Chains.{is_name, are_different_names, has_axioms, place_of, same_list, ChangeTree, change, changes_of, changes, backbone, base_at, led_from, lists_once, lists_in, backbones, reach_axioms}
 use Rattle.jh_fca.proofs.local_form.Among.{Among}
 use Rattle.jh_fca.proofs.local_form.Holding.{AllHold, hold-both}
 use Rattle.jh_fca.proofs.local_form.Naming.{IsNamed, with_updates, is-that-field}
@@ -80,16 +80,16 @@ field_or_null (Some f) g = f
 field_or_null None g = g
 
 -- lists of different names have no loose bound variables
-names-closed : (fs : List FieldTree) → all_differ fs ≡ true → AreClosed fs
-unfolding all_differ is_closed_field field_or_null
+names-closed : (fs : List FieldTree) → are_different_names fs ≡ true → AreClosed fs
+unfolding are_different_names is_closed_field field_or_null
 names-closed [] h i f e = absurd (not-none f e)
 names-closed (t.free_field x ∷ fs) h zero f e = sym (ap (λ o. is_closed_field (field_or_null o f) 0) e)
-names-closed (t.free_field x ∷ fs) h (suc i) f e = names-closed fs (both-right (not (list_any (is_name x) fs)) (all_differ fs) h) i f e
+names-closed (t.free_field x ∷ fs) h (suc i) f e = names-closed fs (both-right (not (list_any (is_name x) fs)) (are_different_names fs) h) i f e
 names-closed (t.update g a v ∷ fs) h i f e = absurd (true≢false (sym h))
 
 axioms-closed : (fs : List FieldTree) → has_axioms fs ≡ true → AreClosed fs
 unfolding has_axioms
-axioms-closed fs h = names-closed fs (both-right (nat_le 1 (length fs) && nat_le (length fs) 4) (all_differ fs) h)
+axioms-closed fs h = names-closed fs (both-right (nat_le 1 (length fs) && nat_le (length fs) 4) (are_different_names fs) h)
 
 named-value : (m : Interp) (x : Name) (g : FieldTree) → is_name x g ≡ true → field_value g m [] ≡ m.field x
 unfolding is_name

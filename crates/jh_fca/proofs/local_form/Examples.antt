@@ -17,7 +17,7 @@ use Rattle.jh_normal_forms.specs.rebuilding.Built.{turned, built_term, built_int
 use Rattle.jh_substitution.specs.rewriting.Rewritten.{object_or, number_or, truth_or, set_or, field_or, rewritten_term, rewritten_int, rewritten_set, rewritten_field, rewritten_value, rewritten_formula}
 use Rattle.jh_seq.specs.sequent.Sequents.{HypTree, SequentTree}
 use Rattle.jh_approx.specs.jh_derivation_rules.Rules.{described}
-use Rattle.jh_approx.specs.definition.Names.{once, place_in}
+use Rattle.jh_approx.specs.definition.Names.{without_repeats, place_in}
 use Rattle.jh_approx.specs.definition.Links.{named_in}
 use Rattle.jh_approx.specs.definition.Shown.{negation_of, and_before, and_of, or_before, or_of, implies_before, implies_of, iff_before, iff_of}
 use Rattle.jh_fca.specs.local_form.Chosen.{chosen}
@@ -25,7 +25,7 @@ use Rattle.jh_normal_forms.specs.idle_updates.Dropped.{without_field_value, drop
 use Rattle.jh_fca.specs.local_form.Named.{turn_after, turn_behind, first_turn, is_whole_update, updates, text_under, text_of, named, update_fact, update_facts}
 use Rattle.jh_normal_forms.specs.set_opening.SetsOpened.{body, as_comprehension, is_in, relation, sets_opened}
 use Rattle.jh_fca.specs.cutting.Cut.{is_simple, is_foreign, holds_foreign, two_ways, iffs_opened, instead_of, all_of, ex_of, mark_of, cut_once, cut}
-use Rattle.jh_fca.specs.local_form.Chains.{is_name, are_one, all_differ, has_axioms, place_of, same_list, ChangeTree, change, changes, backbone, led_from, lists_once, fields_of, list_of, backbones}
+use Rattle.jh_fca.specs.local_form.Chains.{is_name, are_one_name, are_different_names, has_axioms, place_of, same_list, ChangeTree, change, changes, backbone, led_from, lists_once, fields_of, list_of, backbones}
 
 abbrev plain : List ℕ → Name
 plain text = record { text = text; turn = 0 }
@@ -103,7 +103,7 @@ field-dropped = refl
 
 -- the inner update comes first, and each once; one that holds a bound variable is none
 updates-in-order : updates (t.eq_object (t.read_object twice_set x) (t.read_object once_set y) ∷ t.all (t.eq_object (t.read_object (t.update next v0 (t.of_object y)) x) v0) ∷ []) ≡ t.of_field once_set ∷ t.of_field twice_set ∷ []
-unfolding term_parts int_parts set_parts field_parts value_parts formula_parts fields_parts once is_whole_update is_closed_term is_closed_int is_closed_set is_closed_field is_closed_value is_closed_formula bound_with free_object_with null_with read_object_with const_with free_number_with read_number_with add_with sub_with neg_with scale_with card_with free_set_with read_set_with empty_with univ_with single_with union_with inter_with diff_with compl_with compr_with free_field_with update_with of_object_with of_number_with of_truth_with of_set_with of_field_with true_formula_with false_formula_with free_truth_with read_truth_with negation_with and_with or_with implies_with iff_with all_with ex_with eq_object_with eq_number_with eq_set_with less_with less_equal_with divides_with member_with subset_with reach_with tree_with mark_with none_with more_with past related_term related_int related_set related_field related_value related_formula related_fields name_equal
+unfolding term_parts int_parts set_parts field_parts value_parts formula_parts fields_parts without_repeats is_whole_update is_closed_term is_closed_int is_closed_set is_closed_field is_closed_value is_closed_formula bound_with free_object_with null_with read_object_with const_with free_number_with read_number_with add_with sub_with neg_with scale_with card_with free_set_with read_set_with empty_with univ_with single_with union_with inter_with diff_with compl_with compr_with free_field_with update_with of_object_with of_number_with of_truth_with of_set_with of_field_with true_formula_with false_formula_with free_truth_with read_truth_with negation_with and_with or_with implies_with iff_with all_with ex_with eq_object_with eq_number_with eq_set_with less_with less_equal_with divides_with member_with subset_with reach_with tree_with mark_with none_with more_with past related_term related_int related_set related_field related_value related_formula related_fields name_equal
 updates-in-order = refl
 
 -- turns begin behind the greatest
@@ -174,16 +174,16 @@ list-leads : led_from (info ∷ next_at 6 ∷ []) steps ≡
     backbone (info ∷ next_at 6 ∷ []) (Some (record { place = 1; field = next_at 5; at = y; value = t.null }))
     ∷ backbone (info ∷ next_at 5 ∷ []) (Some (record { place = 1; field = next; at = x; value = y }))
     ∷ backbone (info ∷ next ∷ []) None ∷ []
-unfolding led_from has_axioms all_differ is_name place_of name_equal
+unfolding led_from has_axioms are_different_names is_name place_of name_equal
 list-leads = refl
 
 -- a list with a field twice leads nowhere
 twice-none : led_from (next_at 5 ∷ next_at 5 ∷ []) steps ≡ []
-unfolding led_from has_axioms all_differ is_name place_of name_equal
+unfolding led_from has_axioms are_different_names is_name place_of name_equal
 twice-none = refl
 
 -- [next] was given before, as what [next@5] leads to
 lists-given-once : backbones (t.tree (t.more (next_at 5) t.none) ∷ t.reach (t.more next t.none) x y ∷ []) steps ≡
     backbone (next_at 5 ∷ []) (Some (record { place = 0; field = next; at = x; value = y })) ∷ backbone (next ∷ []) None ∷ []
-unfolding term_parts int_parts set_parts field_parts value_parts formula_parts fields_parts led_from has_axioms all_differ is_name are_one place_of same_list lists_once fields_of list_of name_equal
+unfolding term_parts int_parts set_parts field_parts value_parts formula_parts fields_parts led_from has_axioms are_different_names is_name are_one_name place_of same_list lists_once fields_of list_of name_equal
 lists-given-once = refl

@@ -20,7 +20,7 @@ use Rattle.jh_normal_forms.specs.set_opening.SetsOpened.{sets_opened}
 use Rattle.jh_fca.specs.cutting.Cut.{cut}
 use Rattle.jh_fca.specs.elimination.Eliminated.{eliminate}
 use Rattle.jh_fca.specs.elimination.Laws.{EliminatedHasShape}
-use Rattle.jh_fca.specs.local_form.Chains.{is_name, all_differ, has_axioms, place_of, same_list, ChangeTree, change, changes_of, changes, backbone, base_at, led_from, lists_once, lists_in, backbones, reach_axioms}
+use Rattle.jh_fca.specs.local_form.Chains.{is_name, are_different_names, has_axioms, place_of, same_list, ChangeTree, change, changes_of, changes, backbone, base_at, led_from, lists_once, lists_in, backbones, reach_axioms}
 use Rattle.jh_fca.specs.local_form.LocalOf.{begun, with_names, cut_down, local_with, local_of}
 use Rattle.jh_fca.specs.local_form.Laws.{LocalHasShape}
 use Rattle.jh_fca.proofs.local_form.Among.{Among, among-left, among-right, among-once, among-filter, filter-among, once-among, filter-passes}
@@ -86,15 +86,15 @@ inside-named facts v m =
 
 -- ---- lists
 
-names-are : (fs : List FieldTree) → all_differ fs ≡ true → AreNames fs
-unfolding all_differ
+names-are : (fs : List FieldTree) → are_different_names fs ≡ true → AreNames fs
+unfolding are_different_names
 names-are [] h = tt
-names-are (t.free_field x ∷ fs) h = (refl, names-are fs (both-right (not (list_any (is_name x) fs)) (all_differ fs) h))
+names-are (t.free_field x ∷ fs) h = (refl, names-are fs (both-right (not (list_any (is_name x) fs)) (are_different_names fs) h))
 names-are (t.update f a v ∷ fs) h = absurd (true≢false (sym h))
 
 list-names : (fs : List FieldTree) → has_axioms fs ≡ true → AreNames fs
 unfolding has_axioms
-list-names fs h = names-are fs (both-right (nat_le 1 (length fs) && nat_le (length fs) 4) (all_differ fs) h)
+list-names fs h = names-are fs (both-right (nat_le 1 (length fs) && nat_le (length fs) 4) (are_different_names fs) h)
 
 abbrev AllLists : List BackboneTree → Type 0
 AllLists [] = Unit {0}

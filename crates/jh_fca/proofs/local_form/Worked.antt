@@ -18,14 +18,14 @@ use Rattle.jh_normal_forms.specs.rebuilding.Built.{turned, built_term, built_int
 use Rattle.jh_substitution.specs.rewriting.Rewritten.{object_or, number_or, truth_or, set_or, field_or, rewritten_term, rewritten_int, rewritten_set, rewritten_field, rewritten_value, rewritten_formula, rewritten_fields}
 use Rattle.jh_approx.specs.jh_reach.Axioms.{axioms_of_list}
 use Rattle.jh_approx.specs.jh_derivation_rules.Rules.{described}
-use Rattle.jh_approx.specs.definition.Names.{once, place_in}
+use Rattle.jh_approx.specs.definition.Names.{without_repeats, place_in}
 use Rattle.jh_approx.specs.definition.Links.{named_in}
 use Rattle.jh_approx.specs.definition.Shown.{negation_of, and_before, and_of, or_before, or_of, implies_before, implies_of, iff_before, iff_of}
 use Rattle.jh_normal_forms.specs.idle_updates.Dropped.{without_field_value, dropped}
 use Rattle.jh_fca.specs.local_form.Named.{turn_after, turn_behind, is_whole_update, text_under, text_of, named, update_fact}
 use Rattle.jh_normal_forms.specs.set_opening.SetsOpened.{body, as_comprehension, is_in, relation, sets_opened}
 use Rattle.jh_fca.specs.cutting.Cut.{is_simple, is_foreign, holds_foreign, two_ways, iffs_opened, instead_of, all_of, ex_of, mark_of, cut_once, cut}
-use Rattle.jh_fca.specs.local_form.Chains.{is_name, are_one, all_differ, has_axioms, place_of, same_list, change, led_from, lists_once, fields_of, list_of}
+use Rattle.jh_fca.specs.local_form.Chains.{is_name, are_one_name, are_different_names, has_axioms, place_of, same_list, change, led_from, lists_once, fields_of, list_of}
 use Rattle.jh_fca.specs.elimination.Constraints.{other_than, is_name as is_named, is_variable, is_apart, constraint_in}
 use Rattle.jh_fca.specs.elimination.Derived.{goes_along, is_listed, is_listed_in, fields_of as constrained_by, names_once, derived, is_of, first_for, without_first}
 use Rattle.jh_fca.specs.elimination.Reads.{is_read, holds_read, term_reads, set_reads, field_reads, fields_reads, formula_reads}
@@ -660,11 +660,11 @@ row_13 q =
     (fact (t.implies (t.and (t.tree (t.more f_tnode_left (t.more f_tnode_right t.none))) (t.and (t.and (t.eq_object (t.read_object f_tnode_left t.null) t.null) (t.eq_object (t.read_object f_tnode_right t.null) t.null)) (t.negation (t.eq_object o_p t.null)))) (t.all (t.all (t.implies (t.negation (t.eq_object v0 t.null)) (t.iff (t.reach (t.more f_tnode_left_1 (t.more f_tnode_right t.none)) v1 v0) (t.or (t.and (t.reach (t.more f_tnode_left (t.more f_tnode_right t.none)) v1 v0) (t.negation (t.and (t.negation (t.eq_object (t.read_object f_tnode_left o_p) t.null)) (t.and (t.reach (t.more f_tnode_left (t.more f_tnode_right t.none)) v1 o_p) (t.reach (t.more f_tnode_left (t.more f_tnode_right t.none)) (t.read_object f_tnode_left o_p) v0))))) (t.and (t.reach (t.more f_tnode_left (t.more f_tnode_right t.none)) v1 o_p) (t.and (t.negation (t.eq_object o_n t.null)) (t.and (t.reach (t.more f_tnode_left (t.more f_tnode_right t.none)) o_n v0) (t.negation (t.and (t.negation (t.eq_object (t.read_object f_tnode_left o_p) t.null)) (t.and (t.reach (t.more f_tnode_left (t.more f_tnode_right t.none)) o_n o_p) (t.reach (t.more f_tnode_left (t.more f_tnode_right t.none)) (t.read_object f_tnode_left o_p) v0))))))))))))) ∷ [])) (t.all (t.iff (t.and (t.negation (t.eq_object v0 t.null)) (t.reach (t.more f_tnode_left_1 (t.more f_tnode_right t.none)) o_t_root v0)) (t.or (t.and (t.negation (t.eq_object v0 t.null)) (t.reach (t.more f_tnode_left (t.more f_tnode_right t.none)) o_t_root v0)) (t.eq_object v0 o_n))))
 
 with_derived : (q : MethodId) → row_12 q
-unfolding local_of eliminate derived names_once constrained_by constraint_in is_variable all_steps dropped without_field_value turned built_term built_int built_set built_field built_value built_formula built_fields turn_after turn_behind term_parts int_parts set_parts field_parts value_parts formula_parts fields_parts is_whole_update is_closed_term is_closed_int is_closed_set is_closed_field is_closed_value is_closed_formula is_closed_fields text_under text_of named object_or number_or truth_or set_or field_or rewritten_term rewritten_int rewritten_set rewritten_field rewritten_value rewritten_formula rewritten_fields update_fact described once place_in named_in name_equal is_in body as_comprehension relation sets_opened mapped_term mapped_int mapped_set mapped_field mapped_value mapped_formula mapped_fields is_simple is_foreign holds_foreign two_ways iffs_opened instead_of all_of ex_of mark_of cut_once cut negation_of and_before and_of or_before or_of implies_before implies_of iff_before iff_of is_name are_one all_differ has_axioms place_of same_list change led_from lists_once fields_of list_of past related_term related_int related_set related_field related_value related_formula related_fields bound_with free_object_with null_with read_object_with const_with free_number_with read_number_with add_with sub_with neg_with scale_with card_with free_set_with read_set_with empty_with univ_with single_with union_with inter_with diff_with compl_with compr_with free_field_with update_with of_object_with of_number_with of_truth_with of_set_with of_field_with true_formula_with false_formula_with free_truth_with read_truth_with negation_with and_with or_with implies_with iff_with all_with ex_with eq_object_with eq_number_with eq_set_with less_with less_equal_with divides_with member_with subset_with reach_with tree_with mark_with none_with more_with at_turn step_by first_for without_first is_of is_listed_in is_listed goes_along is_apart other_than formula_passes term_passes field_passes set_passes fields_passes eliminated atom_exchanged exchanged quantified varied_term terms_once is_read holds_read term_reads set_reads field_reads fields_reads formula_reads is_named
+unfolding local_of eliminate derived names_once constrained_by constraint_in is_variable all_steps dropped without_field_value turned built_term built_int built_set built_field built_value built_formula built_fields turn_after turn_behind term_parts int_parts set_parts field_parts value_parts formula_parts fields_parts is_whole_update is_closed_term is_closed_int is_closed_set is_closed_field is_closed_value is_closed_formula is_closed_fields text_under text_of named object_or number_or truth_or set_or field_or rewritten_term rewritten_int rewritten_set rewritten_field rewritten_value rewritten_formula rewritten_fields update_fact described without_repeats place_in named_in name_equal is_in body as_comprehension relation sets_opened mapped_term mapped_int mapped_set mapped_field mapped_value mapped_formula mapped_fields is_simple is_foreign holds_foreign two_ways iffs_opened instead_of all_of ex_of mark_of cut_once cut negation_of and_before and_of or_before or_of implies_before implies_of iff_before iff_of is_name are_one_name are_different_names has_axioms place_of same_list change led_from lists_once fields_of list_of past related_term related_int related_set related_field related_value related_formula related_fields bound_with free_object_with null_with read_object_with const_with free_number_with read_number_with add_with sub_with neg_with scale_with card_with free_set_with read_set_with empty_with univ_with single_with union_with inter_with diff_with compl_with compr_with free_field_with update_with of_object_with of_number_with of_truth_with of_set_with of_field_with true_formula_with false_formula_with free_truth_with read_truth_with negation_with and_with or_with implies_with iff_with all_with ex_with eq_object_with eq_number_with eq_set_with less_with less_equal_with divides_with member_with subset_with reach_with tree_with mark_with none_with more_with at_turn step_by first_for without_first is_of is_listed_in is_listed goes_along is_apart other_than formula_passes term_passes field_passes set_passes fields_passes eliminated atom_exchanged exchanged quantified varied_term terms_once is_read holds_read term_reads set_reads field_reads fields_reads formula_reads is_named
 with_derived q = refl
 
 rows : (q : MethodId) → row_1 q × (row_2 q × (row_3 q × (row_4 q × (row_5 q × (row_6 q × (row_7 q × (row_8 q × (row_9 q × (row_10 q × (row_11 q × (row_12 q × row_13 q)))))))))))
-unfolding local_of eliminate derived names_once constrained_by constraint_in is_variable all_steps dropped without_field_value turned built_term built_int built_set built_field built_value built_formula built_fields turn_after turn_behind term_parts int_parts set_parts field_parts value_parts formula_parts fields_parts is_whole_update is_closed_term is_closed_int is_closed_set is_closed_field is_closed_value is_closed_formula is_closed_fields text_under text_of named object_or number_or truth_or set_or field_or rewritten_term rewritten_int rewritten_set rewritten_field rewritten_value rewritten_formula rewritten_fields update_fact described once place_in named_in name_equal is_in body as_comprehension relation sets_opened mapped_term mapped_int mapped_set mapped_field mapped_value mapped_formula mapped_fields is_simple is_foreign holds_foreign two_ways iffs_opened instead_of all_of ex_of mark_of cut_once cut negation_of and_before and_of or_before or_of implies_before implies_of iff_before iff_of is_name are_one all_differ has_axioms place_of same_list change led_from lists_once fields_of list_of past related_term related_int related_set related_field related_value related_formula related_fields bound_with free_object_with null_with read_object_with const_with free_number_with read_number_with add_with sub_with neg_with scale_with card_with free_set_with read_set_with empty_with univ_with single_with union_with inter_with diff_with compl_with compr_with free_field_with update_with of_object_with of_number_with of_truth_with of_set_with of_field_with true_formula_with false_formula_with free_truth_with read_truth_with negation_with and_with or_with implies_with iff_with all_with ex_with eq_object_with eq_number_with eq_set_with less_with less_equal_with divides_with member_with subset_with reach_with tree_with mark_with none_with more_with
+unfolding local_of eliminate derived names_once constrained_by constraint_in is_variable all_steps dropped without_field_value turned built_term built_int built_set built_field built_value built_formula built_fields turn_after turn_behind term_parts int_parts set_parts field_parts value_parts formula_parts fields_parts is_whole_update is_closed_term is_closed_int is_closed_set is_closed_field is_closed_value is_closed_formula is_closed_fields text_under text_of named object_or number_or truth_or set_or field_or rewritten_term rewritten_int rewritten_set rewritten_field rewritten_value rewritten_formula rewritten_fields update_fact described without_repeats place_in named_in name_equal is_in body as_comprehension relation sets_opened mapped_term mapped_int mapped_set mapped_field mapped_value mapped_formula mapped_fields is_simple is_foreign holds_foreign two_ways iffs_opened instead_of all_of ex_of mark_of cut_once cut negation_of and_before and_of or_before or_of implies_before implies_of iff_before iff_of is_name are_one_name are_different_names has_axioms place_of same_list change led_from lists_once fields_of list_of past related_term related_int related_set related_field related_value related_formula related_fields bound_with free_object_with null_with read_object_with const_with free_number_with read_number_with add_with sub_with neg_with scale_with card_with free_set_with read_set_with empty_with univ_with single_with union_with inter_with diff_with compl_with compr_with free_field_with update_with of_object_with of_number_with of_truth_with of_set_with of_field_with true_formula_with false_formula_with free_truth_with read_truth_with negation_with and_with or_with implies_with iff_with all_with ex_with eq_object_with eq_number_with eq_set_with less_with less_equal_with divides_with member_with subset_with reach_with tree_with mark_with none_with more_with
 rows q = (refl, (refl, (refl, (refl, (refl, (refl, (refl, (refl, (refl, (refl, (refl, (with_derived q, refl))))))))))))
 
 abbrev small_1 : MethodId → Type 0
@@ -873,5 +873,5 @@ small_34 q =
     sequent q [] (fact (t.all (t.implies (t.or (t.eq_object v0 o_c) (t.member v0 s_b)) (t.and (t.member v0 s_a) (t.and (t.member v0 (t.read_set f_s t.null)) (t.negation (t.member v0 (t.read_set f_s o_c))))))) ∷ []) (t.negation (t.eq_object o_b t.null))
 
 smalls : (q : MethodId) → small_1 q × (small_2 q × (small_3 q × (small_4 q × (small_5 q × (small_6 q × (small_7 q × (small_8 q × (small_9 q × (small_10 q × (small_11 q × (small_12 q × (small_13 q × (small_14 q × (small_15 q × (small_16 q × (small_17 q × (small_18 q × (small_19 q × (small_20 q × (small_21 q × (small_22 q × (small_23 q × (small_24 q × (small_25 q × (small_26 q × (small_27 q × (small_28 q × (small_29 q × (small_30 q × (small_31 q × (small_32 q × (small_33 q × small_34 q))))))))))))))))))))))))))))))))
-unfolding local_of eliminate derived names_once constrained_by constraint_in is_variable all_steps dropped without_field_value turned built_term built_int built_set built_field built_value built_formula built_fields turn_after turn_behind term_parts int_parts set_parts field_parts value_parts formula_parts fields_parts is_whole_update is_closed_term is_closed_int is_closed_set is_closed_field is_closed_value is_closed_formula is_closed_fields text_under text_of named object_or number_or truth_or set_or field_or rewritten_term rewritten_int rewritten_set rewritten_field rewritten_value rewritten_formula rewritten_fields update_fact described once place_in named_in name_equal is_in body as_comprehension relation sets_opened mapped_term mapped_int mapped_set mapped_field mapped_value mapped_formula mapped_fields is_simple is_foreign holds_foreign two_ways iffs_opened instead_of all_of ex_of mark_of cut_once cut negation_of and_before and_of or_before or_of implies_before implies_of iff_before iff_of is_name are_one all_differ has_axioms place_of same_list change led_from lists_once fields_of list_of past related_term related_int related_set related_field related_value related_formula related_fields bound_with free_object_with null_with read_object_with const_with free_number_with read_number_with add_with sub_with neg_with scale_with card_with free_set_with read_set_with empty_with univ_with single_with union_with inter_with diff_with compl_with compr_with free_field_with update_with of_object_with of_number_with of_truth_with of_set_with of_field_with true_formula_with false_formula_with free_truth_with read_truth_with negation_with and_with or_with implies_with iff_with all_with ex_with eq_object_with eq_number_with eq_set_with less_with less_equal_with divides_with member_with subset_with reach_with tree_with mark_with none_with more_with
+unfolding local_of eliminate derived names_once constrained_by constraint_in is_variable all_steps dropped without_field_value turned built_term built_int built_set built_field built_value built_formula built_fields turn_after turn_behind term_parts int_parts set_parts field_parts value_parts formula_parts fields_parts is_whole_update is_closed_term is_closed_int is_closed_set is_closed_field is_closed_value is_closed_formula is_closed_fields text_under text_of named object_or number_or truth_or set_or field_or rewritten_term rewritten_int rewritten_set rewritten_field rewritten_value rewritten_formula rewritten_fields update_fact described without_repeats place_in named_in name_equal is_in body as_comprehension relation sets_opened mapped_term mapped_int mapped_set mapped_field mapped_value mapped_formula mapped_fields is_simple is_foreign holds_foreign two_ways iffs_opened instead_of all_of ex_of mark_of cut_once cut negation_of and_before and_of or_before or_of implies_before implies_of iff_before iff_of is_name are_one_name are_different_names has_axioms place_of same_list change led_from lists_once fields_of list_of past related_term related_int related_set related_field related_value related_formula related_fields bound_with free_object_with null_with read_object_with const_with free_number_with read_number_with add_with sub_with neg_with scale_with card_with free_set_with read_set_with empty_with univ_with single_with union_with inter_with diff_with compl_with compr_with free_field_with update_with of_object_with of_number_with of_truth_with of_set_with of_field_with true_formula_with false_formula_with free_truth_with read_truth_with negation_with and_with or_with implies_with iff_with all_with ex_with eq_object_with eq_number_with eq_set_with less_with less_equal_with divides_with member_with subset_with reach_with tree_with mark_with none_with more_with
 smalls q = (refl, (refl, (refl, (refl, (refl, (refl, (refl, (refl, (refl, (refl, (refl, (refl, (refl, (refl, (refl, (refl, (refl, (refl, (refl, (refl, (refl, (refl, (refl, (refl, (refl, (refl, (refl, (refl, (refl, (refl, (refl, (refl, (refl, refl)))))))))))))))))))))))))))))))))

@@ -18,19 +18,19 @@ is_name x (t.free_field y) = name_equal y x
 is_name x (t.update f a v) = false
 
 -- whether two fields are one name
-unfoldable pub are_one : FieldTree → FieldTree → Bool
-are_one (t.free_field x) f = is_name x f
-are_one (t.update f a v) g = false
+unfoldable pub are_one_name : FieldTree → FieldTree → Bool
+are_one_name (t.free_field x) f = is_name x f
+are_one_name (t.update f a v) g = false
 
 -- each field is a name, and none is another's
-unfoldable pub all_differ : List FieldTree → Bool
-all_differ [] = true
-all_differ (t.free_field x ∷ fs) = not (list_any (is_name x) fs) && all_differ fs
-all_differ (t.update f a v ∷ fs) = false
+unfoldable pub are_different_names : List FieldTree → Bool
+are_different_names [] = true
+are_different_names (t.free_field x ∷ fs) = not (list_any (is_name x) fs) && are_different_names fs
+are_different_names (t.update f a v ∷ fs) = false
 
 -- axioms are given for lists of one to four different names
 unfoldable pub has_axioms : List FieldTree → Bool
-has_axioms fs = nat_le 1 (length fs) && nat_le (length fs) 4 && all_differ fs
+has_axioms fs = nat_le 1 (length fs) && nat_le (length fs) 4 && are_different_names fs
 
 -- the place of a name in a list; how many there are, where it isn't there
 unfoldable pub place_of : Name → List FieldTree → ℕ
@@ -39,7 +39,7 @@ place_of x (f ∷ fs) = if is_name x f then zero else suc (place_of x fs)
 
 unfoldable pub same_list : List FieldTree → List FieldTree → Bool
 same_list [] [] = true
-same_list (f ∷ fs) (g ∷ gs) = are_one f g && same_list fs gs
+same_list (f ∷ fs) (g ∷ gs) = are_one_name f g && same_list fs gs
 same_list fs gs = false
 
 -- ---- names that stand for updates

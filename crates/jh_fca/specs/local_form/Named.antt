@@ -11,7 +11,7 @@ use Rattle.jh_normal_forms.specs.declared.parts.order.Order.TheVariants as order
 use Rattle.jh_normal_forms.specs.parts.Standing.{formula_parts}
 use Rattle.jh_substitution.specs.rewriting.Rewritten.{Rewriting, rewritten_term, rewritten_field, rewritten_value, rewritten_formula}
 use Rattle.jh_approx.specs.jh_derivation_rules.Rules.{described}
-use Rattle.jh_approx.specs.definition.Names.{once, place_in}
+use Rattle.jh_approx.specs.definition.Names.{without_repeats, place_in}
 
 -- ---- the turns of names
 
@@ -45,7 +45,7 @@ is_whole_update v = false
 
 -- The updates of some formulas, each once, in the order in which they first stand, an inner one before those that hold it.
 abbrev pub updates : List FormulaTree → List ValueTree
-updates facts = once (filter is_whole_update (all_parts facts))
+updates facts = without_repeats (filter is_whole_update (all_parts facts))
 
 -- the text of the name under all updates
 unfoldable pub text_under : FieldTree → List ℕ

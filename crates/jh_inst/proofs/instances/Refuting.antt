@@ -11,7 +11,7 @@ use Rattle.jh_boxed_operations.specs.comparison.Unmarked.{unmarked_formula}
 use Rattle.jh_normal_forms.specs.negation_normal_form.Normal.{normal}
 use Rattle.jh_seq.specs.sequent.Sequents.{HypTree, SequentTree, IsValid, AllTrue}
 use Rattle.jh_seq.specs.splitting.Split.{before}
-use Rattle.jh_derivation_rules.specs.Closes.{facts_of, AllHold, Clash}
+use Rattle.jh_derivation_rules.specs.Closes.{facts_of, AllHold, AreUnsatisfiable}
 use Rattle.jh_derivation_rules.proofs.Unmarkings.{truth-unmarked}
 use Rattle.jh_inst.specs.instances.Entries.{formulas}
 use Rattle.jh_inst.specs.instances.Instances.{is_free, made, is_ground, instances}
@@ -56,7 +56,7 @@ sure : (b : Bool) → (b ≡ true) ⊎ (b ≡ false)
 sure true = inl refl
 sure false = inr refl
 
-pub clash-valid : (s : SequentTree) (k r : ℕ) → is_free s k ≡ true → Clash (instances s k r) → IsValid s
+pub clash-valid : (s : SequentTree) (k r : ℕ) → is_free s k ≡ true → AreUnsatisfiable (instances s k r) → IsValid s
 clash-valid s k r free clash m u all =
     elim (sure (truth s.goal m [])) [
       | inl holds ↦ holds

@@ -6,7 +6,7 @@ use Rattle.jh_form.specs.Meaning.{Interp, InUniverse}
 use Rattle.jh_seq.specs.sequent.Sequents.{SequentTree, IsValid}
 use Rattle.jh_seq.specs.splitting.Local.{has_local_shape, is_local}
 use Rattle.jh_seq.specs.splitting.Split.{before}
-use Rattle.jh_derivation_rules.specs.Closes.{facts_of, AllHold, Clash}
+use Rattle.jh_derivation_rules.specs.Closes.{facts_of, AllHold, AreUnsatisfiable}
 use Rattle.jh_inst.specs.instances.Entries.{formulas, taken}
 use Rattle.jh_inst.specs.instances.Instances.{is_free, normal_facts, made, instances}
 use Rattle.jh_inst.specs.instances.Count.{count}
@@ -20,7 +20,7 @@ MadeFollows =
 
 -- A sequent is valid where its instances are never true together.
 abbrev pub ClashingInstancesGiveValid : Type 0
-ClashingInstancesGiveValid = (s : SequentTree) (k r : ℕ) → is_free s k ≡ true → Clash (instances s k r) → IsValid s
+ClashingInstancesGiveValid = (s : SequentTree) (k r : ℕ) → is_free s k ≡ true → AreUnsatisfiable (instances s k r) → IsValid s
 
 -- Beside the facts no more is made of a sequent of local shape than is counted.
 abbrev pub MadeAtMostCounted : Type 0

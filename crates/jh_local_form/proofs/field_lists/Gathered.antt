@@ -13,10 +13,10 @@ use Rattle.jh_form.proofs.Names.{name_equal-same, name_equal-true}
 use Rattle.jh_boxed_operations.specs.comparison.Exchanged.{equal_trees}
 use Rattle.jh_boxed_operations.proofs.comparison.Equalities.{equal_trees-true}
 use Rattle.jh_normal_forms.specs.parts.Asked.{is_field_list}
-use Rattle.jh_approx.specs.definition.Names.{once}
+use Rattle.jh_approx.specs.definition.Names.{without_repeats}
 use Rattle.jh_reach.specs.Axioms.{BackboneTree}
 use Rattle.jh_fca.specs.local_form.Named.{all_parts}
-use Rattle.jh_fca.specs.local_form.Chains.{ChangeTree, is_name, are_one, all_differ, has_axioms, place_of, same_list, base_at, backbone, led_from, lists_once, list_of, lists_in, backbones}
+use Rattle.jh_fca.specs.local_form.Chains.{ChangeTree, is_name, are_one_name, are_different_names, has_axioms, place_of, same_list, base_at, backbone, led_from, lists_once, list_of, lists_in, backbones}
 use Rattle.jh_local_form.specs.field_lists.Leading.{has_list, with_backbone, with_backbones, led_of}
 
 sure : (b : Bool) → (b ≡ true) ⊎ (b ≡ false)
@@ -34,7 +34,7 @@ or-right false q h = h
 
 -- two lists are one where each name is the other's
 pub same-lists : (fs gs : List FieldTree) → same_list fs gs ≡ true → fs ≡ gs
-unfolding same_list are_one is_name
+unfolding same_list are_one_name is_name
 same-lists [] [] h = refl
 same-lists [] (g ∷ gs) h = absurd (true≢false (sym h))
 same-lists (f ∷ fs) [] h = absurd (true≢false (sym h))
@@ -44,10 +44,10 @@ same-lists (t.free_field x ∷ fs) (t.update f a v ∷ gs) h = absurd (true≢fa
 same-lists (t.update f a v ∷ fs) (g ∷ gs) h = absurd (true≢false (sym h))
 
 -- a list of names is one with itself
-pub self-list : (fs : List FieldTree) → all_differ fs ≡ true → same_list fs fs ≡ true
-unfolding all_differ same_list are_one is_name
+pub self-list : (fs : List FieldTree) → are_different_names fs ≡ true → same_list fs fs ≡ true
+unfolding are_different_names same_list are_one_name is_name
 self-list [] h = refl
-self-list (t.free_field x ∷ fs) h = λ i. name_equal-same x x refl i && self-list fs (both-right (not (list_any (is_name x) fs)) (all_differ fs) h) i
+self-list (t.free_field x ∷ fs) h = λ i. name_equal-same x x refl i && self-list fs (both-right (not (list_any (is_name x) fs)) (are_different_names fs) h) i
 self-list (t.update f a v ∷ fs) h = absurd (true≢false (sym h))
 
 -- ---- what a list has
@@ -164,7 +164,7 @@ with-once cs = with-new cs [] ∙ filter-all (lists_once cs)
 
 axioms-self : (fs : List FieldTree) → has_axioms fs ≡ true → same_list fs fs ≡ true
 unfolding has_axioms
-axioms-self fs h = self-list fs (both-right (nat_le 1 (length fs) && nat_le (length fs) 4) (all_differ fs) h)
+axioms-self fs h = self-list fs (both-right (nat_le 1 (length fs) && nat_le (length fs) 4) (are_different_names fs) h)
 
 last-self : (b : Bool) (fs : List FieldTree) → (b ≡ true → same_list fs fs ≡ true) → all_self (if b then backbone fs None ∷ [] else []) ≡ true
 last-self true fs h = λ i. h refl i && true
@@ -207,14 +207,14 @@ module _ (cs : List ChangeTree) where
   skipped x [] known h = refl
   skipped x (y ∷ ys) known h = skipped-if (equal_trees x y) x y ys known refl h (skipped x ys)
 
-  each-once : (xs : List ValueTree) (known : List BackboneTree) → with_backbones known (flat_map of xs) ≡ with_backbones known (flat_map of (once xs))
-  unfolding once
+  each-once : (xs : List ValueTree) (known : List BackboneTree) → with_backbones known (flat_map of xs) ≡ with_backbones known (flat_map of (without_repeats xs))
+  unfolding without_repeats
   each-once [] known = refl
   each-once (x ∷ xs) known =
       with-append (of x) (flat_map of xs) known
       ∙ each-once xs (with_backbones known (of x))
-      ∙ skipped x (once xs) (with_backbones known (of x)) (with-has (of x) known (all-led cs (list_of x)))
-      ∙ sym (with-append (of x) (flat_map of (filter (λ w. not (equal_trees x w)) (once xs))) known)
+      ∙ skipped x (without_repeats xs) (with_backbones known (of x)) (with-has (of x) known (all-led cs (list_of x)))
+      ∙ sym (with-append (of x) (flat_map of (filter (λ w. not (equal_trees x w)) (without_repeats xs))) known)
 
   -- what speaks of no list has none
   no-list : (v : ValueTree) → is_field_list v ≡ false → list_of v ≡ []
@@ -236,7 +236,7 @@ module _ (cs : List ChangeTree) where
   joined (v ∷ vs) = flat_map-append (λ fs. led_from fs cs) (list_of v) (flat_map list_of vs) ∙ ap (λ bs. of v ++ bs) (joined vs)
 
   -- the backbones of formulas, by their parts that speak of lists, each once
-  pub gathered : (facts : List FormulaTree) → with_backbones [] (flat_map of (once (filter is_field_list (all_parts facts)))) ≡ backbones facts cs
+  pub gathered : (facts : List FormulaTree) → with_backbones [] (flat_map of (without_repeats (filter is_field_list (all_parts facts)))) ≡ backbones facts cs
   gathered facts =
       sym (each-once (filter is_field_list (all_parts facts)) [])
       ∙ ap (with_backbones []) (sym (asked (all_parts facts)) ∙ sym (joined (all_parts facts)))

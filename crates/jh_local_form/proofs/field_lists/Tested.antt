@@ -15,7 +15,7 @@ use Rattle.jh_arena.specs.table.Nodes.{nodes, shape_tree}
 use Rattle.jh_arena.specs.declared.table.shapes.Shape.{Shape}
 use Rattle.jh_arena.specs.declared.table.shapes.Shape.TheVariants as s
 use Rattle.jh_reach.specs.Standing.{AreFields}
-use Rattle.jh_fca.specs.local_form.Chains.{is_name, are_one, all_differ, has_axioms, same_list, place_of}
+use Rattle.jh_fca.specs.local_form.Chains.{is_name, are_one_name, are_different_names, has_axioms, same_list, place_of}
 use Rattle.jh_local_form.proofs.updates.Places.{some-same}
 use Rattle.jh_local_form.specs.field_lists.Testing.{is_free_field, all_apart}
 
@@ -51,15 +51,15 @@ module _ (tab : Listing) (different : AreDifferent (nodes tab)) where
   among-names n x (m ∷ ns) [] h k = absurd k
   among-names n x (m ∷ ns) (f ∷ fs) h k = λ i. node-name n m x f h k.0 i || among-names n x ns fs h k.1 i
 
-  apart-one : (n : ℕ) (ns : List ℕ) (f : FieldTree) (fs : List FieldTree) → slice_get (nodes tab) n ≡ Some (of_field f) → AreFields tab ns fs → all_apart (nodes tab) ns ≡ all_differ fs →
-      ((is_free_field f && not (list_any (nat_eq n) ns)) && all_apart (nodes tab) ns) ≡ all_differ (f ∷ fs)
-  unfolding is_free_field all_differ
+  apart-one : (n : ℕ) (ns : List ℕ) (f : FieldTree) (fs : List FieldTree) → slice_get (nodes tab) n ≡ Some (of_field f) → AreFields tab ns fs → all_apart (nodes tab) ns ≡ are_different_names fs →
+      ((is_free_field f && not (list_any (nat_eq n) ns)) && all_apart (nodes tab) ns) ≡ are_different_names (f ∷ fs)
+  unfolding is_free_field are_different_names
   apart-one n ns (t.free_field x) fs h k e = λ i. not (among-names n x ns fs h k i) && e i
   apart-one n ns (t.update f a v) fs h k e = refl
 
   -- whether each is a name and none is another's
-  pub apart-is : (ns : List ℕ) (fs : List FieldTree) → AreFields tab ns fs → all_apart (nodes tab) ns ≡ all_differ fs
-  unfolding AreFields the_field all_differ
+  pub apart-is : (ns : List ℕ) (fs : List FieldTree) → AreFields tab ns fs → all_apart (nodes tab) ns ≡ are_different_names fs
+  unfolding AreFields the_field are_different_names
   apart-is [] [] h = refl
   apart-is [] (f ∷ fs) h = absurd h
   apart-is (n ∷ ns) [] h = absurd h
@@ -84,14 +84,14 @@ module _ (tab : Listing) (different : AreDifferent (nodes tab)) where
   pub axioms-untold : (ns : List ℕ) (fs : List FieldTree) (short : Bool) → AreFields tab ns fs → short ≡ (nat_le 1 (length ns) && nat_le (length ns) 4) → short ≡ false → short ≡ has_axioms fs
   axioms-untold ns fs short h e is = is ∙ ap (λ b. b && all_apart (nodes tab) ns) (sym is ∙ e) ∙ axioms-are ns fs h
 
-  one-list : (n m : ℕ) (ns ms : List ℕ) (g f : FieldTree) (gs fs : List FieldTree) → slice_get (nodes tab) n ≡ Some (of_field g) → slice_get (nodes tab) m ≡ Some (of_field f) → all_differ (g ∷ gs) ≡ true →
-      (all_differ gs ≡ true → pointwise nat_eq ns ms ≡ same_list gs fs) → (nat_eq n m && pointwise nat_eq ns ms) ≡ same_list (g ∷ gs) (f ∷ fs)
-  unfolding all_differ same_list are_one
-  one-list n m ns ms (t.free_field x) f gs fs h k apart rest = λ i. node-name n m x f h k i && rest (both-right (not (list_any (is_name x) gs)) (all_differ gs) apart) i
+  one-list : (n m : ℕ) (ns ms : List ℕ) (g f : FieldTree) (gs fs : List FieldTree) → slice_get (nodes tab) n ≡ Some (of_field g) → slice_get (nodes tab) m ≡ Some (of_field f) → are_different_names (g ∷ gs) ≡ true →
+      (are_different_names gs ≡ true → pointwise nat_eq ns ms ≡ same_list gs fs) → (nat_eq n m && pointwise nat_eq ns ms) ≡ same_list (g ∷ gs) (f ∷ fs)
+  unfolding are_different_names same_list are_one_name
+  one-list n m ns ms (t.free_field x) f gs fs h k apart rest = λ i. node-name n m x f h k i && rest (both-right (not (list_any (is_name x) gs)) (are_different_names gs) apart) i
   one-list n m ns ms (t.update g a v) f gs fs h k apart rest = absurd (true≢false (sym apart))
 
   -- two lists are one where their nodes are
-  pub lists-are : (ns ms : List ℕ) (gs fs : List FieldTree) → AreFields tab ns gs → AreFields tab ms fs → all_differ gs ≡ true → pointwise nat_eq ns ms ≡ same_list gs fs
+  pub lists-are : (ns ms : List ℕ) (gs fs : List FieldTree) → AreFields tab ns gs → AreFields tab ms fs → are_different_names gs ≡ true → pointwise nat_eq ns ms ≡ same_list gs fs
   unfolding AreFields same_list
   lists-are [] [] [] [] h k apart = refl
   lists-are [] (m ∷ ms) [] (f ∷ fs) h k apart = refl
@@ -136,9 +136,9 @@ module _ (tab : Listing) (different : AreDifferent (nodes tab)) where
   place-missed n x ns fs h k e = none-if (nat_lt (place_of x fs) (length fs)) (place_of x fs) (e ∙ position-is n x ns fs h k)
 
 -- a list with axioms has different names
-pub axioms-apart : (fs : List FieldTree) → has_axioms fs ≡ true → all_differ fs ≡ true
+pub axioms-apart : (fs : List FieldTree) → has_axioms fs ≡ true → are_different_names fs ≡ true
 unfolding has_axioms
-axioms-apart fs h = both-right (nat_le 1 (length fs) && nat_le (length fs) 4) (all_differ fs) h
+axioms-apart fs h = both-right (nat_le 1 (length fs) && nat_le (length fs) 4) (are_different_names fs) h
 
 -- ---- by shapes
 

@@ -8,7 +8,7 @@ use Rattle.jh_form.specs.Tree.{FormulaTree, ValueTree}
 use Rattle.jh_boxed_operations.specs.comparison.Exchanged.{equal_trees}
 use Rattle.jh_boxed_operations.proofs.comparison.Equalities.{equal_trees-true, equal_trees-same}
 use Rattle.jh_arena.specs.table.Growth.{AreDifferent}
-use Rattle.jh_approx.specs.definition.Names.{once, place_in}
+use Rattle.jh_approx.specs.definition.Names.{without_repeats, place_in}
 use Rattle.jh_fca.specs.local_form.Named.{is_whole_update, updates, all_parts}
 use Rattle.jh_fca.proofs.local_form.Among.{Among, among-filter, filter-passes}
 use Rattle.jh_local_form.specs.updates.Updating.{AreValues, AreUpdates}
@@ -35,10 +35,10 @@ filter-once p (v ∷ vs) h = once-if (p v) p v vs h.0 (filter-once p vs h.1)
 not-itself : (v : ValueTree) (vs : List ValueTree) → Among v (filter (λ w. not (equal_trees v w)) vs) → ⊥
 not-itself v vs k = true≢false (sym (filter-passes (λ w. not (equal_trees v w)) v vs k) ∙ ap not (equal_trees-same v v refl))
 
-all-once : (vs : List ValueTree) → AllOnce (once vs)
-unfolding once
+all-once : (vs : List ValueTree) → AllOnce (without_repeats vs)
+unfolding without_repeats
 all-once [] = tt
-all-once (v ∷ vs) = (not-itself v (once vs), filter-once (λ w. not (equal_trees v w)) (once vs) (all-once vs))
+all-once (v ∷ vs) = (not-itself v (without_repeats vs), filter-once (λ w. not (equal_trees v w)) (without_repeats vs) (all-once vs))
 
 pub at-among : (vs : List ValueTree) (i : ℕ) (v : ValueTree) → slice_get vs i ≡ Some v → Among v vs
 at-among [] i v at = absurd (none-some v at)
@@ -79,10 +79,10 @@ still-all : (q p : ValueTree → Bool) (vs : List ValueTree) → list_all q vs �
 still-all q p [] h = refl
 still-all q p (v ∷ vs) h = passing-if (p v) q p v vs (λ e. and-left (q v) (list_all q vs) h) (still-all q p vs (and-right (q v) (list_all q vs) h))
 
-once-passes : (q : ValueTree → Bool) (vs : List ValueTree) → list_all q vs ≡ true → list_all q (once vs) ≡ true
-unfolding once
+once-passes : (q : ValueTree → Bool) (vs : List ValueTree) → list_all q vs ≡ true → list_all q (without_repeats vs) ≡ true
+unfolding without_repeats
 once-passes q [] h = refl
-once-passes q (v ∷ vs) h = λ i. and-left (q v) (list_all q vs) h i && still-all q (λ w. not (equal_trees v w)) (once vs) (once-passes q vs (and-right (q v) (list_all q vs) h)) i
+once-passes q (v ∷ vs) h = λ i. and-left (q v) (list_all q vs) h i && still-all q (λ w. not (equal_trees v w)) (without_repeats vs) (once-passes q vs (and-right (q v) (list_all q vs) h)) i
 
 pub passes-at : (q : ValueTree → Bool) (vs : List ValueTree) (i : ℕ) (v : ValueTree) → list_all q vs ≡ true → slice_get vs i ≡ Some v → q v ≡ true
 passes-at q [] i v h at = absurd (none-some v at)
@@ -90,11 +90,11 @@ passes-at q (w ∷ vs) zero v h at = ap q (sym (some-same w v at)) ∙ and-left 
 passes-at q (w ∷ vs) (suc i) v h at = passes-at q vs i v (and-right (q w) (list_all q vs) h) at
 
 -- the updates of formulas, by nodes at which they stand
-pub updates-are : (ts : List ValueTree) (ns : List ℕ) (facts : List FormulaTree) → AreValues ts ns (once (filter is_whole_update (all_parts facts))) → AreUpdates ts ns (updates facts)
+pub updates-are : (ts : List ValueTree) (ns : List ℕ) (facts : List FormulaTree) → AreValues ts ns (without_repeats (filter is_whole_update (all_parts facts))) → AreUpdates ts ns (updates facts)
 updates-are ts ns facts h = record {
   are = h;
   whole = once-passes is_whole_update (filter is_whole_update (all_parts facts)) (filter-all is_whole_update (all_parts facts));
-  differ = once-differ (once (filter is_whole_update (all_parts facts))) (all-once (filter is_whole_update (all_parts facts)));
+  differ = once-differ (without_repeats (filter is_whole_update (all_parts facts))) (all-once (filter is_whole_update (all_parts facts)));
 }
 
 -- ---- places

@@ -16,7 +16,7 @@ use Rattle.jh_normal_forms.specs.parts.Collected as collected
 use Rattle.jh_normal_forms.specs.parts.Standing.{value_parts}
 use Rattle.jh_normal_forms.specs.declared.parts.order.Order.{Order}
 use Rattle.jh_normal_forms.specs.declared.parts.order.Order.TheVariants as order
-use Rattle.jh_approx.specs.definition.Names.{once}
+use Rattle.jh_approx.specs.definition.Names.{without_repeats}
 use Rattle.jh_abstraction.specs.jh_query_names.query_names.Gathered.{has_name, with_name, with_names}
 use Rattle.jh_abstraction.proofs.of_jh_query_names.query_names.Onces.{with-once}
 use Rattle.jh_reach.specs.Standing.{AreFormulas}
@@ -92,10 +92,10 @@ module _ (ts : List ValueTree) (different : AreDifferent ts) where
   all-inserted (n ∷ ns) ks (w ∷ ws) vs h k = all-inserted ns (insert_key nat_eq ks n) ws (with_name vs w) (inserted ks vs n w h k.0) k.1
 
   -- what was collected from nothing stands there, each once
-  pub collected-once : (list none : List ℕ) (trees : List ValueTree) → none ≡ [] → IsCollected ts none trees list → AreValues ts list (once trees)
+  pub collected-once : (list none : List ℕ) (trees : List ValueTree) → none ≡ [] → IsCollected ts none trees list → AreValues ts list (without_repeats trees)
   unfolding AreValues
   collected-once list none trees e h =
-      subst (λ (ks : List ℕ). AreValues ts ks (once trees)) (sym (h.added ∙ ap (λ ks. insert_all nat_eq ks h.numbers) e))
+      subst (λ (ks : List ℕ). AreValues ts ks (without_repeats trees)) (sym (h.added ∙ ap (λ ks. insert_all nat_eq ks h.numbers) e))
       (subst (λ (ws : List ValueTree). AreValues ts (insert_all nat_eq [] h.numbers) ws) (with-once trees) (all-inserted h.numbers [] trees [] tt (listed-values ts h.numbers trees h.are)))
 
 -- the parts of formulas, by the nodes of the formulas

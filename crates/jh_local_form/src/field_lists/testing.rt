@@ -4,7 +4,7 @@ ghost use Rattle.jh_form.specs.Tree.{FieldTree, of_field};
 ghost use Rattle.jh_arena.specs.table.Entries.{are_fields, is_field, the_field};
 ghost use Rattle.jh_arena.specs.table.Nodes.{nodes};
 ghost use Rattle.jh_reach.specs.Standing.{AreFields};
-ghost use Rattle.jh_fca.specs.local_form.Chains.{all_differ, has_axioms};
+ghost use Rattle.jh_fca.specs.local_form.Chains.{are_different_names, has_axioms};
 ghost use Rattle.jh_local_form.specs.field_lists.Testing.{is_free_field, all_apart};
 
 use jh_arena::table::{Shape, Table};

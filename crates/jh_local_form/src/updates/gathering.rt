@@ -3,7 +3,7 @@ ghost use Rattle.std.specs.List.{filter};
 ghost use Rattle.jh_form.specs.Tree.{FormulaTree};
 ghost use Rattle.jh_arena.specs.table.Nodes.{nodes};
 ghost use Rattle.jh_reach.specs.Standing.{AreFormulas};
-ghost use Rattle.jh_approx.specs.definition.Names.{once};
+ghost use Rattle.jh_approx.specs.definition.Names.{without_repeats};
 ghost use Rattle.jh_fca.specs.local_form.Named.{all_parts, updates};
 ghost use Rattle.jh_local_form.specs.updates.Updating.{AreValues, AreUpdates};
 
@@ -29,7 +29,7 @@ pub fn parts_of<T: PartTest>(
     formulas: &[usize],
 ) -> Result<NodeList, NoMemory>
     requires formulas { (facts : List FormulaTree) × AreFormulas table.now formulas.now facts }
-    ensures parts { IfOk result (λ made. (facts : List FormulaTree) → AreFormulas table.now formulas.now facts → AreValues (nodes table.now) made (once (filter (T.test test.now) (all_parts facts)))) }
+    ensures parts { IfOk result (λ made. (facts : List FormulaTree) → AreFormulas table.now formulas.now facts → AreValues (nodes table.now) made (without_repeats (filter (T.test test.now) (all_parts facts)))) }
 {
     table.nodes_differ();
     let mut list = NodeList::new(table.alloc());

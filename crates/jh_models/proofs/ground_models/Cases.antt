@@ -10,7 +10,7 @@ use Rattle.jh_closure.specs.structures.Literals.{LiteralTree, IsListed}
 use Rattle.jh_models.specs.ground_models.Atoms.{literal, opposite, IsGroundAtom, is_equality}
 use Rattle.jh_models.specs.ground_models.Truths.{IsFalse, IsTrue, SomeFalse}
 use Rattle.jh_models.specs.ground_models.Clashes.{Clash, Follows, Propagated, AllPropagated, given, forced, equal, other, none, more, IsOpen}
-use Rattle.jh_models.specs.ground_models.Explanations.{Closes, IsLeft}
+use Rattle.jh_models.specs.ground_models.Explanations.{ClosesBranch, IsLeft}
 use Rattle.jh_models.specs.ground_models.Explanations as explain
 use Rattle.jh_models.specs.ground_models.Branches.{ClosedTree, Goes}
 use Rattle.jh_models.specs.ground_models.Budget.{IsSpent}
@@ -200,7 +200,7 @@ begins-open = record {
 abbrev branch : ClosedTree
 branch = record { decisions = yes p ∷ []; explanation = yes p ∷ yes q ∷ [] }
 
-closed : Closes four (yes p ∷ []) (yes p ∷ yes q ∷ [])
+closed : ClosesBranch four (yes p ∷ []) (yes p ∷ yes q ∷ [])
 closed = (inl refl, inl (inl refl), (inr (inl refl), inr (inr (inr (inr (inl (inr (inl refl), inl refl))))), both-clash))
 
 not-q : Clash four (no q ∷ []) → ⊥
@@ -211,11 +211,11 @@ not-nothing : Clash four [] → ⊥
 not-nothing (inl h) = h (flags 0) tt
 not-nothing (inr h) = none-by-none h
 
-q-alone : Closes four (yes p ∷ []) (yes q ∷ []) → ⊥
+q-alone : ClosesBranch four (yes p ∷ []) (yes q ∷ []) → ⊥
 q-alone (at, inl h, rest) = let same : ◌≡◌ {A = ℕ} 1 2 = p-or-q 1 2 true true (only (yes p) (yes q) h) in omega (arith, same)
 q-alone (at, inr h, rest) = not-q h
 
-needs-p : (l : LiteralTree) → IsListed (yes p ∷ []) l → (ks : List LiteralTree) → IsLeft ks (yes p ∷ yes q ∷ []) → (IsListed ks l → ⊥) → Closes four (yes p ∷ []) ks → ⊥
+needs-p : (l : LiteralTree) → IsListed (yes p ∷ []) l → (ks : List LiteralTree) → IsLeft ks (yes p ∷ yes q ∷ []) → (IsListed ks l → ⊥) → ClosesBranch four (yes p ∷ []) ks → ⊥
 needs-p l h _ (explain.kept _ ks _ rest) gone c = gone (inl (only (yes p) l h))
 needs-p l h _ (explain.out _ _ _ (explain.kept _ _ _ explain.none)) gone c = q-alone c
 needs-p l h _ (explain.out _ _ _ (explain.out _ _ _ explain.none)) gone c = not-nothing c

@@ -6,13 +6,13 @@ use Rattle.jh_closure.specs.structures.Structures.{Structure}
 use Rattle.jh_closure.specs.structures.Literals.{LiteralTree, Meets}
 use Rattle.jh_closure.proofs.structures.Listed.{meets-listed}
 use Rattle.jh_models.specs.ground_models.Atoms.{literal}
-use Rattle.jh_models.specs.ground_models.Truths.{IsRefuted, IsFalse, SomeFalse}
+use Rattle.jh_models.specs.ground_models.Truths.{IsTrueBy, IsFalse, SomeFalse}
 use Rattle.jh_models.specs.ground_models.Making.{Unmakes, Makes, MakesAll}
 use Rattle.jh_models.specs.ground_models.Clashes.{Clash}
 use Rattle.jh_models.proofs.ground_models.Opposites.{never-both}
 
 module _ {O N T S F : Type 0} (s : Structure O N T S F) (ls : List LiteralTree) (met : Meets s ls) where
-  refuted-unmade : (a : FormulaTree) → IsRefuted ls a → Unmakes s a → ⊥
+  refuted-unmade : (a : FormulaTree) → IsTrueBy ls a → Unmakes s a → ⊥
   refuted-unmade t.true_formula h d = absurd d
   refuted-unmade t.false_formula h d = absurd h
   refuted-unmade a h d = never-both s a (meets-listed s ls (literal a true) h met) d

@@ -5,7 +5,7 @@ use Rattle.jh_form.specs.Tree as t
 use Rattle.jh_closure.specs.structures.Literals.{LiteralTree, IsListed, AreListed}
 use Rattle.jh_closure.proofs.structures.Listed.{meets-listed, meets-all}
 use Rattle.jh_models.specs.ground_models.Atoms.{literal, opposite, atom_of, atoms_of, ground_atoms, StandsIn, IsGroundAtom}
-use Rattle.jh_models.specs.ground_models.Truths.{IsDenied, IsFalse, IsTrue, IsRefuted, SomeFalse, AllTrue}
+use Rattle.jh_models.specs.ground_models.Truths.{IsDenied, IsFalse, IsTrue, IsTrueBy, SomeFalse, AllTrue}
 use Rattle.jh_models.specs.ground_models.GroundModel.{IsGroundModel, IsDecided}
 use Rattle.jh_models.specs.ground_models.Clashes.{Propagated, AllPropagated, given, forced, equal, other, none, more, IsOpen, Follows}
 use Rattle.jh_models.specs.ground_models.Fixpoints.{IsFixed}
@@ -55,7 +55,7 @@ module _ (had : List LiteralTree) where
   abbrev DecidesAll : List FormulaTree → Type 0
   DecidesAll atoms = (a : FormulaTree) → StandsIn atoms a → IsDecided had a
 
-  negated-value : (a : FormulaTree) → DecidesAll (atom_of a) → IsRefuted had a ⊎ IsDenied had a
+  negated-value : (a : FormulaTree) → DecidesAll (atom_of a) → IsTrueBy had a ⊎ IsDenied had a
   negated-value t.true_formula h = inl tt
   negated-value t.false_formula h = inr tt
   negated-value a h = h a (inl refl)

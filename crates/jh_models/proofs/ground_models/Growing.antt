@@ -5,7 +5,7 @@ use Rattle.jh_form.specs.Tree as t
 use Rattle.jh_closure.specs.structures.Literals.{LiteralTree, IsListed, AreListed}
 use Rattle.jh_closure.proofs.structures.Listed.{more-not-met}
 use Rattle.jh_models.specs.ground_models.Atoms.{literal}
-use Rattle.jh_models.specs.ground_models.Truths.{IsRefuted, IsFalse, IsDenied, IsTrue, SomeFalse, AllTrue}
+use Rattle.jh_models.specs.ground_models.Truths.{IsTrueBy, IsFalse, IsDenied, IsTrue, SomeFalse, AllTrue}
 use Rattle.jh_models.specs.ground_models.Clashes.{Clash, Propagated, AllPropagated, given, forced, equal, other, none, more}
 
 -- the literals of the first list stand in the second
@@ -18,7 +18,7 @@ module _ (ls ks : List LiteralTree) (there : AreListed ks ls) where
       among (m ∷ ms) there l (inl e) = subst (λ z. IsListed ks z) e there.0
       among (m ∷ ms) there l (inr h) = among ms there.1 l h
 
-  refuted-more : (a : FormulaTree) → IsRefuted ls a → IsRefuted ks a
+  refuted-more : (a : FormulaTree) → IsTrueBy ls a → IsTrueBy ks a
   refuted-more t.true_formula h = h
   refuted-more t.false_formula h = h
   refuted-more a h = listed-more (literal a true) h

@@ -6,13 +6,13 @@ use Rattle.jh_closure.specs.structures.Structures.{Structure}
 use Rattle.jh_closure.specs.structures.Literals.{LiteralTree, MeetsOne, Meets}
 use Rattle.jh_closure.proofs.structures.Listed.{meets-listed}
 use Rattle.jh_models.specs.ground_models.Atoms.{opposite}
-use Rattle.jh_models.specs.ground_models.Truths.{IsRefuted, IsFalse, SomeFalse}
+use Rattle.jh_models.specs.ground_models.Truths.{IsTrueBy, IsFalse, SomeFalse}
 use Rattle.jh_models.specs.ground_models.Making.{Unmakes, Makes, MakesAll}
 use Rattle.jh_models.specs.ground_models.Clashes.{Propagated, AllPropagated, given, forced, equal, other, none, more}
 use Rattle.jh_models.proofs.ground_models.Opposites.{met-instead}
 
 module _ {O N T S F : Type 0} (s : Structure O N T S F) (l : LiteralTree) (had : List LiteralTree) (met : Meets s had) where
-  refuted-forces : (a : FormulaTree) → IsRefuted (opposite l ∷ had) a → Unmakes s a → MeetsOne s l.holds l.atom
+  refuted-forces : (a : FormulaTree) → IsTrueBy (opposite l ∷ had) a → Unmakes s a → MeetsOne s l.holds l.atom
   refuted-forces t.true_formula h d = absurd d
   refuted-forces t.false_formula h d = absurd h
   refuted-forces a h d = met-instead s l had a true h d met

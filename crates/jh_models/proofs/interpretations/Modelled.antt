@@ -7,7 +7,7 @@ use Rattle.jh_form.specs.Tree as t
 use Rattle.jh_form.specs.Meaning.{Interp, truth}
 use Rattle.jh_form.proofs.ClosedLemmas.{both-left, both-right}
 use Rattle.jh_closure.specs.structures.Literals.{LiteralTree, IsListed, MeetsOne, Meets}
-use Rattle.jh_derivation_rules.specs.Closes.{AllHold, Clash}
+use Rattle.jh_derivation_rules.specs.Closes.{AllHold, AreUnsatisfiable}
 use Rattle.jh_models.specs.ground_models.Atoms.{literal, atom_of, atoms_of, ground_atoms, StandsIn}
 use Rattle.jh_models.specs.ground_models.Truths.{IsDenied, IsTrue, AllTrue}
 use Rattle.jh_models.specs.ground_models.GroundModel.{IsGroundModel, IsDecided}
@@ -145,5 +145,5 @@ module _ (m : Interp) where
     },
   )
 
-pub no-model-clash : (is : List FormulaTree) → list_all is_local_instance is ≡ true → ((ls : List LiteralTree) → IsGroundModel is ls → ⊥) → Clash is
+pub no-model-clash : (is : List FormulaTree) → list_all is_local_instance is ≡ true → ((ls : List LiteralTree) → IsGroundModel is ls → ⊥) → AreUnsatisfiable is
 no-model-clash is k never m inside h = let found = truth-model m is k h in never found.0 found.1

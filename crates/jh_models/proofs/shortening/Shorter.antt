@@ -3,14 +3,14 @@ use Rattle.std.proofs.Common.{◌≡◌, sym, subst, List, [], ◌∷◌, ◌++�
 use Rattle.jh_form.specs.Tree.{FormulaTree}
 use Rattle.jh_closure.specs.structures.Literals.{LiteralTree, IsListed}
 use Rattle.jh_models.specs.ground_models.Clashes.{Clash}
-use Rattle.jh_models.specs.ground_models.Explanations.{Closes, IsLeft, IsExplanation}
+use Rattle.jh_models.specs.ground_models.Explanations.{ClosesBranch, IsLeft, IsExplanation}
 use Rattle.jh_models.specs.shortening.Steps.{IsMost}
 use Rattle.jh_models.specs.shortening.Shortened.{IsNeededIn, IsShortened}
 use Rattle.jh_models.proofs.shortening.Leaving.{left-listed, left-through, left-before}
 use Rattle.jh_models.proofs.shortening.Stepping.{steps-close}
 
 module _ (is : List FormulaTree) (ds : List LiteralTree) where
-  pub begun : (ls : List LiteralTree) → Closes is ds ls → IsShortened is ds [] ls
+  pub begun : (ls : List LiteralTree) → ClosesBranch is ds ls → IsShortened is ds [] ls
   begun ls h = record { closes = h; needs = λ l g. absurd g }
 
   pub with-needed : (tried ls : List LiteralTree) (l : LiteralTree) → IsShortened is ds tried ls → (IsListed ls l → IsNeededIn is ds ls l) → IsShortened is ds (l ∷ tried) ls

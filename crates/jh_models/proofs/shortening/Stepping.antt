@@ -4,7 +4,7 @@ use Rattle.jh_form.specs.Tree.{FormulaTree}
 use Rattle.jh_closure.specs.structures.Literals.{LiteralTree, IsListed, AreListed}
 use Rattle.jh_models.specs.ground_models.Atoms.{opposite, IsGroundAtom}
 use Rattle.jh_models.specs.ground_models.Clashes.{Clash}
-use Rattle.jh_models.specs.ground_models.Explanations.{GoesOn, Closes, IsLeft, none}
+use Rattle.jh_models.specs.ground_models.Explanations.{GoesOn, ClosesBranch, IsLeft, none}
 use Rattle.jh_models.proofs.ground_models.Growing.{clash-more}
 use Rattle.jh_models.specs.shortening.Steps.{MayStand, GoFrom, AreSteps, IsMost}
 use Rattle.jh_models.specs.shortening.Shortened.{IsNeededIn}
@@ -26,7 +26,7 @@ module _ (is : List FormulaTree) (ds : List LiteralTree) where
   from-closes had [] h clash = subst (Clash is) (append-nil had) clash
   from-closes had (l ∷ ls) h clash = (h.0, h.1, from-closes (had ++ (l ∷ [])) ls h.2 (subst (Clash is) (sym (append_assoc had (l ∷ []) ls)) clash))
 
-  pub steps-close : (ls : List LiteralTree) → AreSteps is ds ls → Clash is ls → Closes is ds ls
+  pub steps-close : (ls : List LiteralTree) → AreSteps is ds ls → Clash is ls → ClosesBranch is ds ls
   steps-close ls h clash = from-closes [] ls h clash
 
   closes-from : (had ls : List LiteralTree) → GoesOn is ds had ls → GoFrom is ds had ls × Clash is (had ++ ls)
@@ -38,7 +38,7 @@ module _ (is : List FormulaTree) (ds : List LiteralTree) where
   from-atoms had (m ∷ ls) l h (inl e) = subst (λ (z : LiteralTree). IsGroundAtom is z.atom) e h.0
   from-atoms had (m ∷ ls) l h (inr g) = from-atoms (had ++ (m ∷ [])) ls l h.2 g
 
-  pub closed-atoms : (ls : List LiteralTree) (l : LiteralTree) → Closes is ds ls → IsListed ls l → IsGroundAtom is l.atom
+  pub closed-atoms : (ls : List LiteralTree) (l : LiteralTree) → ClosesBranch is ds ls → IsListed ls l → IsGroundAtom is l.atom
   closed-atoms ls l h g = from-atoms [] ls l h g
 
   may-more : (had more : List LiteralTree) (l : LiteralTree) → AreListed more had → MayStand is ds had l → MayStand is ds more l

@@ -11,8 +11,8 @@ abbrev pub GoesOn : List FormulaTree → List LiteralTree → List LiteralTree �
 GoesOn is decisions had [] = Clash is had
 GoesOn is decisions had (l ∷ ls) = IsGroundAtom is l.atom × (IsListed decisions l ⊎ Clash is (opposite l ∷ had)) × GoesOn is decisions (had ++ (l ∷ [])) ls
 
-abbrev pub Closes : List FormulaTree → List LiteralTree → List LiteralTree → Type 0
-Closes is decisions ls = GoesOn is decisions [] ls
+abbrev pub ClosesBranch : List FormulaTree → List LiteralTree → List LiteralTree → Type 0
+ClosesBranch is decisions ls = GoesOn is decisions [] ls
 
 -- what is left of a list where some of it is taken out, in its order
 pub data IsLeft : List LiteralTree → List LiteralTree → Type 0 where
@@ -23,5 +23,5 @@ pub data IsLeft : List LiteralTree → List LiteralTree → Type 0 where
 -- An explanation closes its branch; and where one of its decisions is taken out, with or without further literals of it, what
 -- is left doesn't.
 pub record IsExplanation (is : List FormulaTree) (decisions ls : List LiteralTree) : Type 0 where
-  pub closes : Closes is decisions ls
-  pub needs : (l : LiteralTree) → IsListed decisions l → IsListed ls l → (ks : List LiteralTree) → IsLeft ks ls → (IsListed ks l → ⊥) → Closes is decisions ks → ⊥
+  pub closes : ClosesBranch is decisions ls
+  pub needs : (l : LiteralTree) → IsListed decisions l → IsListed ls l → (ks : List LiteralTree) → IsLeft ks ls → (IsListed ks l → ⊥) → ClosesBranch is decisions ks → ⊥

@@ -9,7 +9,7 @@ use Rattle.jh_models.specs.ground_models.Budget.{IsSpent}
 use Rattle.jh_models.specs.ground_models.GroundModel.{IsGroundModel}
 use Rattle.jh_models.specs.ground_models.Clashes.{Clash, Propagated, AllPropagated, IsOpen}
 use Rattle.jh_models.specs.ground_models.Fixpoints.{IsFixed, IsFixpoint}
-use Rattle.jh_models.specs.ground_models.Explanations.{Closes}
+use Rattle.jh_models.specs.ground_models.Explanations.{ClosesBranch}
 use Rattle.jh_models.specs.ground_models.Making.{MakesAll}
 
 -- A structure that meets the literals of a list and makes the instances true meets what propagation adds.
@@ -33,7 +33,7 @@ ModelsHoldPropagated =
 -- No ground model holds the decisions of a branch that an explanation closes.
 abbrev pub ExplainedIsClosed : Type 0
 ExplainedIsClosed =
-    (is : List FormulaTree) (decisions explanation : List LiteralTree) → Closes is decisions explanation →
+    (is : List FormulaTree) (decisions explanation : List LiteralTree) → ClosesBranch is decisions explanation →
     (m : List LiteralTree) → IsGroundModel is m → AreListed m decisions → ⊥
 
 -- A budget that is spent is below 2 to the power of the number of ground atoms, whichever list has them all: of a search that

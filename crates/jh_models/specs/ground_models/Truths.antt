@@ -6,10 +6,10 @@ use Rattle.jh_closure.specs.structures.Literals.{LiteralTree, IsListed}
 use Rattle.jh_models.specs.ground_models.Atoms.{literal}
 
 -- a formula that is negated: it is false where what is negated is said to hold
-abbrev pub IsRefuted : List LiteralTree → FormulaTree → Type 0
-IsRefuted ls t.true_formula = Unit {0}
-IsRefuted ls t.false_formula = ⊥
-IsRefuted ls a = IsListed ls (literal a true)
+abbrev pub IsTrueBy : List LiteralTree → FormulaTree → Type 0
+IsTrueBy ls t.true_formula = Unit {0}
+IsTrueBy ls t.false_formula = ⊥
+IsTrueBy ls a = IsListed ls (literal a true)
 
 -- The literals make the instance false: both parts of an Or, or one part of an And.
 abbrev pub IsFalse : List LiteralTree → FormulaTree → Type 0
@@ -17,7 +17,7 @@ IsFalse ls t.true_formula = ⊥
 IsFalse ls t.false_formula = Unit {0}
 IsFalse ls (t.and a b) = IsFalse ls a ⊎ IsFalse ls b
 IsFalse ls (t.or a b) = IsFalse ls a × IsFalse ls b
-IsFalse ls (t.negation a) = IsRefuted ls a
+IsFalse ls (t.negation a) = IsTrueBy ls a
 IsFalse ls a = IsListed ls (literal a false)
 
 -- a formula that is negated: it is true where what is negated is said not to hold

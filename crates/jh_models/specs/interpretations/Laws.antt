@@ -4,7 +4,7 @@ use Rattle.std.specs.List.{list_all}
 use Rattle.jh_form.specs.Meaning.{Interp}
 use Rattle.jh_form.specs.Tree.{FormulaTree}
 use Rattle.jh_closure.specs.structures.Literals.{LiteralTree}
-use Rattle.jh_derivation_rules.specs.Closes.{AllHold, Clash}
+use Rattle.jh_derivation_rules.specs.Closes.{AllHold, AreUnsatisfiable}
 use Rattle.jh_models.specs.ground_models.GroundModel.{IsGroundModel}
 use Rattle.jh_models.specs.interpretations.Instances.{is_local_instance}
 
@@ -18,4 +18,4 @@ TruthGivesModel =
 abbrev pub NoModelGivesClash : Type 0
 NoModelGivesClash =
     (is : List FormulaTree) → list_all is_local_instance is ≡ true →
-    ((ls : List LiteralTree) → IsGroundModel is ls → ⊥) → Clash is
+    ((ls : List LiteralTree) → IsGroundModel is ls → ⊥) → AreUnsatisfiable is

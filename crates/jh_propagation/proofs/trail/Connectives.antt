@@ -5,7 +5,7 @@ use Rattle.jh_form.specs.Tree as t
 use Rattle.jh_closure.specs.structures.Literals.{LiteralTree, IsListed}
 use Rattle.jh_models.specs.ground_models.Atoms.{literal, opposite, atom_of, atoms_of, StandsIn}
 use Rattle.jh_models.specs.ground_models.GroundModel.{IsDecided}
-use Rattle.jh_models.specs.ground_models.Truths.{IsRefuted, IsFalse, IsDenied, IsTrue}
+use Rattle.jh_models.specs.ground_models.Truths.{IsTrueBy, IsFalse, IsDenied, IsTrue}
 
 pub stands-left : (xs ys : List FormulaTree) (a : FormulaTree) → StandsIn xs a → StandsIn (xs ++ ys) a
 stands-left [] ys a h = absurd h
@@ -26,7 +26,7 @@ module _ (ls ks : List LiteralTree) where
   abbrev pub Keeps : List FormulaTree → Type 0
   Keeps xs = (l : LiteralTree) → StandsIn xs l.atom → IsListed ls l → IsListed ks l
 
-  kept-refuted : (a : FormulaTree) → Keeps (atom_of a) → IsRefuted ls a → IsRefuted ks a
+  kept-refuted : (a : FormulaTree) → Keeps (atom_of a) → IsTrueBy ls a → IsTrueBy ks a
   kept-refuted t.true_formula h r = r
   kept-refuted t.false_formula h r = r
   kept-refuted a h r = h (literal a true) (inl refl) r
@@ -61,7 +61,7 @@ module _ (ls : List LiteralTree) (l : LiteralTree) where
   listed-or a k at (inl e) = inr (inl (sym (ap (λ (z : LiteralTree). z.atom) e ∙ at)))
   listed-or a k at (inr h) = inl h
 
-  refuted-or : (a : FormulaTree) → IsRefuted (opposite l ∷ ls) a → IsRefuted ls a ⊎ StandsIn (atom_of a) l.atom
+  refuted-or : (a : FormulaTree) → IsTrueBy (opposite l ∷ ls) a → IsTrueBy ls a ⊎ StandsIn (atom_of a) l.atom
   refuted-or t.true_formula r = inl r
   refuted-or t.false_formula r = inl r
   refuted-or a r = listed-or a (literal a true) refl r
@@ -80,7 +80,7 @@ module _ (ls : List LiteralTree) (l : LiteralTree) where
 
 -- where each atom is decided, the instance is false or true
 module _ (ls : List LiteralTree) where
-  settled-denied : (a : FormulaTree) → ((b : FormulaTree) → StandsIn (atom_of a) b → IsDecided ls b) → IsRefuted ls a ⊎ IsDenied ls a
+  settled-denied : (a : FormulaTree) → ((b : FormulaTree) → StandsIn (atom_of a) b → IsDecided ls b) → IsTrueBy ls a ⊎ IsDenied ls a
   settled-denied t.true_formula h = inl tt
   settled-denied t.false_formula h = inr tt
   settled-denied a h = h a (inl refl)

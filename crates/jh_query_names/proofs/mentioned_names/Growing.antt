@@ -8,7 +8,7 @@ use Rattle.jh_arena.proofs.table.Children.{it-is-truth}
 use Rattle.jh_arena.proofs.table.Listed.{slice_get-last, grows-append}
 use Rattle.jh_normal_forms.specs.parts.Collected.{IsCollected}
 use Rattle.jh_approx.specs.definition.Shown.{shown}
-use Rattle.jh_approx.specs.definition.Names.{names, once}
+use Rattle.jh_approx.specs.definition.Names.{names, without_repeats}
 use Rattle.jh_query_names.specs.declared.visible_part.memo.Signed.{Signed}
 use Rattle.jh_query_names.specs.declared.visible_part.memo.Made.{Made}
 use Rattle.jh_query_names.specs.visible_part.Memos.{found as found_shown}
@@ -62,7 +62,7 @@ module _ (ts us : List ValueTree) (g : Grows ts us) where
   pub note-grows : (a : FormulaTree) (note : Note) → IsNote ts a note → IsNote us a note
   note-grows a note h = record {
     said = g.keeps note.shown (of_truth (shown a false)) h.said;
-    called = trees-grow ts us g note.names (once (names (shown a false))) h.called;
+    called = trees-grow ts us g note.names (without_repeats (names (shown a false))) h.called;
     speaks_of = collected-grows _ note.free h.speaks_of;
   }
 

@@ -11,7 +11,7 @@ use Rattle.jh_boxed_operations.proofs.comparison.Equalities.{equal_trees-true, e
 use Rattle.jh_arena.specs.table.Entries.{the_value}
 use Rattle.jh_arena.specs.table.Growth.{AreDifferent}
 use Rattle.indexmap.specs.IndexSet.{insert_key, insert_all}
-use Rattle.jh_approx.specs.definition.Names.{once}
+use Rattle.jh_approx.specs.definition.Names.{without_repeats}
 use Rattle.jh_query_names.specs.query_names.Gathered.{has_name, with_name, with_names}
 use Rattle.jh_query_names.specs.query_names.Kinds.{value_at}
 use Rattle.jh_query_names.specs.query_names.Finding.{values_at, AreBelow}
@@ -114,20 +114,20 @@ filter-again : (p : ValueTree → Bool) (vs : List ValueTree) → filter p (filt
 filter-again p [] = refl
 filter-again p (v ∷ vs) = filter-chosen p (p v) v (filter p vs) refl (filter-again p vs)
 
-once-again : (vs : List ValueTree) → once (once vs) ≡ once vs
-unfolding once
+once-again : (vs : List ValueTree) → without_repeats (without_repeats vs) ≡ without_repeats vs
+unfolding without_repeats
 once-again [] = refl
 once-again (v ∷ vs) =
-    ap (λ ws. v ∷ filter (λ w. not (equal_trees v w)) ws) (once-filter (λ w. not (equal_trees v w)) (once vs))
-    ∙ ap (λ ws. v ∷ ws) (filter-again (λ w. not (equal_trees v w)) (once (once vs)) ∙ ap (filter (λ w. not (equal_trees v w))) (once-again vs))
+    ap (λ ws. v ∷ filter (λ w. not (equal_trees v w)) ws) (once-filter (λ w. not (equal_trees v w)) (without_repeats vs))
+    ∙ ap (λ ws. v ∷ ws) (filter-again (λ w. not (equal_trees v w)) (without_repeats (without_repeats vs)) ∙ ap (filter (λ w. not (equal_trees v w))) (once-again vs))
 
 -- The nodes of a sort among those of names that were gathered from none: each name of the sort once.
 pub values-of-sort : (ts : List ValueTree) (sort : Sort) (ns : List ℕ) (vs : List ValueTree) → AreDifferent ts → AreBelow (length ts) ns → values_at ts ns ≡ with_names [] vs →
-    values_at ts (insert_all nat_eq [] (of_sort ts sort ns)) ≡ once (filter (sorted_as sort) vs)
+    values_at ts (insert_all nat_eq [] (of_sort ts sort ns)) ≡ without_repeats (filter (sorted_as sort) vs)
 values-of-sort ts sort ns vs different h e =
     values-all ts different [] (of_sort ts sort ns) tt (below-sort (length ts) ts sort ns h)
     ∙ with-once (values_at ts (of_sort ts sort ns))
-    ∙ ap once (values-sort ts sort ns ∙ ap (filter (sorted_as sort)) (e ∙ with-once vs))
-    ∙ once-filter (sorted_as sort) (once vs)
+    ∙ ap without_repeats (values-sort ts sort ns ∙ ap (filter (sorted_as sort)) (e ∙ with-once vs))
+    ∙ once-filter (sorted_as sort) (without_repeats vs)
     ∙ ap (filter (sorted_as sort)) (once-again vs)
     ∙ sym (once-filter (sorted_as sort) vs)

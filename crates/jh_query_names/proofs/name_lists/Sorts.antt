@@ -8,7 +8,7 @@ use Rattle.jh_form.specs.Tree.{ValueTree, of_object, of_number, of_truth, of_set
 use Rattle.jh_form.specs.Tree as t
 use Rattle.jh_arena.specs.table.Growth.{AreDifferent}
 use Rattle.indexmap.specs.IndexSet.{insert_all}
-use Rattle.jh_approx.specs.definition.Names.{once, listed, is_set_name, is_element, is_number_name, is_flag}
+use Rattle.jh_approx.specs.definition.Names.{without_repeats, listed, is_set_name, is_element, is_number_name, is_flag}
 use Rattle.jh_query_names.specs.query_names.Gathered.{with_names}
 use Rattle.jh_query_names.specs.query_names.Finding.{values_at, AreBelow}
 use Rattle.jh_query_names.specs.declared.name_lists.listed.Listed.{Listed}
@@ -88,17 +88,17 @@ sorted-lists ts ns old new a b c d e f g h = record {
 }
 
 module _ (ts : List ValueTree) (ns : List ℕ) (vs : List ValueTree) (l : Listed) (different : AreDifferent ts) (inside : AreBelow (length ts) ns) (e : values_at ts ns ≡ with_names [] (of_object t.null ∷ vs)) (sorts : Sorts ts ns l) where
-  sets-are : values_at ts l.sets.keys ≡ once (filter is_set_name vs)
-  sets-are = ap (values_at ts) sorts.sets ∙ values-of-sort ts sort.Set ns (of_object t.null ∷ vs) different inside e ∙ ap once (filter-same (sorted_as sort.Set) is_set_name set-sort (of_object t.null ∷ vs) ∙ null-set vs)
+  sets-are : values_at ts l.sets.keys ≡ without_repeats (filter is_set_name vs)
+  sets-are = ap (values_at ts) sorts.sets ∙ values-of-sort ts sort.Set ns (of_object t.null ∷ vs) different inside e ∙ ap without_repeats (filter-same (sorted_as sort.Set) is_set_name set-sort (of_object t.null ∷ vs) ∙ null-set vs)
 
-  elements-are : values_at ts l.elements.keys ≡ once (of_object t.null ∷ filter is_element vs)
-  elements-are = ap (values_at ts) sorts.elements ∙ values-of-sort ts sort.Obj ns (of_object t.null ∷ vs) different inside e ∙ ap once (filter-same (sorted_as sort.Obj) is_element object-sort (of_object t.null ∷ vs) ∙ null-element vs)
+  elements-are : values_at ts l.elements.keys ≡ without_repeats (of_object t.null ∷ filter is_element vs)
+  elements-are = ap (values_at ts) sorts.elements ∙ values-of-sort ts sort.Obj ns (of_object t.null ∷ vs) different inside e ∙ ap without_repeats (filter-same (sorted_as sort.Obj) is_element object-sort (of_object t.null ∷ vs) ∙ null-element vs)
 
-  numbers-are : values_at ts l.numbers.keys ≡ once (filter is_number_name vs)
-  numbers-are = ap (values_at ts) sorts.numbers ∙ values-of-sort ts sort.Int ns (of_object t.null ∷ vs) different inside e ∙ ap once (filter-same (sorted_as sort.Int) is_number_name number-sort (of_object t.null ∷ vs) ∙ null-number vs)
+  numbers-are : values_at ts l.numbers.keys ≡ without_repeats (filter is_number_name vs)
+  numbers-are = ap (values_at ts) sorts.numbers ∙ values-of-sort ts sort.Int ns (of_object t.null ∷ vs) different inside e ∙ ap without_repeats (filter-same (sorted_as sort.Int) is_number_name number-sort (of_object t.null ∷ vs) ∙ null-number vs)
 
-  flags-are : values_at ts l.flags.keys ≡ once (filter is_flag vs)
-  flags-are = ap (values_at ts) sorts.flags ∙ values-of-sort ts sort.Bool ns (of_object t.null ∷ vs) different inside e ∙ ap once (filter-same (sorted_as sort.Bool) is_flag flag-sort (of_object t.null ∷ vs) ∙ null-flag vs)
+  flags-are : values_at ts l.flags.keys ≡ without_repeats (filter is_flag vs)
+  flags-are = ap (values_at ts) sorts.flags ∙ values-of-sort ts sort.Bool ns (of_object t.null ∷ vs) different inside e ∙ ap without_repeats (filter-same (sorted_as sort.Bool) is_flag flag-sort (of_object t.null ∷ vs) ∙ null-flag vs)
 
   pub lists-are : lists_of ts l ≡ listed vs
   unfolding listed

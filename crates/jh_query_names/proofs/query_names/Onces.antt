@@ -5,7 +5,7 @@ use Rattle.std.proofs.lemmas.Bool.{true≢false}
 use Rattle.jh_form.specs.Tree.{ValueTree}
 use Rattle.jh_boxed_operations.specs.comparison.Exchanged.{equal_trees}
 use Rattle.jh_boxed_operations.proofs.comparison.Equalities.{equal_trees-true, equal_trees-same}
-use Rattle.jh_approx.specs.definition.Names.{once}
+use Rattle.jh_approx.specs.definition.Names.{without_repeats}
 use Rattle.jh_query_names.specs.query_names.Gathered.{has_name, with_name, with_names}
 
 sure : (b : Bool) → (b ≡ true) ⊎ (b ≡ false)
@@ -127,38 +127,38 @@ one-more known v w = apart (equal_trees v w) (has_name known w) ∙ ap not (sym 
 
 -- one step of `with-new`
 chosen-new : (b : Bool) (known : List ValueTree) (v : ValueTree) (vs : List ValueTree) → has_name known v ≡ b →
-    ((xs : List ValueTree) → with_names xs vs ≡ xs ++ filter (λ w. not (has_name xs w)) (once vs)) →
-    with_names (if b then known else known ++ v ∷ []) vs ≡ known ++ (if not b then v ∷ filter (λ w. not (equal_trees v w) && not (has_name known w)) (once vs) else filter (λ w. not (equal_trees v w) && not (has_name known w)) (once vs))
-chosen-new true known v vs e rest = rest known ∙ ap (λ ys. known ++ ys) (sym (filter-same (λ w. not (equal_trees v w) && not (has_name known w)) (λ w. not (has_name known w)) (without (λ w. not (has_name known w)) v (ap not e)) (once vs)))
+    ((xs : List ValueTree) → with_names xs vs ≡ xs ++ filter (λ w. not (has_name xs w)) (without_repeats vs)) →
+    with_names (if b then known else known ++ v ∷ []) vs ≡ known ++ (if not b then v ∷ filter (λ w. not (equal_trees v w) && not (has_name known w)) (without_repeats vs) else filter (λ w. not (equal_trees v w) && not (has_name known w)) (without_repeats vs))
+chosen-new true known v vs e rest = rest known ∙ ap (λ ys. known ++ ys) (sym (filter-same (λ w. not (equal_trees v w) && not (has_name known w)) (λ w. not (has_name known w)) (without (λ w. not (has_name known w)) v (ap not e)) (without_repeats vs)))
 chosen-new false known v vs e rest =
     rest (known ++ v ∷ [])
-    ∙ append_assoc known (v ∷ []) (filter (λ w. not (has_name (known ++ v ∷ []) w)) (once vs))
-    ∙ ap (λ ys. known ++ v ∷ ys) (sym (filter-same (λ w. not (equal_trees v w) && not (has_name known w)) (λ w. not (has_name (known ++ v ∷ []) w)) (one-more known v) (once vs)))
+    ∙ append_assoc known (v ∷ []) (filter (λ w. not (has_name (known ++ v ∷ []) w)) (without_repeats vs))
+    ∙ ap (λ ys. known ++ v ∷ ys) (sym (filter-same (λ w. not (equal_trees v w) && not (has_name known w)) (λ w. not (has_name (known ++ v ∷ []) w)) (one-more known v) (without_repeats vs)))
 
 -- what is added is what is new, each once
-with-new : (vs known : List ValueTree) → with_names known vs ≡ known ++ filter (λ w. not (has_name known w)) (once vs)
-unfolding once
+with-new : (vs known : List ValueTree) → with_names known vs ≡ known ++ filter (λ w. not (has_name known w)) (without_repeats vs)
+unfolding without_repeats
 with-new [] known = sym (append-nil known)
 with-new (v ∷ vs) known =
     chosen-new (has_name known v) known v vs refl (with-new vs)
-    ∙ ap (λ ys. known ++ (if not (has_name known v) then v ∷ ys else ys)) (sym (filter-twice (λ w. not (has_name known w)) (λ w. not (equal_trees v w)) (once vs)))
+    ∙ ap (λ ys. known ++ (if not (has_name known v) then v ∷ ys else ys)) (sym (filter-twice (λ w. not (has_name known w)) (λ w. not (equal_trees v w)) (without_repeats vs)))
 
 -- names that are gathered from none are each once
-pub with-once : (vs : List ValueTree) → with_names [] vs ≡ once vs
-with-once vs = with-new vs [] ∙ filter-all (once vs)
+pub with-once : (vs : List ValueTree) → with_names [] vs ≡ without_repeats vs
+with-once vs = with-new vs [] ∙ filter-all (without_repeats vs)
 
 -- ---- each once, of one sort
 
-chosen-once : (p : ValueTree → Bool) (b : Bool) (v : ValueTree) (vs : List ValueTree) → p v ≡ b → once (filter p vs) ≡ filter p (once vs) →
-    once (if b then v ∷ filter p vs else filter p vs) ≡ (if b then v ∷ filter p (filter (λ w. not (equal_trees v w)) (once vs)) else filter p (filter (λ w. not (equal_trees v w)) (once vs)))
-unfolding once
+chosen-once : (p : ValueTree → Bool) (b : Bool) (v : ValueTree) (vs : List ValueTree) → p v ≡ b → without_repeats (filter p vs) ≡ filter p (without_repeats vs) →
+    without_repeats (if b then v ∷ filter p vs else filter p vs) ≡ (if b then v ∷ filter p (filter (λ w. not (equal_trees v w)) (without_repeats vs)) else filter p (filter (λ w. not (equal_trees v w)) (without_repeats vs)))
+unfolding without_repeats
 chosen-once p true v vs e rest =
     ap (λ ys. v ∷ filter (λ w. not (equal_trees v w)) ys) rest
-    ∙ ap (λ ys. v ∷ ys) (filter-twice (λ w. not (equal_trees v w)) p (once vs) ∙ filter-same (λ w. p w && not (equal_trees v w)) (λ w. not (equal_trees v w) && p w) (λ w. swapped (p w) (not (equal_trees v w))) (once vs) ∙ sym (filter-twice p (λ w. not (equal_trees v w)) (once vs)))
-chosen-once p false v vs e rest = rest ∙ sym (filter-twice p (λ w. not (equal_trees v w)) (once vs) ∙ filter-same (λ w. not (equal_trees v w) && p w) p (without p v e) (once vs))
+    ∙ ap (λ ys. v ∷ ys) (filter-twice (λ w. not (equal_trees v w)) p (without_repeats vs) ∙ filter-same (λ w. p w && not (equal_trees v w)) (λ w. not (equal_trees v w) && p w) (λ w. swapped (p w) (not (equal_trees v w))) (without_repeats vs) ∙ sym (filter-twice p (λ w. not (equal_trees v w)) (without_repeats vs)))
+chosen-once p false v vs e rest = rest ∙ sym (filter-twice p (λ w. not (equal_trees v w)) (without_repeats vs) ∙ filter-same (λ w. not (equal_trees v w) && p w) p (without p v e) (without_repeats vs))
 
 -- the names of a sort, each once
-pub once-filter : (p : ValueTree → Bool) (vs : List ValueTree) → once (filter p vs) ≡ filter p (once vs)
-unfolding once
+pub once-filter : (p : ValueTree → Bool) (vs : List ValueTree) → without_repeats (filter p vs) ≡ filter p (without_repeats vs)
+unfolding without_repeats
 once-filter p [] = refl
 once-filter p (v ∷ vs) = chosen-once p (p v) v vs refl (once-filter p vs)

@@ -7,7 +7,7 @@ use Rattle.jh_normal_forms.specs.parts.Collected.{IsCollected}
 use Rattle.jh_normal_forms.specs.parts.Standing.{value_parts}
 use Rattle.jh_normal_forms.specs.declared.parts.order.Order.TheVariants as order
 use Rattle.jh_approx.specs.definition.Shown.{shown}
-use Rattle.jh_approx.specs.definition.Names.{names, once}
+use Rattle.jh_approx.specs.definition.Names.{names, without_repeats}
 use Rattle.jh_query_names.specs.visible_part.Memos.{found as found_shown}
 use Rattle.jh_query_names.specs.visible_part.Showing.{HoldsShown}
 use Rattle.jh_query_names.specs.declared.mentioned_names.memo.Note.{Note}
@@ -30,7 +30,7 @@ AreFree ts v ns = IsCollected ts [] (filter is_free_name (value_parts v order.Ou
 -- of the names of that, each once where it stands first, and the nodes of the free names of the formula.
 pub record IsNote (ts : List ValueTree) (a : FormulaTree) (note : Note) : Type 0 where
   pub said : slice_get ts note.shown ≡ Some (of_truth (shown a false))
-  pub called : AreTrees ts note.names (once (names (shown a false)))
+  pub called : AreTrees ts note.names (without_repeats (names (shown a false)))
   pub speaks_of : AreFree ts (of_truth a) note.free
 
 -- a note is right for the formula at a node

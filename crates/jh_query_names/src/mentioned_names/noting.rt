@@ -4,7 +4,7 @@ ghost use Rattle.jh_arena.specs.table.Entries.{is_truth, the_truth, the_value};
 ghost use Rattle.jh_arena.specs.table.Growth.{Grows, Extends};
 ghost use Rattle.jh_arena.specs.table.Nodes.{nodes};
 ghost use Rattle.jh_approx.specs.definition.Shown.{shown};
-ghost use Rattle.jh_approx.specs.definition.Names.{once};
+ghost use Rattle.jh_approx.specs.definition.Names.{without_repeats};
 ghost use Rattle.jh_query_names.specs.query_names.Gathered.{value_names};
 ghost use Rattle.jh_query_names.specs.visible_part.Memos.{found as found_shown};
 ghost use Rattle.jh_query_names.specs.visible_part.Showing.{HoldsShown};
@@ -30,7 +30,7 @@ fn row_of(alloc: Global, items: &[usize]) -> Result<Row<usize>, NoMemory>
 /// The nodes of the names that a query has for the parts of a value, each once, where it stands first.
 pub fn names_of(alloc: Global, table: &Table, node: usize) -> Result<Row<usize>, NoMemory>
     requires { node < length (nodes table.now) }
-    ensures { IfOk result (λ made. AreTrees (nodes table.now) made (once (value_names (the_value (slice_get (nodes table.now) node))))) }
+    ensures { IfOk result (λ made. AreTrees (nodes table.now) made (without_repeats (value_names (the_value (slice_get (nodes table.now) node))))) }
 {
     let mut found = Found::new(alloc);
     gather(table, &mut found, node)?;

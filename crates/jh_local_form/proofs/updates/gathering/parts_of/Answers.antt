@@ -5,7 +5,7 @@ use Rattle.jh_form.specs.Tree.{ValueTree, of_truth}
 use Rattle.jh_arena.specs.table.Nodes.{nodes}
 use Rattle.jh_normal_forms.specs.parts.Collected.{IsCollected, all_parts}
 use Rattle.jh_normal_forms.specs.declared.parts.order.Order.TheVariants as order
-use Rattle.jh_approx.specs.definition.Names.{once}
+use Rattle.jh_approx.specs.definition.Names.{without_repeats}
 use Rattle.jh_reach.proofs.Standings.{formula-of}
 use Rattle.jh_local_form.specs.updates.Updating.{AreValues}
 use Rattle.jh_local_form.proofs.updates.Collecting.{collected-once, parts-facts, collected-none, collected-step, collected-whole}
@@ -29,6 +29,6 @@ returns g c = record {
       let ts = nodes c.args.table.now in
       let q = g.T.PartTest.test c.args.test.now in
       let whole : IsCollected ts [] (filter q (all_parts order.InnerFirst ts c.args.formulas.now)) c.loop-place.list = collected-whole q order.InnerFirst ts c.args.formulas.now [] c.loop-place.list c.loop-place.place c.loop-place.invariant (search arith) in
-      subst (λ (ws : List ValueTree). AreValues ts c.loop-place.list (once (filter q ws))) (parts-facts c.args.table.now c.args.formulas.now facts are)
+      subst (λ (ws : List ValueTree). AreValues ts c.loop-place.list (without_repeats (filter q ws))) (parts-facts c.args.table.now c.args.formulas.now facts are)
       (collected-once ts c.nodes_differ.ensures.different c.loop-place.list [] (filter q (all_parts order.InnerFirst ts c.args.formulas.now)) refl whole);
 }
