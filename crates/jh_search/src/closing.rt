@@ -7,8 +7,8 @@ ghost use Rattle.jh_explanations.specs.declared.step.Step.{Step};
 ghost use Rattle.jh_search.specs.Explained.{IsExplainedBy};
 ghost use Rattle.jh_search.specs.Searches.{IsAtLeaf, IsGoingBack, IsKept};
 
-use crate::deciding::bump;
 use crate::turn::{ClosedBranch, Searching};
+use crate::weights::Weights;
 use jh_explanations::{Step, explain, shortened};
 use jh_models::backjumping::search_goes_on;
 use jh_name::NoMemory;
@@ -16,11 +16,12 @@ use jh_propagation::propagation::{Cause, Problem};
 use jh_propagation::trail::{Decided, Trail};
 use std::alloc::Global;
 
-/// Adds one to the weights of the atoms of an explanation.
-fn bump_all(weights: &mut Vec<u64>, steps: &[Step]) {
+/// The atoms of an explanation stand in one more.
+fn bump_all(weights: &mut Weights, steps: &[Step]) -> Result<(), NoMemory> {
     for step in steps {
-        bump(weights, step.literal.atom);
+        weights.bump(step.literal.atom)?;
     }
+    Ok(())
 }
 
 /// A list of decisions once more.
@@ -87,7 +88,7 @@ fn explained(
     ensures kept { OnOk result (IsKept searching.old.branch searching.new.branch) }
 {
     let steps = explain(problem, &mut searching.branch, cause)?;
-    bump_all(&mut searching.weights, steps.as_slice());
+    bump_all(&mut searching.weights, steps.as_slice())?;
     let decisions = copied(
         searching.branch.classes.table().alloc(),
         searching.branch.decisions.as_slice(),

@@ -3,35 +3,21 @@ ghost use Rattle.jh_closure.specs.congruence_closure.Nodes.{Has};
 ghost use Rattle.jh_propagation.specs.trail.Listing.{IsUndecided};
 ghost use Rattle.jh_propagation.specs.propagation.Branches.{IsBranch, IsSaid};
 
+use crate::weights::Weights;
 use jh_name::NoMemory;
 use jh_propagation::propagation::{Branch, Problem};
 use jh_propagation::trail::{Decided, is_true};
 
-/// The weight of an atom.
-fn weight_of(weights: &Vec<u64>, atom: usize) -> u64 {
-    match weights.get(atom) {
-        Some(weight) => *weight,
-        None => 0,
-    }
-}
-
-/// Adds one to the weight of an atom.
-pub(crate) fn bump(weights: &mut Vec<u64>, atom: usize) {
-    if let Some(weight) = weights.get_mut(atom) {
-        *weight = weight.saturating_add(1);
-    }
-}
-
-/// Whether an atom is heavier than the best so far. Of two that are as heavy the earlier one stays.
-fn is_heavier(weights: &Vec<u64>, atom: usize, best: Option<usize>) -> bool {
+/// Whether an atom is heavier than the best so far.
+fn is_heavier(weights: &Weights, atom: usize, best: Option<usize>) -> bool {
     match best {
-        Some(other) => weight_of(weights, atom) > weight_of(weights, other),
+        Some(other) => weights.is_heavier(atom, other),
         None => true,
     }
 }
 
 /// The place at a number of a list.
-fn place_at(places: &[usize], index: usize) -> usize
+pub(crate) fn place_at(places: &[usize], index: usize) -> usize
     requires { index < length places.now }
     ensures { slice_get places.now index ≡ Some result }
 {
@@ -65,7 +51,7 @@ fn is_wanted(problem: &Problem, branch: &Branch, atom: usize) -> Result<bool, No
 fn better(
     problem: &Problem,
     branch: &Branch,
-    weights: &Vec<u64>,
+    weights: &Weights,
     best: Option<usize>,
     atom: usize,
 ) -> Result<Option<usize>, NoMemory>
@@ -109,38 +95,85 @@ fn first_choice(problem: &Problem, branch: &Branch, start: usize) -> Result<usiz
     Ok(atoms.len())
 }
 
-/// The atom to decide next, from an index on: the heaviest of those that aren't decided and stand in an instance that isn't true yet.
+/// The atom at an index, where there are so many.
+fn atom_at(atoms: &[usize], index: usize) -> Option<usize>
+    ensures { result ≡ slice_get atoms.now index }
+{
+    atoms.get(index).copied()
+}
+
+/// The better of the best atom so far and the one at an index, where there are so many.
+fn better_at(
+    problem: &Problem,
+    branch: &Branch,
+    weights: &Weights,
+    best: Option<usize>,
+    index: usize,
+) -> Result<Option<usize>, NoMemory>
+    requires branch { IsBranch problem.now [] branch.now }
+    requires best { IfSome best (λ k. Has problem.now.ground.atoms k × IsUndecided branch.now.trail k) }
+    ensures { IfOk result (λ found. IfSome found (λ k. Has problem.now.ground.atoms k × IsUndecided branch.now.trail k)) }
+{
+    match atom_at(problem.ground.atoms(), index) {
+        Some(atom) => better(problem, branch, weights, best, atom),
+        None => Ok(best),
+    }
+}
+
+/// The heaviest of the atoms that stood in an explanation, aren't decided and stand in an instance that isn't true yet.
 fn heaviest(
     problem: &Problem,
     branch: &Branch,
-    weights: &Vec<u64>,
-    start: usize,
+    weights: &Weights,
 ) -> Result<Option<usize>, NoMemory>
     requires branch { IsBranch problem.now [] branch.now }
     ensures { IfOk result (λ found. IfSome found (λ k. Has problem.now.ground.atoms k × IsUndecided branch.now.trail k)) }
 {
-    let atoms = problem.ground.atoms();
+    let heavy = weights.heavy();
     let mut best = None;
-    for index in start..atoms.len() {
-        best = better(problem, branch, weights, best, place_at(atoms, index))?;
+    for place in 0..heavy.len() {
+        best = better_at(problem, branch, weights, best, place_at(heavy, place))?;
     }
     Ok(best)
 }
 
-/// The atom to decide next: the heaviest of those that aren't decided and stand in an instance that isn't true yet. Beside the answer
-/// stands the index of the first such atom: while literals are put to the trail and none is taken off, no earlier one becomes one.
+/// The atom to decide next: the heaviest of those that aren't decided and stand in an instance that isn't true yet. While literals are
+/// put to the trail and none is taken off, no earlier atom becomes one: so those that stood in no explanation are looked at from where
+/// an earlier decision of the path found the first of them.
 pub(crate) fn choose(
     problem: &Problem,
     branch: &Branch,
-    weights: &Vec<u64>,
-    start: &mut usize,
+    weights: &mut Weights,
 ) -> Result<Option<usize>, NoMemory>
     requires branch { IsBranch problem.now [] branch.now }
     ensures { IfOk result (λ found. IfSome found (λ k. Has problem.now.ground.atoms k × IsUndecided branch.now.trail k)) }
 {
-    let first = first_choice(problem, branch, *start)?;
-    *start = first;
-    heaviest(problem, branch, weights, first)
+    let start = weights.start(branch);
+    if let Some(atom) = heaviest(problem, branch, weights)? {
+        weights.note(start)?;
+        return Ok(Some(atom));
+    }
+    let first = first_choice(problem, branch, start)?;
+    weights.note(first)?;
+    better_at(problem, branch, weights, None, first)
+}
+
+/// The first atom, from an index on, that isn't decided. The index goes there.
+fn next_undecided(problem: &Problem, branch: &Branch, start: &mut usize) -> Option<usize>
+    ensures { IfSome result (λ k. Has problem.now.ground.atoms k × IsUndecided branch.now.trail k) }
+{
+    let atoms = problem.ground.atoms();
+    for index in *start..atoms.len() {
+        let atom = place_at(atoms, index);
+        match branch.trail.said(atom) {
+            Some(_holds) => {}
+            None => {
+                *start = index;
+                return Some(atom);
+            }
+        }
+    }
+    None
 }
 
 /// The first atom that isn't decided.
@@ -157,6 +190,18 @@ pub(crate) fn first_undecided(problem: &Problem, branch: &Branch) -> Option<usiz
         }
     }
     None
+}
+
+/// An atom that isn't decided, where there is one. Those before the index are asked last: they are decided, unless literals were taken
+/// off since the index went there.
+pub(crate) fn any_undecided(problem: &Problem, branch: &Branch, start: &mut usize) -> Option<usize>
+    ensures some { IfSome result (λ k. Has problem.now.ground.atoms k × IsUndecided branch.now.trail k) }
+    ensures none { IfNone result ((k : ℕ) → Has problem.now.ground.atoms k → IsSaid branch.now.trail k) }
+{
+    match next_undecided(problem, branch, start) {
+        Some(atom) => Some(atom),
+        None => first_undecided(problem, branch),
+    }
 }
 
 /// The decision on an atom: that it doesn't hold.

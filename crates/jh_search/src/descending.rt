@@ -10,28 +10,28 @@ ghost use Rattle.jh_propagation.specs.propagation.Problems.{instances_in};
 ghost use Rattle.jh_propagation.specs.propagation.Resting.{IsAtRest};
 ghost use Rattle.jh_search.specs.Searches.{IsAtLeaf, IsSearching};
 
-use crate::deciding::{choose, denied, first_undecided};
+use crate::deciding::{any_undecided, choose, denied};
 use crate::turn::{Searching, Turn};
+use crate::weights::Weights;
 use jh_models::backjumping::search_goes_on;
 use jh_models::ground_models::{fixpoint_is_open, whole_fixpoint_is_model};
 use jh_name::NoMemory;
 use jh_propagation::propagation::{Branch, Cause, Problem, decide, propagate_on};
 
-/// The atom to decide next, where one isn't decided. No atom before the index stands in an instance that isn't true yet, unless it is
-/// decided.
+/// The atom to decide next, where one isn't decided. Each atom before the index is decided.
 fn next_atom(
     problem: &Problem,
     branch: &Branch,
-    weights: &Vec<u64>,
+    weights: &mut Weights,
     start: &mut usize,
 ) -> Result<Option<usize>, NoMemory>
     requires branch { IsBranch problem.now [] branch.now }
     ensures some { IfOk result (λ found. IfSome found (λ k. Has problem.now.ground.atoms k × IsUndecided branch.now.trail k)) }
     ensures none { IfOk result (λ found. IfNone found ((k : ℕ) → Has problem.now.ground.atoms k → IsSaid branch.now.trail k)) }
 {
-    match choose(problem, branch, weights, start)? {
+    match choose(problem, branch, weights)? {
         Some(atom) => Ok(Some(atom)),
-        None => Ok(first_undecided(problem, branch)),
+        None => Ok(any_undecided(problem, branch, start)),
     }
 }
 
@@ -82,7 +82,12 @@ pub(crate) fn descend(
         if let Some(cause) = propagate_on(problem, &mut searching.branch, rested)? {
             return Ok(Some(cause));
         }
-        match next_atom(problem, &searching.branch, &searching.weights, &mut start)? {
+        match next_atom(
+            problem,
+            &searching.branch,
+            &mut searching.weights,
+            &mut start,
+        )? {
             Some(atom) => take(problem, searching, atom)?,
             None => return Ok(None),
         }

@@ -10,6 +10,8 @@ mod descending;
 mod returning;
 mod searching;
 mod turn;
+mod weights;
 
 pub use searching::{search, start_search};
 pub use turn::{ClosedBranch, Found, Retreat, Searching, Turn};
+pub use weights::Weights;

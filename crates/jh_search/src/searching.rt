@@ -11,12 +11,12 @@ use crate::closing::close;
 use crate::descending::descend;
 use crate::returning::go_back;
 use crate::turn::{Found, Retreat, Searching, Turn};
+use crate::weights::Weights;
 use jh_cong::classes::Classes;
 use jh_models::backjumping::search_goes_on;
 use jh_name::NoMemory;
 use jh_propagation::propagation::{Cause, Problem, begin, cut, decide};
 use jh_propagation::trail::Decided;
-use std::alloc::Global;
 
 /// The turn at a place.
 fn turn_at(path: &[Turn], place: usize) -> &Turn
@@ -43,15 +43,6 @@ fn resume(problem: &Problem, searching: &mut Searching) -> Result<(), NoMemory>
     decide(problem, &mut searching.branch, literal)
 }
 
-/// So many weights of nothing.
-fn no_weights(alloc: Global, count: usize) -> Result<Vec<u64>, NoMemory> {
-    let mut weights = Vec::new(alloc);
-    for _place in 0..count {
-        weights.push(0)?;
-    }
-    Ok(weights)
-}
-
 /// A search that begins, in which nothing is decided yet.
 pub fn start_search(problem: &Problem, classes: Classes) -> Result<Searching, NoMemory>
     requires problem { IsProblem (nodes classes.table) problem.now }
@@ -63,7 +54,7 @@ pub fn start_search(problem: &Problem, classes: Classes) -> Result<Searching, No
 {
     search_goes_on();
     let alloc = classes.table().alloc();
-    let weights = no_weights(alloc, problem.table.len())?;
+    let weights = Weights::none(alloc, problem)?;
     Ok(Searching {
         branch: begin(problem, classes)?,
         path: Vec::new(alloc),

@@ -1,3 +1,4 @@
+use crate::weights::Weights;
 use jh_propagation::propagation::Branch;
 use jh_propagation::trail::Decided;
 
@@ -24,7 +25,7 @@ pub struct Searching {
     pub branch: Branch,
     pub path: Vec<Turn>,
     pub closed: Vec<ClosedBranch>,
-    pub weights: Vec<u64>,
+    pub weights: Weights,
 }
 
 /// What a closed branch leads back to: nothing is left; a decision is turned round; or the budget is spent.

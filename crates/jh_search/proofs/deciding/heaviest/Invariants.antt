@@ -3,5 +3,5 @@ use Rattle.jh_closure.specs.congruence_closure.Nodes.{Has}
 use Rattle.jh_propagation.specs.trail.Listing.{IsUndecided}
 use Rattle.jh_search.proofs.deciding.heaviest.Given as goal
 
-abbrev pub invariant-loop-index : goal.invariant-loop-index
-invariant-loop-index l = IfSome l.best (λ k. Has l.problem.ground.atoms k × IsUndecided l.branch.trail k)
+abbrev pub invariant-loop-place : goal.invariant-loop-place
+invariant-loop-place l = IfSome l.best (λ k. Has l.problem.ground.atoms k × IsUndecided l.branch.trail k)
