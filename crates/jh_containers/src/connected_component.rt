@@ -1,5 +1,6 @@
 //! What is reached from some numbers along rows that share one.
 
+mod index;
 mod reaching;
 
 pub use reaching::{Known, reach, shares};

@@ -1,8 +1,8 @@
 -- Rows that are gone over.
-use Rattle.std.proofs.Common.{◌≡◌, refl, sym, ap, subst, ◌∙◌, ℕ, ◌≤◌, Bool, true, false, ◌||◌, if◌then◌else◌, nat_eq, List, [], ◌∷◌, ◌++◌, length, length-append, arith, ◌⊎◌, inl, inr}
+use Rattle.std.proofs.Common.{◌≡◌, refl, sym, ap, subst, ◌∙◌, ℕ, ◌≤◌, Bool, true, false, ◌||◌, if◌then◌else◌, nat_eq, List, [], ◌∷◌, ◌++◌, length, length-append, arith, ◌⊎◌, inl, inr, zero, suc, slice_get, Some}
 use Rattle.std.proofs.lemmas.Bool.{true≢false, eqb-true, eq-eqb}
 use Rattle.indexmap.specs.IndexSet.{insert_key}
-use Rattle.jh_containers.specs.connected_component.Reaching.{has, shares, with_row, passed, IsRow, Reached, IsReach}
+use Rattle.jh_containers.specs.connected_component.Reaching.{has, shares, with_row, passed, IsRow, Reached, IsReach, IsMore}
 use Rattle.jh_containers.specs.connected_component.Reaching as r
 
 abbrev pub Within : List ℕ → List ℕ → Type 0
@@ -18,6 +18,9 @@ in-front p q h = λ i. h i || q
 behind : (p q : Bool) → q ≡ true → (p || q) ≡ true
 behind true q h = refl
 behind false q h = h
+
+some-same : {X : Type 0} (x y : X) → Some x ≡ Some y → x ≡ y
+some-same x y e = cc
 
 has-itself : (n : ℕ) → nat_eq n n ≡ true
 has-itself n = eq-eqb n n refl
@@ -208,3 +211,30 @@ module _ (all : List (List ℕ)) (start : List ℕ) where
   pub goes-on : (known more : List ℕ) → Sound known → Within start known → more ≡ passed all known → Sound more × Within start more
   goes-on known more sound within e =
       (subst Sound (sym e) (passed-sound known sound), subst (λ (xs : List ℕ). Within start xs) (sym e) (λ n h. passed-keeps all known n (within n h)))
+
+-- ---- more numbers that are reached
+
+pub row-at : (rows : List (List ℕ)) (i : ℕ) (row : List ℕ) → slice_get rows i ≡ Some row → IsRow row rows
+row-at [] zero row e = cc
+row-at [] (suc i) row e = cc
+row-at (x ∷ rows) zero row e = inl (some-same x row e)
+row-at (x ∷ rows) (suc i) row e = inr (row-at rows i row e)
+
+module _ (rows : List (List ℕ)) where
+  pub more-none : (known : List ℕ) → IsMore rows known known
+  more-none known = record { keeps = λ n h. h; sound = λ n h. r.given n h }
+
+  reached-more : (start mid : List ℕ) → ((n : ℕ) → has mid n ≡ true → Reached rows start n) → (n : ℕ) → Reached rows mid n → Reached rows start n
+  reached-more start mid sound _ (r.given n h) = sound n h
+  reached-more start mid sound _ (r.along m n row is h k before) = r.along m n row is h k (reached-more start mid sound m before)
+
+  pub more-then : (first mid last : List ℕ) → IsMore rows first mid → IsMore rows mid last → IsMore rows first last
+  more-then first mid last a b = record { keeps = λ n h. b.keeps n (a.keeps n h); sound = λ n h. reached-more first mid a.sound n (b.sound n h) }
+
+  pub more-row : (row known new : List ℕ) → IsRow row rows → new ≡ (if shares row known then with_row known row else known) → IsMore rows known new
+  more-row row known new is e =
+      subst (λ (xs : List ℕ). IsMore rows known xs) (sym e)
+      (record { keeps = step-keeps (shares row known) row known; sound = step-sound rows known (shares row known) row known is refl (λ n h. r.given n h) })
+
+  pub more-sound : (start known new : List ℕ) → Sound rows start known → IsMore rows known new → Sound rows start new
+  more-sound start known new sound more n h = reached-more start known sound n (more.sound n h)

@@ -33,3 +33,8 @@ pub data Reached (rows : List (List ℕ)) (start : List ℕ) : ℕ → Type 0 wh
 pub record IsReach (rows : List (List ℕ)) (start known : List ℕ) : Type 0 where
   pub sound : (n : ℕ) → has known n ≡ true → Reached rows start n
   pub complete : (n : ℕ) → Reached rows start n → has known n ≡ true
+
+-- numbers with more that are reached from them
+pub record IsMore (rows : List (List ℕ)) (old new : List ℕ) : Type 0 where
+  pub keeps : (n : ℕ) → has old n ≡ true → has new n ≡ true
+  pub sound : (n : ℕ) → has new n ≡ true → Reached rows old n

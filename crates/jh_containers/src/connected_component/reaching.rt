@@ -1,6 +1,7 @@
-ghost use Rattle.std.specs.Prelude.{◌≡◌, List, [], if◌then◌else◌, IfOk, OnOk};
+ghost use Rattle.std.specs.Prelude.{◌≡◌, ℕ, true, List, [], if◌then◌else◌, IfOk, OnOk};
 ghost use Rattle.jh_containers.specs.connected_component.Reaching as spec;
 
+use crate::connected_component::index::{Index, index_of};
 use indexmap::IndexSet;
 use jh_name::{NoMemory, Row};
 use std::alloc::Global;
@@ -55,13 +56,89 @@ fn pass(known: &mut Known, rows: &[Row<usize>]) -> Result<(), NoMemory>
     Ok(())
 }
 
-/// The numbers that are reached from some along rows: those of a row are reached where one of them is. Rows are gone over
-/// until nothing is added.
-pub fn reach(alloc: Global, start: &[usize], rows: &[Row<usize>]) -> Result<Known, NoMemory>
-    ensures { IfOk result (λ made. spec.IsReach rows.now start.now made.numbers.keys) }
+/// Adds the numbers of the row at a place, where it has one of those that are known.
+fn take_at(known: &mut Known, rows: &[Row<usize>], place: usize) -> Result<(), NoMemory>
+    ensures { OnOk result (spec.IsMore rows.now known.old.numbers.keys known.new.numbers.keys) }
+{
+    if place < rows.len() {
+        take_in(known, rows[place].items())
+    } else {
+        Ok(())
+    }
+}
+
+/// Adds the numbers of the row at a place, where it wasn't taken in before.
+fn take_once(
+    known: &mut Known,
+    taken: &mut Known,
+    rows: &[Row<usize>],
+    place: usize,
+) -> Result<(), NoMemory>
+    ensures { OnOk result (spec.IsMore rows.now known.old.numbers.keys known.new.numbers.keys) }
+{
+    let is_new = taken.numbers.insert(place)?;
+    if is_new {
+        take_at(known, rows, place)
+    } else {
+        Ok(())
+    }
+}
+
+/// Adds the numbers of the rows at some places, of those that weren't taken in before.
+fn take_new(
+    known: &mut Known,
+    taken: &mut Known,
+    rows: &[Row<usize>],
+    places: &[usize],
+) -> Result<(), NoMemory>
+    ensures { OnOk result (spec.IsMore rows.now known.old.numbers.keys known.new.numbers.keys) }
+{
+    for place in places {
+        take_once(known, taken, rows, *place)?;
+    }
+    Ok(())
+}
+
+/// Adds what is reached from each of the numbers that are known, one after another, by the rows that an index has for it.
+fn follow(
+    alloc: Global,
+    known: &mut Known,
+    rows: &[Row<usize>],
+    index: &Index,
+) -> Result<(), NoMemory>
+    ensures { OnOk result (spec.IsMore rows.now known.old.numbers.keys known.new.numbers.keys) }
+{
+    let mut taken = none(alloc);
+    let mut at = 0;
+    for _turn in 0..u64::MAX {
+        if at >= known.numbers.len() {
+            return Ok(());
+        }
+        let number = known.numbers[at];
+        take_new(known, &mut taken, rows, index.rows_with(number))?;
+        at += 1;
+    }
+    Ok(())
+}
+
+/// The numbers that are given, with what is reached from them by an index of the rows.
+fn begin(alloc: Global, start: &[usize], rows: &[Row<usize>]) -> Result<Known, NoMemory>
+    ensures sound { IfOk result (λ made. (n : ℕ) → spec.has made.numbers.keys n ≡ true → spec.Reached rows.now start.now n) }
+    ensures start { IfOk result (λ made. (n : ℕ) → spec.has start.now n ≡ true → spec.has made.numbers.keys n ≡ true) }
 {
     let mut known = none(alloc);
     add_all(&mut known, start)?;
+    let index = index_of(alloc, rows)?;
+    follow(alloc, &mut known, rows, &index)?;
+    Ok(known)
+}
+
+/// The numbers that are reached from some along rows: those of a row are reached where one of them is. They are followed by an
+/// index of the rows; then the rows are gone over until nothing is added, so nothing hangs on what the index has.
+pub fn reach(alloc: Global, start: &[usize], rows: &[Row<usize>]) -> Result<Known, NoMemory>
+    ensures { IfOk result (λ made. spec.IsReach rows.now start.now made.numbers.keys) }
+{
+    let mut known = begin(alloc, start, rows)?;
     for _turn in 0..u64::MAX {
         let before = known.numbers.len();
         pass(&mut known, rows)?;

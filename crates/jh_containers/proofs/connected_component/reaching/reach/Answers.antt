@@ -1,11 +1,9 @@
 use Rattle.std.proofs.Common.{◌≡◌, length, arith}
-use Rattle.jh_containers.proofs.connected_component.Passes.{begins, goes-on, pass-ends}
+use Rattle.jh_containers.proofs.connected_component.Passes.{goes-on, pass-ends}
 use Rattle.jh_containers.proofs.connected_component.reaching.reach.Goals as goal
 
 pub loop-turn-init : goal.loop-turn-init
-loop-turn-init c =
-    let b = begins c.args.rows.now c.args.start.now c.none-known.result.numbers.keys c.add_all.new.known.numbers.keys c.none-known.ensures c.in_ok-add_all.ensures in
-    record { sound = b.0; start = b.1 }
+loop-turn-init c = record { sound = c.in_ok-known.ensures.sound; start = c.in_ok-known.ensures.start }
 
 pub loop-turn-preserved : goal.loop-turn-preserved
 loop-turn-preserved c =
